@@ -1,0 +1,1 @@
+// No code: laws on tests, lists and stores that the crates above cite (proofs/).

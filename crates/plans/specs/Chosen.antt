@@ -1,0 +1,129 @@
+-- Document 01, "Expected arrival in ticks": a row's worth, and which rows are chosen, from the last row to the first.
+use Prim.Native.Nat.{ℕ, suc}
+use mathlib.Core.Bool.{Bool, true, cond, not, _&&_, _||_}
+use mathlib.Core.List.{List, [], _∷_}
+use mathlib.Core.Option.{Option, none, some}
+use lib.Dec.{eqb, ltb}
+use Rattle.timetable.specs.Timetable.{Timetable, sharesOf}
+use Rattle.timetable.specs.declared.Row.{Row}
+use Rattle.plans.specs.Rides.{Ride, latest}
+use Rattle.plans.specs.Journeys.{within}
+use Rattle.plans.specs.Worth.{Valued, firstOpen, arrivalWorth, changeWorth}
+
+-- what getting off is worth, given the chosen rides behind; none where it is not open
+abbrev pub GettingOff : Type 0
+GettingOff = Ride → List Valued → Option ℕ
+
+unfoldable pub whenSafe : Option Valued → ℕ → Option ℕ
+whenSafe none worth = none
+whenSafe (some v) worth = some worth
+
+-- at the target only if a + M is within the bound; elsewhere only if a chosen row departs at or after a + M
+unfoldable pub offInTicks : (target bound : ℕ) → GettingOff
+offInTicks target bound r behind =
+    cond (eqb (r .to) target) (cond (within bound (latest r)) (some (arrivalWorth r)) none)
+    (whenSafe (firstOpen behind (r .to) (latest r)) (changeWorth r behind))
+
+unfoldable pub worthOf : Option Valued → Option ℕ
+worthOf none = none
+worthOf (some v) = some (v .worth)
+
+-- the same recursion for the earliest safe arrival: a + M at the target, elsewhere that of the first ride at or after a + M
+unfoldable pub offInMinutes : (target : ℕ) → GettingOff
+offInMinutes target r behind =
+    cond (eqb (r .to) target) (some (latest r)) (worthOf (firstOpen behind (r .to) (latest r)))
+
+-- the ride of one row, and a later ride of the trip boarded at this row already
+abbrev pub rowRide : List (List ℕ) → ℕ → Row → Ride
+rowRide tables i r =
+    record {
+      board = i;
+      leave = i;
+      from = r .board;
+      departs = r .departure;
+      to = r .land;
+      arrives = r .arrival;
+      shares = sharesOf tables (r .class);
+    }
+
+abbrev pub boardedAt : ℕ → Row → Ride → Ride
+boardedAt i r later =
+    record {
+      board = i;
+      leave = later .leave;
+      from = r .board;
+      departs = r .departure;
+      to = later .to;
+      arrives = later .arrives;
+      shares = later .shares;
+    }
+
+-- a row with its trip and its best ride, none if it has no worth
+pub record Weighed : Type 0 where
+  pub trip : ℕ
+  pub best : Option Valued
+
+-- the trip's next row
+unfoldable pub nextOf : List Weighed → ℕ → Option Valued
+nextOf [] trip = none
+nextOf (w ∷ ws) trip = let further = nextOf ws trip in cond (eqb (w .trip) trip) (w .best) further
+
+unfoldable pub getOff : Ride → Option ℕ → Option Valued
+getOff r none = none
+getOff r (some worth) = some (record { ride = r; worth = worth })
+
+unfoldable pub stayOn : ℕ → Row → Option Valued → Option Valued
+stayOn i r none = none
+stayOn i r (some v) = some (record { ride = boardedAt i r (v .ride); worth = v .worth })
+
+-- A row's worth is the least over getting off and staying on; the ride stays aboard while the next row's worth equals the boarded row's
+unfoldable pub least : Option Valued → Option Valued → Option Valued
+least none on = on
+least (some off) none = some off
+least (some off) (some on) = cond (ltb (off .worth) (on .worth)) (some off) (some on)
+
+unfoldable pub firstAt : List Valued → ℕ → Option Valued
+firstAt [] stop = none
+firstAt (v ∷ vs) stop = let later = firstAt vs stop in cond (eqb (v .ride .from) stop) (some v) later
+
+-- a worth below that of the stop's first chosen row behind, or the stop has none yet
+unfoldable pub leads : ℕ → Option Valued → Bool
+leads worth none = true
+leads worth (some first) = ltb worth (first .worth)
+
+-- in the same minute it replaces that row
+unfoldable pub others : Ride → List Valued → List Valued
+others r [] = []
+others r (v ∷ vs) =
+    let rest = others r vs in
+    cond (eqb (v .ride .from) (r .from) && eqb (v .ride .departs) (r .departs)) rest (v ∷ rest)
+
+-- No row boarding at the target is chosen
+unfoldable pub choose : ℕ → Option Valued → List Valued → List Valued
+choose target none chosen = chosen
+choose target (some v) chosen =
+    cond (not (eqb (v .ride .from) target) && leads (v .worth) (firstAt chosen (v .ride .from)))
+    (v ∷ others (v .ride) chosen) chosen
+
+-- the rows from row i on: each with its best ride, and the rides of the chosen ones
+pub record Scan : Type 0 where
+  pub weighed : List Weighed
+  pub chosen : List Valued
+
+unfoldable pub bestOf : GettingOff → List (List ℕ) → ℕ → Row → Scan → Option Valued
+bestOf off tables i r later =
+    least (getOff (rowRide tables i r) (off (rowRide tables i r) (later .chosen)))
+    (stayOn i r (nextOf (later .weighed) (r .trip)))
+
+unfoldable pub scan : GettingOff → ℕ → List (List ℕ) → ℕ → List Row → Scan
+scan off target tables i [] = record { weighed = []; chosen = [] }
+scan off target tables i (r ∷ rows) =
+    let later = scan off target tables (suc i) rows in
+    let best = bestOf off tables i r later in
+    record {
+      weighed = record { trip = r .trip; best = best } ∷ later .weighed;
+      chosen = choose target best (later .chosen);
+    }
+
+unfoldable pub scanned : GettingOff → ℕ → Timetable → Scan
+scanned off target t = scan off target (t .tables) 0 (t .rows)

@@ -1,0 +1,9 @@
+-- What a ride, a safe journey, a safe plan, a worth, a chosen row, the plan and a passenger's walk are.
+pub mod Rides
+pub mod Journeys
+pub mod Worth
+pub mod Chosen
+pub mod Plan
+pub mod SafePlan
+pub mod Walk
+pub mod Words

@@ -1,0 +1,81 @@
+-- Document 01, "Expected arrival in ticks": the plan, its ride count, expected ticks, latest minute and bound.
+use Prim.Native.Nat.{ℕ, max}
+use mathlib.Core.Bool.{Bool, true, false, cond, _&&_, _||_}
+use mathlib.Core.List.{List, [], _∷_, _++_}
+use mathlib.Core.Option.{Option, none, some}
+use lib.Dec.{leb, eqb}
+use Rattle.timetable.specs.Timetable.{Timetable}
+use Rattle.plans.specs.declared.Query.{Query}
+use Rattle.plans.specs.Rides.{Ride, latest, boards}
+use Rattle.plans.specs.Journeys.{boundOf}
+use Rattle.plans.specs.Worth.{Valued, firstOpen, worthOr}
+use Rattle.plans.specs.Chosen.{scanned, offInTicks, offInMinutes, worthOf}
+
+-- the earliest safe arrival E, none if there is no safe journey
+unfoldable pub earliest : Timetable → Query → Option ℕ
+earliest t q = worthOf (firstOpen (scanned (offInMinutes (q .target)) (q .target) t .chosen) (q .source) (q .minute))
+
+-- the chosen rows, each with its ride and worth, by boarding row rising
+unfoldable pub chosenFor : Timetable → (target bound : ℕ) → List Valued
+chosenFor t target bound = scanned (offInTicks target bound) target t .chosen
+
+-- the rides that one who stands at `stop` can catch from `minute` on, up to and including the one that departs at `until`
+pub record Window : Type 0 where
+  pub stop : ℕ
+  pub minute : ℕ
+  pub until : ℕ
+
+unfoldable pub inWindow : Window → Ride → Bool
+inWindow w r = boards r (w .stop) (w .minute) && leb (r .departs) (w .until)
+
+unfoldable pub wanted : List Window → Ride → Bool
+wanted [] r = false
+wanted (w ∷ ws) r = inWindow w r || wanted ws r
+
+unfoldable pub upTo : ℕ → ℕ → Option Valued → List Window
+upTo stop minute none = []
+upTo stop minute (some v) = record { stop = stop; minute = minute; until = v .ride .departs } ∷ []
+
+-- for each ride in it not ending at the target, from a up to and including the first chosen row at or after a + M
+unfoldable pub windowsOf : ℕ → Ride → List Valued → List Window
+windowsOf target r behind =
+    cond (eqb (r .to) target) [] (upTo (r .to) (r .arrives) (firstOpen behind (r .to) (latest r)))
+
+unfoldable pub extract : ℕ → List Window → List Valued → List Valued
+extract target ws [] = []
+extract target ws (v ∷ vs) =
+    let taken = v ∷ extract target (windowsOf target (v .ride) vs ++ ws) vs in
+    let passed = extract target ws vs in
+    cond (wanted ws (v .ride)) taken passed
+
+-- the first chosen row at the source at or after T, then what it leads to. Nothing else
+unfoldable pub ridesFrom : Query → List Valued → List Valued
+ridesFrom q chosen =
+    extract (q .target) (upTo (q .source) (q .minute) (firstOpen chosen (q .source) (q .minute))) chosen
+
+-- the largest a + M of its rides
+unfoldable pub latestOf : List Valued → ℕ
+latestOf [] = 0
+latestOf (v ∷ vs) = max (latest (v .ride)) (latestOf vs)
+
+pub record Plan : Type 0 where
+  pub rides : List Valued
+  pub expected : ℕ
+  pub last : ℕ
+  pub bound : ℕ
+
+unfoldable pub planWithin : Timetable → Query → ℕ → Option Valued → Option Plan
+planWithin t q bound none = none
+planWithin t q bound (some first) =
+    let rides = ridesFrom q (chosenFor t (q .target) bound) in
+    some (record { rides = rides; expected = first .worth; last = latestOf rides; bound = bound })
+
+unfoldable pub planBefore : Timetable → Query → Option ℕ → Option Plan
+planBefore t q none = none
+planBefore t q (some e) =
+    let bound = boundOf q e in
+    planWithin t q bound (firstOpen (chosenFor t (q .target) bound) (q .source) (q .minute))
+
+-- the minimum expected arrival plan, none if there is no safe journey
+unfoldable pub planned : Timetable → Query → Option Plan
+planned t q = planBefore t q (earliest t q)

@@ -1,0 +1,5 @@
+-- What a timetable is, and the rules that its rows and tables keep; no byte is named here.
+pub mod Timetable
+pub mod Verdict
+pub mod Rows
+pub mod Classes
