@@ -19,6 +19,17 @@ pub struct Format {
     pub delay: usize,
 }
 
+// Version 1 of the file.
+pub const VERSION_ONE: Format = Format {
+    version: 1,
+    width: 12,
+    trailer: 16,
+    shortest: 20,
+    longest: 27920,
+    latest: 10079,
+    delay: 120,
+};
+
 // The trailer's numbers.
 pub struct Head {
     pub version: usize,
