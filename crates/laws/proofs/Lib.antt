@@ -1,2 +1,5 @@
 -- Laws that belong to no one crate: one file for each kind of thing that they are about.
 pub mod Tests
+pub mod Options
+pub mod Downward
+pub mod Members

@@ -1,2 +1,7 @@
 -- The theorems of demands 2 and 3, and the laws that lead to them.
 pub mod Open
+pub mod AtMost
+pub mod FromRow
+pub mod Choice
+pub mod Order
+pub mod BestRides
