@@ -38,7 +38,7 @@ choice target (some v) chosen =
     lead = leads (v .worth) (firstAt chosen (v .ride .from))
 
 -- the test by which one row replaces another
-abbrev same-minute : Ride → Ride → Bool
+abbrev pub same-minute : Ride → Ride → Bool
 same-minute v r = eqb (v .from) (r .from) && eqb (v .departs) (r .departs)
 
 pub others-member : (r : Ride) (vs : List Valued) {x : Valued} → List·Memᴰ x (others r vs) → List·Memᴰ x vs

@@ -5,3 +5,5 @@ pub mod FromRow
 pub mod Choice
 pub mod Order
 pub mod BestRides
+pub mod FirstLeast
+pub mod Staying
