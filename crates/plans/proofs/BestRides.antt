@@ -143,13 +143,21 @@ module _ (off : GettingOff) (target : ℕ) (t : Timetable) where
           gets-off i h (λ u m. let p = chosen-picked (suc i) h u m in all (u .ride .board) (p .here) (p .inside) u (p .best)) w e
       at-row i h all v (stays {u = u} {j = j} a b s e) = stays-on i j a b s u e (all j a b u e)
 
+  -- a ride of a later row of the trip, boarded at row i already, is a ride
+  pub boarded-earlier :
+      (i j : ℕ) → i < j → rowOf (t .rows) j .trip ≡ rowOf (t .rows) i .trip → (r : Ride) → r .board ≡ j → IsRide t r → IsRide t (boardedAt i (rowOf (t .rows) i) r)
+  boarded-earlier i j before same r at is =
+      record {
+        onward = (let z : i ≤ r .leave = omega (arith, is .onward) in z);
+        inside = is .inside;
+        one-trip = sym same ∙ ap (λ k. rowOf (t .rows) k .trip) (sym at) ∙ is .one-trip;
+        as-timed = ap (boardedAt i (rowOf (t .rows) i)) (is .as-timed);
+      }
+
+  pub row-is-ride : (i : ℕ) → i < length (t .rows) → IsRide t (rowRide (t .tables) i (rowOf (t .rows) i))
+  row-is-ride i h = record { onward = le-refl i; inside = h; one-trip = refl; as-timed = refl }
+
   pub best-is-ride : (i : ℕ) → i < length (t .rows) → (v : Valued) → bestAt off target t i ≡ some v → IsRide t (v .ride)
   best-is-ride =
-      each-best (λ v. IsRide t (v .ride)) (λ i h _ w _. record { onward = le-refl i; inside = h; one-trip = refl; as-timed = refl })
-      (λ i j a b s u e r. let row = best-boards j b u e .row in
-          record {
-            onward = (let z : i ≤ u .ride .leave = omega (arith, r .onward) in z);
-            inside = r .inside;
-            one-trip = sym s ∙ ap (λ k. rowOf (t .rows) k .trip) (sym row) ∙ r .one-trip;
-            as-timed = ap (boardedAt i (rowOf (t .rows) i)) (r .as-timed);
-          })
+      each-best (λ v. IsRide t (v .ride)) (λ i h _ w _. row-is-ride i h)
+      (λ i j a b s u e r. boarded-earlier i j a s (u .ride) (best-boards j b u e .row) r)

@@ -7,3 +7,5 @@ pub mod Order
 pub mod BestRides
 pub mod FirstLeast
 pub mod Staying
+pub mod RideMinutes
+pub mod EarliestSafe

@@ -3,6 +3,7 @@ use Prim.Native.Nat.{ℕ, suc, _≤_, _<_}
 use native.Mathlib.Nat.{eq-or-lt-of-le}
 use native.Mathlib.Omega.{arith}
 use mathlib.Core.Bool.{Bool, true, false, cond}
+use mathlib.Core.List.{List}
 use mathlib.Core.Logic.{_⊎_, inl, inr}
 use mathlib.Core.Option.{Option, none, some}
 use mathlib.Core.Path.{_≡_, refl, sym, ap, subst, _∙_}
@@ -15,9 +16,9 @@ use Rattle.timetable.specs.Timetable.{Timetable, rowOf}
 use Rattle.timetable.specs.declared.Row.{Row}
 use Rattle.plans.specs.Rides.{Ride, IsRide}
 use Rattle.plans.specs.Worth.{Valued}
-use Rattle.plans.specs.Chosen.{GettingOff, getOff, stayOn, rowRide, least}
+use Rattle.plans.specs.Chosen.{GettingOff, getOff, stayOn, rowRide, boardedAt, least}
 use Rattle.plans.proofs.AtMost.{AtMost, at-most, is-at-most, least-left, least-right}
-use Rattle.plans.proofs.FromRow.{bestAt, nextFrom, offAt, next-row, best-row}
+use Rattle.plans.proofs.FromRow.{chosenFrom, bestAt, nextFrom, offAt, next-row, best-row}
 
 stay-at-most : (i : ℕ) (r : Row) {o : Option Valued} {w : ℕ} → AtMost o w → AtMost (stayOn i r o) w
 unfolding stayOn
@@ -26,6 +27,10 @@ stay-at-most i r (at-most h) = at-most h
 off-at-most : (r : Ride) (o : Option ℕ) {w : ℕ} → o ≡ some w → AtMost (getOff r o) w
 unfolding getOff
 off-at-most r o {w} e = subst (λ (x : Option ℕ). AtMost (getOff r x) w) (sym e) (at-most (let z : w ≤ w = omega arith in z))
+
+-- getting off asks where and when a ride lands and for its delays, and not where it was boarded
+abbrev pub AsLanded : GettingOff → Type 0
+AsLanded off = (i : ℕ) (row : Row) (r : Ride) (behind : List Valued) → off (boardedAt i row r) behind ≡ off r behind
 
 module _ (off : GettingOff) (target : ℕ) (t : Timetable) where
   -- getting off where the row lands
@@ -69,6 +74,13 @@ module _ (off : GettingOff) (target : ℕ) (t : Timetable) where
           row-on i w (subst (λ k. AtMost (nextFrom off target t (suc i) k) w) (sym same)
               (next-at-most j w inside best (suc i) (let z : suc i ≤ length (t .rows) = omega arith in z) b))
 
+  -- getting off after a ride is getting off where its last row lands
+  pub ride-off : AsLanded off → (r : Ride) → IsRide t r → offAt off target t (r .leave) ≡ off r (chosenFrom off target t (suc (r .leave)))
+  unfolding offAt
+  ride-off landed r is =
+      sym (ap (λ (x : Ride). off x (chosenFrom off target t (suc (r .leave)))) (is .as-timed)
+          ∙ landed (r .board) (rowOf (t .rows) (r .board)) (rowRide (t .tables) (r .leave) (rowOf (t .rows) (r .leave))) (chosenFrom off target t (suc (r .leave))))
+
   -- what getting off after a ride is worth bounds what its boarding row is worth
-  pub ride-at-most : (r : Ride) → IsRide t r → (w : ℕ) → offAt off target t (r .leave) ≡ some w → AtMost (bestAt off target t (r .board)) w
-  ride-at-most r is w e = stay-on (r .board) (r .leave) w (is .onward) (is .inside) (is .one-trip) (row-off (r .leave) w e)
+  pub ride-at-most : (r : Ride) → IsRide t r → AsLanded off → (w : ℕ) → off r (chosenFrom off target t (suc (r .leave))) ≡ some w → AtMost (bestAt off target t (r .board)) w
+  ride-at-most r is landed w e = stay-on (r .board) (r .leave) w (is .onward) (is .inside) (is .one-trip) (row-off (r .leave) w (ride-off landed r is ∙ e))
