@@ -9,3 +9,6 @@ pub mod FirstLeast
 pub mod Staying
 pub mod RideMinutes
 pub mod EarliestSafe
+pub mod InTicks
+pub mod Made
+pub mod PlanExists
