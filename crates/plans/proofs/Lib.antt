@@ -12,3 +12,7 @@ pub mod EarliestSafe
 pub mod InTicks
 pub mod Made
 pub mod PlanExists
+pub mod Weighing
+pub mod OwnWorth
+pub mod ChosenWorth
+pub mod Extracted
