@@ -16,3 +16,5 @@ pub mod Weighing
 pub mod OwnWorth
 pub mod ChosenWorth
 pub mod Extracted
+pub mod PlanIsSafe
+pub mod Optimal
