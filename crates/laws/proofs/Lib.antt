@@ -3,3 +3,4 @@ pub mod Tests
 pub mod Options
 pub mod Downward
 pub mod Members
+pub mod Alternatives

@@ -12,6 +12,7 @@ use borrow.Author.Tests.{eqb-true, eqb-false, ne-eqb, le-leb}
 use Rattle.laws.proofs.Options.{absent, same-thing}
 use Rattle.laws.proofs.Tests.{ifb, both, cond-true, cond-false}
 use Rattle.laws.proofs.Members.{head-or-later}
+use Rattle.laws.proofs.Alternatives.{or-left, or-right, or-map}
 use Rattle.plans.specs.Rides.{Ride, latest, boards}
 use Rattle.plans.specs.Worth.{Valued, firstOpen, landWorth, arrivalWorth}
 use Rattle.plans.specs.Plan.{Window, inWindow, wanted, upTo, windowsOf, extract}
@@ -26,19 +27,11 @@ wanted-more : (ws us : List Window) (r : Ride) → wanted us r ≡ true → want
 unfolding wanted
 wanted-more [] us r e = e
 wanted-more (w ∷ ws) us r e = or-right (inWindow w r) (wanted (ws ++ us) r) (wanted-more ws us r e)
-  where
-    or-right : (x y : Bool) → y ≡ true → (x || y) ≡ true
-    or-right true y p = refl
-    or-right false y p = p
 
 wanted-first : (ws us : List Window) (r : Ride) → wanted ws r ≡ true → wanted (ws ++ us) r ≡ true
 unfolding wanted
 wanted-first [] us r e = absurd (false≢true e)
 wanted-first (w ∷ ws) us r e = or-map (inWindow w r) (wanted ws r) (wanted (ws ++ us) r) (λ k. wanted-first ws us r k) e
-  where
-    or-map : (x y z : Bool) → (y ≡ true → z ≡ true) → (x || y) ≡ true → (x || z) ≡ true
-    or-map true y z f p = refl
-    or-map false y z f p = f p
 
 -- up to and including the one that departs last
 pub up-to-wants :
@@ -47,7 +40,7 @@ pub up-to-wants :
 unfolding upTo wanted inWindow
 up-to-wants stop minute last e r b h =
     subst (λ (o : Option Valued). wanted (upTo stop minute o) r ≡ true) (sym e)
-    (ap (λ x. x || false) (both b (le-leb (r .departs) (last .ride .departs) h)))
+    (or-left _ false (both b (le-leb (r .departs) (last .ride .departs) h)))
 
 module _ (target : ℕ) where
   -- the head is taken, or it is passed over

@@ -10,6 +10,7 @@ use lib.Dec.{eqb, leb}
 use borrow.Author.Tests.{eqb-true, eqb-false, eq-eqb, ne-eqb, leb-true, le-leb}
 use Rattle.laws.proofs.Options.{absent, same-thing, present-or-absent}
 use Rattle.laws.proofs.Tests.{ifb, either, cond-true, cond-false}
+use Rattle.laws.proofs.Alternatives.{or-left, or-right}
 use Rattle.plans.specs.Rides.{Ride, latest}
 use Rattle.plans.specs.Journeys.{within}
 use Rattle.plans.specs.Worth.{Valued, firstOpen, arrivalWorth, changeWorth, landWorth}
@@ -20,11 +21,8 @@ use Rattle.plans.proofs.Staying.{AsLanded}
 pub within-earlier : (bound a b : ℕ) → a ≤ b → within bound b ≡ true → within bound a ≡ true
 within-earlier bound a b h e = step (either (eqb bound 0) (leb b bound) e)
   where
-    or-right : (x y : Bool) → y ≡ true → (x || y) ≡ true
-    or-right true y q = refl
-    or-right false y q = q
     step : (eqb bound 0 ≡ true) ⊎ (leb b bound ≡ true) → within bound a ≡ true
-    step (inl p) = ap (λ x. x || leb a bound) p
+    step (inl p) = or-left (eqb bound 0) (leb a bound) p
     step (inr p) = or-right (eqb bound 0) (leb a bound) (le-leb a bound (let z : b ≤ bound = leb-true b bound p in omega arith))
 
 module _ (target bound : ℕ) where

@@ -18,3 +18,6 @@ pub mod ChosenWorth
 pub mod Extracted
 pub mod PlanIsSafe
 pub mod Optimal
+pub mod PlanSet
+pub mod ChosenWords
+pub mod Sorting

@@ -11,6 +11,7 @@ use lib.Dec.{T, eqb, leb}
 use borrow.Author.Tests.{eqb-true, eqb-false, eq-eqb, ne-eqb, leb-true, le-leb}
 use Rattle.laws.proofs.Options.{absent, same-thing, present-or-absent}
 use Rattle.laws.proofs.Tests.{ifb, either, cond-true, cond-false, T-true}
+use Rattle.laws.proofs.Alternatives.{or-right}
 use Rattle.timetable.specs.Timetable.{Timetable}
 use Rattle.plans.specs.Sound.{Timely}
 use Rattle.plans.specs.declared.Query.{Query}
@@ -44,10 +45,6 @@ pub within-bound : (q : Query) (e : ℕ) → q .minute ≤ e → CodeStands (q .
 within-bound q e after (inl none') =
     ap (λ b. eqb (cond b 0 (q .minute + q .code * (e - q .minute) / 4)) 0 || leb e (cond b 0 (q .minute + q .code * (e - q .minute) / 4))) (eq-eqb (q .code) 0 none')
 within-bound q e after (inr quarters) = or-right (eqb (boundOf q e) 0) (leb e (boundOf q e)) (le-leb e (boundOf q e) (bound-after q e after quarters))
-  where
-    or-right : (x y : Bool) → y ≡ true → (x || y) ≡ true
-    or-right true y p = refl
-    or-right false y p = p
 
 module _ (t : Timetable) (timely : Timely t) where
   -- the boarding row of a ride has a worth, if what is boarded after it has one
