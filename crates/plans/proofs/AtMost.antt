@@ -1,14 +1,13 @@
 -- There is a ride, and its worth is at most w. Assumes nothing.
 use Prim.Native.Nat.{ℕ, _≤_, _<_}
-use native.Mathlib.Nat.{le-refl}
 use native.Mathlib.Omega.{arith}
-use mathlib.Core.Bool.{Bool, true, false, cond}
+use mathlib.Core.Bool.{cond}
 use mathlib.Core.Logic.{_⊎_, inl, inr}
 use mathlib.Core.Option.{Option, none, some}
 use mathlib.Core.Path.{_≡_, refl, sym, subst, _∙_}
 use lib.Dec.{ltb}
 use borrow.Author.Tests.{ltb-true, ltb-false}
-use Rattle.laws.proofs.Options.{absent, same-thing}
+use Rattle.laws.proofs.Options.{same-thing}
 use Rattle.laws.proofs.Tests.{ifb}
 use Rattle.plans.specs.Worth.{Valued}
 use Rattle.plans.specs.Chosen.{least}

@@ -2,8 +2,8 @@
 use Prim.Native.Nat.{ℕ, suc, _≤_, _<_}
 use native.Mathlib.Nat.{le-refl}
 use native.Mathlib.Omega.{arith}
-use mathlib.Core.Bool.{Bool, true, false, cond}
-use mathlib.Core.List.{List, [], _∷_, List·Memᴰ, List·Memᴰ·not-nil}
+use mathlib.Core.Bool.{true, cond}
+use mathlib.Core.List.{List, List·Memᴰ, List·Memᴰ·not-nil}
 use mathlib.Core.Logic.{_⊎_, inl, inr, _≢_}
 use mathlib.Core.Option.{Option, none, some}
 use mathlib.Core.Path.{_≡_, refl, sym, ap, subst, _∙_}
@@ -15,9 +15,9 @@ use Rattle.laws.proofs.Tests.{ifb}
 use Rattle.laws.proofs.Members.{head-or-later}
 use Rattle.laws.proofs.Downward.{downward, from-greater}
 use Rattle.timetable.specs.Timetable.{Timetable, rowOf}
-use Rattle.plans.specs.Rides.{Ride, IsRide, rideOf}
+use Rattle.plans.specs.Rides.{Ride, IsRide}
 use Rattle.plans.specs.Worth.{Valued}
-use Rattle.plans.specs.Chosen.{GettingOff, leads, firstAt, others, choose, getOff, stayOn, rowRide, boardedAt}
+use Rattle.plans.specs.Chosen.{GettingOff, leads, firstAt, getOff, stayOn, rowRide, boardedAt}
 use Rattle.plans.proofs.AtMost.{least-either}
 use Rattle.plans.proofs.FromRow.{chosenFrom, bestAt, nextFrom, offAt, chosen-row, chosen-end, next-row, next-end, best-row}
 use Rattle.plans.proofs.Choice.{Choice, worthless, at-target, behind, added, choice, others-member}
@@ -37,13 +37,14 @@ module _ (off : GettingOff) (target : ℕ) (t : Timetable) where
   next-is trip =
       downward Next (length (t .rows)) (λ u e. absent (sym (next-end off target t trip) ∙ e))
       (λ i h further u e.
-          ifb (λ b. eqb (rowOf (t .rows) i .trip) trip ≡ b → cond b (bestAt off target t i) (nextFrom off target t (suc i) trip) ≡ some u → Found i u)
-          (eqb (rowOf (t .rows) i .trip) trip) (λ q _ k. (i, (let z : i ≤ i = omega arith in z), h, eqb-true (rowOf (t .rows) i .trip) trip q, k))
-          (λ _ _ k. let f : Found (suc i) u = further u k in (f .0, (let z : i ≤ f .0 = omega (arith, f .1) in z), f .2, f .3, f .4)) refl
-          (sym (next-row off target t i trip h) ∙ e))
+      ifb (λ b. eqb (rowOf (t .rows) i .trip) trip ≡ b → cond b (bestAt off target t i) (nextFrom off target t (suc i) trip) ≡ some u → Found i u)
+      (eqb (rowOf (t .rows) i .trip) trip) (λ q _ k. (i, (let z : i ≤ i = omega arith in z), h, eqb-true (rowOf (t .rows) i .trip) trip q, k))
+      (λ _ _ k. let f : Found (suc i) u = further u k in (f .0, (let z : i ≤ f .0 = omega (arith, f .1) in z), f .2, f .3, f .4)) refl
+      (sym (next-row off target t i trip h) ∙ e))
     where
       Found : ℕ → Valued → Type 0
       Found i u = (j : ℕ) × (i ≤ j) × (j < length (t .rows)) × (rowOf (t .rows) j .trip ≡ trip) × (bestAt off target t j ≡ some u)
+
       Next : ℕ → Type 0
       Next i = (u : Valued) → nextFrom off target t i trip ≡ some u → Found i u
 
@@ -125,15 +126,15 @@ module _ (off : GettingOff) (target : ℕ) (t : Timetable) where
       downward (λ i. (v : Valued) → List·Memᴰ v (chosenFrom off target t i) → Picked i v) (length (t .rows))
       (λ v m. absurd (List·Memᴰ·not-nil (subst (λ (l : List Valued). List·Memᴰ v l) (chosen-end off target t) m)))
       (λ i h later v m. picked-by i h later _ _ refl (choice target (bestAt off target t i) (chosenFrom off target t (suc i))) v
-          (subst (λ (l : List Valued). List·Memᴰ v l) (chosen-row off target t i h) m))
+      (subst (λ (l : List Valued). List·Memᴰ v l) (chosen-row off target t i h) m))
 
   -- what holds of getting off, given that it holds of the chosen rides behind, and of staying on, holds of each best ride
   pub each-best :
       (P : Valued → Type 0)
       → ((i : ℕ) → i < length (t .rows) → ((u : Valued) → List·Memᴰ u (chosenFrom off target t (suc i)) → P u) → (w : ℕ) → offAt off target t i ≡ some w
-          → P (record { ride = rowRide (t .tables) i (rowOf (t .rows) i); worth = w }))
+      → P (record { ride = rowRide (t .tables) i (rowOf (t .rows) i); worth = w }))
       → ((i j : ℕ) → i < j → j < length (t .rows) → rowOf (t .rows) j .trip ≡ rowOf (t .rows) i .trip → (u : Valued) → bestAt off target t j ≡ some u → P u
-          → P (record { ride = boardedAt i (rowOf (t .rows) i) (u .ride); worth = u .worth }))
+      → P (record { ride = boardedAt i (rowOf (t .rows) i) (u .ride); worth = u .worth }))
       → (i : ℕ) → i < length (t .rows) → (v : Valued) → bestAt off target t i ≡ some v → P v
   each-best P gets-off stays-on =
       from-greater (λ i. (v : Valued) → bestAt off target t i ≡ some v → P v) (length (t .rows)) (λ i h all v e. at-row i h all v (best-source i h v e))

@@ -21,3 +21,5 @@ pub mod Optimal
 pub mod PlanSet
 pub mod ChosenWords
 pub mod Sorting
+pub mod LastMinute
+pub mod Demand2
