@@ -1,0 +1,2 @@
+-- The theorems about plans: one file for each idea.
+pub mod Cases
