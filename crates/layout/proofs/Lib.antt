@@ -7,3 +7,4 @@ pub mod Numbers
 pub mod Sizes
 pub mod Written
 pub mod Encode
+pub mod EncodeCheck
