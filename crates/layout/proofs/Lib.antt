@@ -8,3 +8,4 @@ pub mod Sizes
 pub mod Written
 pub mod Encode
 pub mod EncodeCheck
+pub mod Reencode

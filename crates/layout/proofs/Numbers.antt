@@ -54,13 +54,16 @@ two-off s at h =
     drop-cons s at 0 (omega arith)
     ∙ ap (λ (l : List ℕ). getD s at 0 ∷ l) (rw (add-one, add-two) (drop-cons s (suc at) 0 (omega arith)))
 
-pub u16-again : (s : List ℕ) (at : ℕ) → Bytes s → at + 1 < length s → u16Bytes (u16At s at) ++ drop (at + 2) s ≡ drop at s
+-- the bytes of the number at `at`, ahead of what stands from `next` on
+pub u16-again : (s : List ℕ) (at next : ℕ) {tail : List ℕ} → Bytes s → next ≡ at + 2 → next ≤ length s → tail ≡ drop next s
+    → u16Bytes (u16At s at) ++ tail ≡ drop at s
 unfolding u16At
-u16-again s at b h =
+u16-again s at next {tail} b e h behind =
     ap
-    (λ (l : List ℕ). l ++ drop (at + 2) s)
-    (u16-bytes (getD s at 0) (getD s (at + 1) 0) (b .byte at (omega arith)) (b .byte (at + 1) h))
-    ∙ sym (two-off s at h)
+    (λ (l : List ℕ). l ++ tail)
+    (u16-bytes (getD s at 0) (getD s (at + 1) 0) (b .byte at (omega arith)) (b .byte (at + 1) (omega arith)))
+    ∙ ap (λ (l : List ℕ). getD s at 0 ∷ getD s (at + 1) 0 ∷ l) (behind ∙ ap (λ (n : ℕ). drop n s) e)
+    ∙ sym (two-off s at (omega arith))
 
 pub u16-small : (s : List ℕ) (at : ℕ) → Bytes s → at + 1 < length s → u16At s at < 65536
 unfolding u16At
@@ -73,14 +76,12 @@ u32-bytes a b p q =
     let high : (a + 65536 * b) / 65536 ≡ b = add-mul-div-left a b (lit< tt) ∙ omega arith in
     ap (λ (x : ℕ). u16Bytes x ++ u16Bytes ((a + 65536 * b) / 65536)) low ∙ ap (λ (x : ℕ). u16Bytes a ++ u16Bytes x) high
 
-pub u32-again : (s : List ℕ) (at : ℕ) → Bytes s → at + 3 < length s → u32Bytes (u32At s at) ++ drop (at + 4) s ≡ drop at s
+pub u32-again : (s : List ℕ) (at next : ℕ) {tail : List ℕ} → Bytes s → next ≡ at + 4 → next ≤ length s → tail ≡ drop next s
+    → u32Bytes (u32At s at) ++ tail ≡ drop at s
 unfolding u32At
-u32-again s at b h =
+u32-again s at next {tail} b e h behind =
     ap
-    (λ (l : List ℕ). l ++ drop (at + 4) s)
+    (λ (l : List ℕ). l ++ tail)
     (u32-bytes (u16At s at) (u16At s (at + 2)) (u16-small s at b (omega arith)) (u16-small s (at + 2) b (omega arith)))
-    ∙ append-assoc (u16Bytes (u16At s at)) (u16Bytes (u16At s (at + 2))) (drop (at + 4) s)
-    ∙ ap
-      (λ (l : List ℕ). u16Bytes (u16At s at) ++ l)
-      (rw (← add-assoc at 2 2) (u16-again s (at + 2) b (omega arith)))
-    ∙ u16-again s at b (omega arith)
+    ∙ append-assoc (u16Bytes (u16At s at)) (u16Bytes (u16At s (at + 2))) tail
+    ∙ u16-again s at (at + 2) b refl (omega arith) (u16-again s (at + 2) next b (omega arith) h behind)
