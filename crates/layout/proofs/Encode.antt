@@ -14,11 +14,11 @@ use Rattle.layout.specs.Decode.{trailerAt, headAt, headOf, rowsFrom, tab
 use Rattle.layout.specs.Encode.{rowsBytes, tablesBytes, trailerBytes, encode}
 use Rattle.layout.specs.Writable.{Writable, tablesSize, fileSize, headFor}
 use Rattle.layout.proofs.Numbers.{u16-value, u32-value, u16-here, u16-from, u32-from}
-use Rattle.layout.proofs.Sizes.{rows-length, tables-length, length-encode}
+use Rattle.layout.proofs.Sizes.{rows-size, tables-size, length-encode}
 use Rattle.layout.proofs.Written.{rows-written, tables-written}
 
 -- heads are equal by their six numbers
-same-head : (g h : Head) → g .version ≡ h .version → g .stops ≡ h .stops → g .rows ≡ h .rows → g .classes ≡ h .classes
+pub same-head : (g h : Head) → g .version ≡ h .version → g .stops ≡ h .stops → g .rows ≡ h .rows → g .classes ≡ h .classes
     → g .rowstart ≡ h .rowstart → g .tablestart ≡ h .tablestart → g ≡ h
 same-head g h version stops rows classes rowstart tablestart =
     λ i. record {
@@ -38,7 +38,7 @@ head-here s at =
 -- no table offset of a file that can be written needs more than four bytes
 reach : (f : Format) (t : Timetable) → Writable f t → f .width * length (t .rows) < 4294967296
 reach f t w =
-    let twelve : f .width * length (t .rows) ≡ 12 * length (t .rows) = ap (λ (n : ℕ). n * length (t .rows)) (w .width) in
+    let twelve : f .width * length (t .rows) ≡ 12 * length (t .rows) = ap (λ (n : ℕ). n * length (t .rows)) (w .plain .width) in
     omega (arith, w .rows)
 
 trailer-read : (f : Format) (t : Timetable) → Writable f t → headAt (trailerBytes f t) 0 ≡ headFor f t
@@ -59,19 +59,19 @@ tables-here : (f : Format) (t : Timetable)
     → drop (12 * length (t .rows)) (encode f t) ≡ tablesBytes (t .tables) ++ trailerBytes f t
 unfolding encode
 tables-here f t =
-    ap (λ (n : ℕ). drop n (encode f t)) (sym (zero-add (length (rowsBytes (t .rows))) ∙ rows-length (t .rows)))
+    ap (λ (n : ℕ). drop n (encode f t)) (sym (zero-add (length (rowsBytes (t .rows))) ∙ rows-size (t .rows)))
     ∙ drop-past (encode f t) 0 (rowsBytes (t .rows)) (tablesBytes (t .tables) ++ trailerBytes f t) refl
 
 trailer-here : (f : Format) (t : Timetable)
     → drop (12 * length (t .rows) + tablesSize (t .tables)) (encode f t) ≡ trailerBytes f t
 trailer-here f t =
-    ap (λ (n : ℕ). drop (12 * length (t .rows) + n) (encode f t)) (sym (tables-length (t .tables)))
+    ap (λ (n : ℕ). drop (12 * length (t .rows) + n) (encode f t)) (sym (tables-size (t .tables)))
     ∙ drop-past (encode f t) (12 * length (t .rows)) (tablesBytes (t .tables)) (trailerBytes f t) (tables-here f t)
 
 pub trailer-at : (f : Format) (t : Timetable) → Writable f t
     → trailerAt f (encode f t) ≡ 12 * length (t .rows) + tablesSize (t .tables)
 unfolding trailerAt fileSize
-trailer-at f t w = omega (arith, length-encode f t, w .trailer)
+trailer-at f t w = omega (arith, length-encode f t, w .plain .trailer)
 
 pub head-encode : (f : Format) (t : Timetable) → Writable f t → headOf f (encode f t) ≡ headFor f t
 unfolding headOf
@@ -84,13 +84,13 @@ head-encode f t w =
 pub rows-encode : (f : Format) (t : Timetable) → Writable f t → rowsFrom (f .width) (encode f t) 0 (length (t .rows)) ≡ t .rows
 unfolding encode
 rows-encode f t w =
-    ap (λ (width : ℕ). rowsFrom width (encode f t) 0 (length (t .rows))) (w .width)
+    ap (λ (width : ℕ). rowsFrom width (encode f t) 0 (length (t .rows))) (w .plain .width)
     ∙ rows-written (t .rows) (encode f t) 0 (tablesBytes (t .tables) ++ trailerBytes f t) (w .each-row) refl
 
 -- the class blocks stand where the rows end
 pub tables-start : (f : Format) (t : Timetable) → Writable f t
     → drop (f .width * length (t .rows)) (encode f t) ≡ tablesBytes (t .tables) ++ trailerBytes f t
-tables-start f t w = ap (λ (width : ℕ). drop (width * length (t .rows)) (encode f t)) (w .width) ∙ tables-here f t
+tables-start f t w = ap (λ (width : ℕ). drop (width * length (t .rows)) (encode f t)) (w .plain .width) ∙ tables-here f t
 
 pub tables-encode : (f : Format) (t : Timetable) → Writable f t
     → tablesFrom (encode f t) (f .width * length (t .rows)) (length (t .tables)) ≡ t .tables

@@ -23,7 +23,8 @@ use Rattle.layout.specs.Numbers.{u16At}
 use Rattle.layout.specs.Decode.{trailerAt, headOf, tableAt, blockEnd, tablesEnd, decode}
 use Rattle.layout.specs.Check.{lengthRule, headRule, classVerdict, classesVerdict, sectionsJoin, joined, headVerdict, rangesOf, fileVerdict, answered, checkedAs}
 use Rattle.layout.specs.Encode.{tablesBytes, trailerBytes, encode}
-use Rattle.layout.specs.Writable.{Writable, WritableTable, InRange, blockSize, tablesSize, fileSize, headFor}
+use Rattle.layout.specs.Writable.{Writable, WritableTable, WithinLimits, blockSize, tablesSize, fileSize, headFor}
+use Rattle.layout.proofs.Sound.{sound-checked}
 use Rattle.layout.proofs.Sizes.{length-encode}
 use Rattle.layout.proofs.Written.{BlockAt, first-block, tables-end}
 use Rattle.layout.proofs.Encode.{trailer-at, head-encode, tables-start, decode-encode}
@@ -70,7 +71,7 @@ classes-fine (shares ∷ tables) f s end k at rest w delays rules fits e =
     in
     cc
 
-length-fine : (f : Format) (t : Timetable) → InRange f t → lengthRule f (encode f t) ≡ true
+length-fine : (f : Format) (t : Timetable) → WithinLimits f t → lengthRule f (encode f t) ≡ true
 unfolding lengthRule
 length-fine f t r =
     let size = length-encode f t in
@@ -78,7 +79,7 @@ length-fine f t r =
     (le-leb (f .shortest) (length (encode f t)) (omega (arith, r .not-short)))
     (le-leb (length (encode f t)) (f .longest) (omega (arith, r .not-long)))
 
-head-fine : (f : Format) (t : Timetable) → InRange f t → headRule f (headFor f t) ≡ true
+head-fine : (f : Format) (t : Timetable) → WithinLimits f t → headRule f (headFor f t) ≡ true
 unfolding headRule headFor
 head-fine f t r =
     both
@@ -104,7 +105,7 @@ unfolding joined headFor
 join-fine f t w =
     let start = f .width * length (t .rows) in
     let ends = tables-end (t .tables) (encode f t) start (trailerBytes f t) (w .each-table) (tables-start f t w) in
-    let twelve : start ≡ 12 * length (t .rows) = ap (λ (n : ℕ). n * length (t .rows)) (w .width) in
+    let twelve : start ≡ 12 * length (t .rows) = ap (λ (n : ℕ). n * length (t .rows)) (w .plain .width) in
     rows-first
     (0 + start)
     start
@@ -113,10 +114,10 @@ join-fine f t w =
     (omega arith)
     (omega (arith, ends, twelve, trailer-at f t w))
 
-tables-fine : (f : Format) (t : Timetable) → Writable f t → InRange f t
+tables-fine : (f : Format) (t : Timetable) → Writable f t → WithinLimits f t
     → classesVerdict f (encode f t) (trailerAt f (encode f t)) 0 (f .width * length (t .rows)) (length (t .tables)) ≡ fine
 tables-fine f t w r =
-    let twelve : f .width * length (t .rows) ≡ 12 * length (t .rows) = ap (λ (n : ℕ). n * length (t .rows)) (w .width) in
+    let twelve : f .width * length (t .rows) ≡ 12 * length (t .rows) = ap (λ (n : ℕ). n * length (t .rows)) (w .plain .width) in
     classes-fine
     (t .tables)
     f
@@ -131,19 +132,13 @@ tables-fine f t w r =
     (omega (arith, twelve, trailer-at f t w))
     (tables-start f t w)
 
--- only a fine verdict is answered by a sound file
-only-fine : (h : Head) (v : Verdict) {stops rows classes : ℕ} → answered h v ≡ Sound stops rows classes → v ≡ fine
-unfolding answered
-only-fine h fine e = refl
-only-fine h (fault number place) e = cc
-
 -- a head whose every rule is kept is fine
 rules-kept : (f : Format) (s : List ℕ) (h : Head) → headOf f s ≡ h → lengthRule f s ≡ true → headRule f h ≡ true
     → classesVerdict f s (trailerAt f s) 0 (h .tablestart) (h .classes) ≡ fine → joined f s h ≡ true → headVerdict f s ≡ fine
 unfolding headVerdict
 rules-kept f s h head sized ranged classes joins = cc
 
-pub head-accepted : (f : Format) (t : Timetable) → Writable f t → InRange f t → headVerdict f (encode f t) ≡ fine
+pub head-accepted : (f : Format) (t : Timetable) → Writable f t → WithinLimits f t → headVerdict f (encode f t) ≡ fine
 unfolding headFor
 head-accepted f t w r =
     rules-kept
@@ -156,22 +151,33 @@ head-accepted f t w r =
     (tables-fine f t w r)
     (join-fine f t w)
 
--- the answer is the verdict on the timetable's own rows
-pub check-encode : (f : Format) (t : Timetable) → Writable f t → InRange f t
-    → checkedAs f (encode f t) ≡ answered (headFor f t) (rowsVerdict (rangesOf f (headFor f t)) [] 0 (t .rows))
-unfolding checkedAs fileVerdict
-check-encode f t w r =
+pub verdict-encode : (f : Format) (t : Timetable) → Writable f t → WithinLimits f t
+    → fileVerdict f (encode f t) ≡ rowsVerdict (rangesOf f (headFor f t)) [] 0 (t .rows)
+unfolding fileVerdict
+verdict-encode f t w r =
     let head = head-encode f t w in
     let accepted = head-accepted f t w r in
     let read = decode-encode f t w in
     cc
 
+-- the answer is the verdict on the timetable's own rows
+pub check-encode : (f : Format) (t : Timetable) → Writable f t → WithinLimits f t
+    → checkedAs f (encode f t) ≡ answered (headFor f t) (rowsVerdict (rangesOf f (headFor f t)) [] 0 (t .rows))
+unfolding checkedAs
+check-encode f t w r =
+    let head = head-encode f t w in
+    let verdict = verdict-encode f t w r in
+    cc
+
 -- a written file is sound exactly if its rows are fine
-pub sound-encode : (f : Format) (t : Timetable) → Writable f t → InRange f t
+pub sound-encode : (f : Format) (t : Timetable) → Writable f t → WithinLimits f t
     → (checkedAs f (encode f t) ≡ Sound (t .stops) (length (t .rows)) (length (t .tables)))
     ↔ (rowsVerdict (rangesOf f (headFor f t)) [] 0 (t .rows) ≡ fine)
 unfolding answered headFor
 sound-encode f t w r =
-    let answer = check-encode f t w r in
-    let verdict = rowsVerdict (rangesOf f (headFor f t)) [] 0 (t .rows) in
-    ((λ sound. only-fine (headFor f t) verdict (sym answer ∙ sound)), (λ rows. answer ∙ ap (answered (headFor f t)) rows))
+    (
+      (λ sound.
+        sym (verdict-encode f t w r)
+        ∙ sound-checked f (encode f t) (t .stops) (length (t .rows)) (length (t .tables)) sound .0),
+      (λ rows. check-encode f t w r ∙ ap (answered (headFor f t)) rows),
+    )

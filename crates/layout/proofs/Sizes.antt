@@ -11,41 +11,41 @@ use Rattle.layout.specs.Numbers.{u16Bytes, u32Bytes}
 use Rattle.layout.specs.Encode.{rowBytes, rowsBytes, sharesBytes, tableBytes, tablesBytes, trailerBytes, encode}
 use Rattle.layout.specs.Writable.{blockSize, tablesSize, fileSize}
 
-row-length : (r : Row) → length (rowBytes r) ≡ 12
+row-size : (r : Row) → length (rowBytes r) ≡ 12
 unfolding rowBytes u16Bytes
-row-length r = refl
+row-size r = refl
 
-pub rows-length : (rows : List Row) → length (rowsBytes rows) ≡ 12 * length rows
+pub rows-size : (rows : List Row) → length (rowsBytes rows) ≡ 12 * length rows
 unfolding rowsBytes
-rows-length [] = refl
-rows-length (r ∷ rows) =
-    omega (arith, length-append (rowBytes r) (rowsBytes rows), row-length r, rows-length rows)
+rows-size [] = refl
+rows-size (r ∷ rows) =
+    omega (arith, length-append (rowBytes r) (rowsBytes rows), row-size r, rows-size rows)
 
-u16-length : (x : ℕ) → length (u16Bytes x) ≡ 2
+u16-size : (x : ℕ) → length (u16Bytes x) ≡ 2
 unfolding u16Bytes
-u16-length x = refl
+u16-size x = refl
 
-shares-length : (shares : List ℕ) → length (sharesBytes shares) ≡ 2 * length shares
+shares-size : (shares : List ℕ) → length (sharesBytes shares) ≡ 2 * length shares
 unfolding sharesBytes
-shares-length [] = refl
-shares-length (p ∷ shares) =
-    omega (arith, length-append (u16Bytes p) (sharesBytes shares), u16-length p, shares-length shares)
+shares-size [] = refl
+shares-size (p ∷ shares) =
+    omega (arith, length-append (u16Bytes p) (sharesBytes shares), u16-size p, shares-size shares)
 
-pub table-length : (shares : List ℕ) → length (tableBytes shares) ≡ blockSize shares
+pub table-size : (shares : List ℕ) → length (tableBytes shares) ≡ blockSize shares
 unfolding tableBytes blockSize
-table-length shares =
+table-size shares =
     omega
-    (arith, length-append (u16Bytes (longest shares)) (sharesBytes shares), u16-length (longest shares), shares-length shares)
+    (arith, length-append (u16Bytes (longest shares)) (sharesBytes shares), u16-size (longest shares), shares-size shares)
 
-pub tables-length : (tables : List (List ℕ)) → length (tablesBytes tables) ≡ tablesSize tables
+pub tables-size : (tables : List (List ℕ)) → length (tablesBytes tables) ≡ tablesSize tables
 unfolding tablesBytes tablesSize
-tables-length [] = refl
-tables-length (shares ∷ tables) =
-    omega (arith, length-append (tableBytes shares) (tablesBytes tables), table-length shares, tables-length tables)
+tables-size [] = refl
+tables-size (shares ∷ tables) =
+    omega (arith, length-append (tableBytes shares) (tablesBytes tables), table-size shares, tables-size tables)
 
-pub trailer-length : (f : Format) (t : Timetable) → length (trailerBytes f t) ≡ 16
+pub trailer-size : (f : Format) (t : Timetable) → length (trailerBytes f t) ≡ 16
 unfolding trailerBytes u16Bytes u32Bytes
-trailer-length f t = refl
+trailer-size f t = refl
 
 pub length-encode : (f : Format) (t : Timetable) → length (encode f t) ≡ fileSize t
 unfolding encode fileSize
@@ -54,6 +54,6 @@ length-encode f t =
     (arith,
     length-append (rowsBytes (t .rows)) (tablesBytes (t .tables) ++ trailerBytes f t),
     length-append (tablesBytes (t .tables)) (trailerBytes f t),
-    rows-length (t .rows),
-    tables-length (t .tables),
-    trailer-length f t)
+    rows-size (t .rows),
+    tables-size (t .tables),
+    trailer-size f t)

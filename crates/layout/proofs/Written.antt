@@ -15,7 +15,7 @@ use Rattle.layout.specs.Numbers.{u16At, u32At, u16Bytes, u32Bytes}
 use Rattle.layout.specs.Decode.{rowAt, rowsFrom, sharesFrom, tableAt, blockEnd, tablesFrom, tablesEnd}
 use Rattle.layout.specs.Encode.{rowBytes, rowsBytes, sharesBytes, tableBytes, tablesBytes}
 use Rattle.layout.specs.Writable.{WritableTable, blockSize, tablesSize}
-use Rattle.layout.proofs.Sizes.{table-length}
+use Rattle.layout.proofs.Sizes.{table-size}
 use Rattle.layout.proofs.Numbers.{u16-value, u16-here, u16-from, u16-written}
 
 u16-there : (s : List ℕ) (at x : ℕ) (rest : List ℕ) → x < 65536 → drop at s ≡ u16Bytes x ++ rest → u16At s at ≡ x
@@ -128,7 +128,7 @@ table-written shares s at rest w e =
       behind =
     ap
     (λ (n : ℕ). drop n s)
-    (ends ∙ ap (λ (n : ℕ). at + n) (sym (table-length shares)))
+    (ends ∙ ap (λ (n : ℕ). at + n) (sym (table-size shares)))
     ∙ drop-past s at (tableBytes shares) rest e;
     }
 

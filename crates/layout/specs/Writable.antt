@@ -17,10 +17,14 @@ pub record WritableTable (shares : List ℕ) : Type 0 where
   pub delay : longest shares < 65536
   pub each-share : (v : ℕ) → v < length shares → getD shares v 0 < 65536
 
--- the trailer has 16 bytes and a row 12; all numbers but the two offsets are u16
-pub record Writable (f : Format) (t : Timetable) : Type 0 where
+-- the versions that it writes: a trailer of 16 bytes, rows of six numbers and no more
+pub record Plain (f : Format) : Type 0 where
   pub trailer : f .trailer ≡ 16
   pub width : f .width ≡ 12
+
+-- all numbers but the two offsets are u16
+pub record Writable (f : Format) (t : Timetable) : Type 0 where
+  pub plain : Plain f
   pub version : f .version < 65536
   pub stops : t .stops < 65536
   pub rows : length (t .rows) < 65536
@@ -52,7 +56,7 @@ headFor f t =
     }
 
 -- what the check asks of a timetable apart from its rows: 1, and 3 for each class
-pub record InRange (f : Format) (t : Timetable) : Type 0 where
+pub record WithinLimits (f : Format) (t : Timetable) : Type 0 where
   pub not-short : f .shortest ≤ fileSize t
   pub not-long : fileSize t ≤ f .longest
   pub enough-stops : fewestStops ≤ t .stops
