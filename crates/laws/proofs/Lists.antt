@@ -1,8 +1,8 @@
 -- Laws on lists that the library lacks. Assumes nothing.
-use Prim.Native.Nat.{ℕ, zero, suc, _+_, _<_, suc-le-suc}
-use mathlib.Core.List.{List, [], _∷_, _++_}
-use mathlib.Core.Path.{_≡_, refl, sym, ap, _∙_}
-use lib.ListN.{length, getD, drop}
+use Prim.Native.Nat.{ℕ, _+_}
+use mathlib.Core.List.{List, _++_}
+use mathlib.Core.Path.{_≡_, sym, ap, _∙_}
+use lib.ListN.{length, drop}
 use lib.Seq.{drop-drop, drop-append-seam}
 
 -- `front` stands at `at`, and `rest` behind it

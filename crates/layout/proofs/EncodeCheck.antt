@@ -1,29 +1,28 @@
 -- What the check says of a written file: the head is fine, and the answer is the verdict on the timetable's own rows. Assumes nothing.
-use Prim.Native.Nat.{ℕ, zero, suc, _+_, _-_, _*_, _<_, _≤_, suc-le-suc}
-use mathlib.Core.Bool.{Bool, true, false, _&&_, _||_}
+use Prim.Native.Nat.{ℕ, suc, _+_, _*_, _<_, _≤_, suc-le-suc}
+use mathlib.Core.Bool.{true}
 use mathlib.Core.List.{List, [], _∷_, _++_}
 use mathlib.Core.Path.{_≡_, refl, sym, ap, _∙_}
 use mathlib.Core.Logic.{_↔_}
 use native.Mathlib.Nat.{zero-lt-suc}
 use native.Mathlib.Omega.{arith}
-use lib.Dec.{leb, eqb}
+use lib.Dec.{leb}
 use lib.ListN.{length, drop}
 use borrow.Author.Tests.{le-leb, eq-eqb}
 use Rattle.laws.proofs.Tests.{both}
 use Rattle.timetable.specs.Timetable.{Timetable, longest, sharesOf}
-use Rattle.timetable.specs.Verdict.{Verdict, fine, fault, orElse, unless}
+use Rattle.timetable.specs.Verdict.{fine}
 use Rattle.timetable.specs.Classes.{sharesRule}
 use Rattle.timetable.specs.Rows.{rowsVerdict}
 use Rattle.layout.specs.declared.Format.{Format}
 use Rattle.layout.specs.declared.Head.{Head}
-use Rattle.layout.specs.declared.Checked.{Checked}
-use Rattle.layout.specs.declared.Checked.the-variants.{Sound, Refused}
+use Rattle.layout.specs.declared.Checked.the-variants.{Sound}
 use Rattle.layout.specs.Format.{fewestStops, mostStops, mostRows, fewestClasses, mostClasses}
 use Rattle.layout.specs.Numbers.{u16At}
-use Rattle.layout.specs.Decode.{trailerAt, headOf, tableAt, blockEnd, tablesEnd, decode}
+use Rattle.layout.specs.Decode.{trailerAt, headOf, tableAt, blockEnd, tablesEnd}
 use Rattle.layout.specs.Check.{lengthRule, headRule, classVerdict, classesVerdict, sectionsJoin, joined, headVerdict, rangesOf, fileVerdict, answered, checkedAs}
 use Rattle.layout.specs.Encode.{tablesBytes, trailerBytes, encode}
-use Rattle.layout.specs.Writable.{Writable, WritableTable, WithinLimits, blockSize, tablesSize, fileSize, headFor}
+use Rattle.layout.specs.Writable.{Writable, WritableTable, WithinLimits, blockSize, tablesSize, headFor}
 use Rattle.layout.proofs.Sound.{sound-checked}
 use Rattle.layout.proofs.Sizes.{length-encode}
 use Rattle.layout.proofs.Written.{BlockAt, first-block, tables-end}
@@ -174,10 +173,9 @@ pub sound-encode : (f : Format) (t : Timetable) → Writable f t → WithinLimit
     → (checkedAs f (encode f t) ≡ Sound (t .stops) (length (t .rows)) (length (t .tables)))
     ↔ (rowsVerdict (rangesOf f (headFor f t)) [] 0 (t .rows) ≡ fine)
 unfolding answered headFor
-sound-encode f t w r =
-    (
-      (λ sound.
-        sym (verdict-encode f t w r)
-        ∙ sound-checked f (encode f t) (t .stops) (length (t .rows)) (length (t .tables)) sound .0),
-      (λ rows. check-encode f t w r ∙ ap (answered (headFor f t)) rows),
-    )
+sound-encode f t w r = (
+  (λ sound.
+      sym (verdict-encode f t w r)
+      ∙ sound-checked f (encode f t) (t .stops) (length (t .rows)) (length (t .tables)) sound .0),
+  (λ rows. check-encode f t w r ∙ ap (answered (headFor f t)) rows),
+)

@@ -8,4 +8,5 @@ pub mod Sizes
 pub mod Written
 pub mod Encode
 pub mod EncodeCheck
+pub mod ReadAgain
 pub mod Reencode

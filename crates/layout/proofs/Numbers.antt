@@ -1,5 +1,5 @@
 -- Numbers of the file: what was written is read, what was read is written, and a number read behind a prefix. Assumes nothing.
-use Prim.Native.Nat.{ℕ, zero, suc, _+_, _*_, _/_, _%_, _<_, _≤_}
+use Prim.Native.Nat.{ℕ, suc, _+_, _*_, _/_, _%_, _<_, _≤_}
 use mathlib.Core.List.{List, [], _∷_, _++_, append-assoc}
 use mathlib.Core.Path.{_≡_, refl, sym, ap, _∙_}
 use native.Mathlib.Nat.{add-zero, add-assoc, add-mul-mod-self-left, add-mul-div-left, mod-eq-of-lt}
@@ -7,7 +7,7 @@ use native.Mathlib.Numerals.{add-one, add-two}
 use native.Mathlib.Omega.{arith}
 use lib.Dec.{lit<}
 use lib.ListN.{length, getD, drop}
-use lib.Seq.{getD-drop, drop-cons, drop-drop}
+use lib.Seq.{getD-drop, drop-cons}
 use Rattle.layout.specs.Small.{Bytes}
 use Rattle.layout.specs.Numbers.{u16At, u32At, u16Bytes, u32Bytes}
 

@@ -1,7 +1,7 @@
 -- How many bytes the encoder writes: 12 a row, 2 (M + 2) a class block, 16 for the trailer. Assumes nothing.
-use Prim.Native.Nat.{ℕ, zero, suc, _+_, _*_}
+use Prim.Native.Nat.{ℕ, _+_, _*_}
 use mathlib.Core.List.{List, [], _∷_, _++_}
-use mathlib.Core.Path.{_≡_, refl, sym, ap, _∙_}
+use mathlib.Core.Path.{_≡_, refl}
 use native.Mathlib.Omega.{arith}
 use lib.ListN.{length, length-append}
 use Rattle.timetable.specs.Timetable.{Timetable, longest}
@@ -50,10 +50,11 @@ trailer-size f t = refl
 pub length-encode : (f : Format) (t : Timetable) → length (encode f t) ≡ fileSize t
 unfolding encode fileSize
 length-encode f t =
-    omega
-    (arith,
-    length-append (rowsBytes (t .rows)) (tablesBytes (t .tables) ++ trailerBytes f t),
-    length-append (tablesBytes (t .tables)) (trailerBytes f t),
-    rows-size (t .rows),
-    tables-size (t .tables),
-    trailer-size f t)
+    omega (
+      arith,
+      length-append (rowsBytes (t .rows)) (tablesBytes (t .tables) ++ trailerBytes f t),
+      length-append (tablesBytes (t .tables)) (trailerBytes f t),
+      rows-size (t .rows),
+      tables-size (t .tables),
+      trailer-size f t,
+    )

@@ -1,17 +1,15 @@
 -- Rows, class blocks and the trailer, once written, are read as they were. Assumes nothing.
-use Prim.Native.Nat.{ℕ, zero, suc, _+_, _*_, _<_, _≤_, pred, suc-le-suc}
+use Prim.Native.Nat.{ℕ, suc, _+_, _*_, _<_, suc-le-suc}
 use mathlib.Core.List.{List, [], _∷_, _++_, append-assoc}
 use mathlib.Core.Path.{_≡_, refl, sym, ap, _∙_}
 use native.Mathlib.Nat.{add-zero, add-assoc, zero-lt-suc, suc-pred-eq-of-pos}
 use native.Mathlib.Omega.{arith}
-use lib.ListN.{length, getD, drop, length-append}
+use lib.ListN.{length, getD, drop}
 use Rattle.laws.proofs.Lists.{drop-past}
-use Rattle.timetable.specs.Timetable.{Timetable, longest, rowOf, sharesOf}
+use Rattle.timetable.specs.Timetable.{longest, rowOf, sharesOf}
 use Rattle.timetable.specs.declared.Row.{Row}
-use Rattle.layout.specs.declared.Format.{Format}
-use Rattle.layout.specs.declared.Head.{Head}
 use Rattle.layout.specs.Small.{SmallRow}
-use Rattle.layout.specs.Numbers.{u16At, u32At, u16Bytes, u32Bytes}
+use Rattle.layout.specs.Numbers.{u16At, u16Bytes}
 use Rattle.layout.specs.Decode.{rowAt, rowsFrom, sharesFrom, tableAt, blockEnd, tablesFrom, tablesEnd}
 use Rattle.layout.specs.Encode.{rowBytes, rowsBytes, sharesBytes, tableBytes, tablesBytes}
 use Rattle.layout.specs.Writable.{WritableTable, blockSize, tablesSize}
@@ -122,14 +120,14 @@ table-written shares s at rest w e =
     record {
       delay = delay;
       table =
-    ap (sharesFrom s (at + 2)) count
-    ∙ shares-written shares s (at + 2) rest (w .each-share) (past-u16 s at (longest shares) (sharesBytes shares ++ rest) here);
+          ap (sharesFrom s (at + 2)) count
+          ∙ shares-written shares s (at + 2) rest (w .each-share) (past-u16 s at (longest shares) (sharesBytes shares ++ rest) here);
       ends = ends;
       behind =
-    ap
-    (λ (n : ℕ). drop n s)
-    (ends ∙ ap (λ (n : ℕ). at + n) (sym (table-size shares)))
-    ∙ drop-past s at (tableBytes shares) rest e;
+          ap
+          (λ (n : ℕ). drop n s)
+          (ends ∙ ap (λ (n : ℕ). at + n) (sym (table-size shares)))
+          ∙ drop-past s at (tableBytes shares) rest e;
     }
 
 -- the first of several blocks
