@@ -1,0 +1,3 @@
+-- Laws of the sailing file: what a fine verdict tells of its bytes, and examples that pin the rules.
+pub mod Blocks
+pub mod Sound

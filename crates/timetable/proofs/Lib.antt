@@ -1,0 +1,2 @@
+-- Laws of timetables: what a fine verdict tells, and examples that pin the rules.
+pub mod Verdicts
