@@ -1,2 +1,4 @@
 -- Laws of timetables: what a fine verdict tells, and examples that pin the rules.
 pub mod Verdicts
+pub mod Behind
+pub mod RowsSound
