@@ -1,139 +1,130 @@
--- What a fine verdict tells of a file: its head, its classes and where its sections lie. Assumes nothing.
-use Prim.Native.Nat.{ℕ, _+_, _*_, _≤_, _<_}
-use mathlib.Core.Bool.{true, _&&_}
+-- What the check's answer tells of a sound file: all that planning needs of its bytes and of its timetable. Assumes nothing.
+use Prim.Native.Nat.{ℕ, suc, _+_, _*_, _≤_, _<_}
 use mathlib.Core.List.{List, []}
-use mathlib.Core.Logic.{_⊎_, inl, inr}
-use mathlib.Core.Path.{_≡_, refl, ap, _∙_}
+use mathlib.Core.Path.{_≡_, refl, ap, sym, subst, _∙_}
 use native.Mathlib.Omega.{arith}
-use lib.Dec.{leb, eqb}
-use lib.ListN.{length, getD}
-use borrow.Author.Tests.{leb-true, eqb-true}
-use Rattle.laws.proofs.Tests.{both-left, both-right, either}
-use Rattle.timetable.specs.Verdict.{fine, orElse, unless}
-use Rattle.timetable.proofs.Verdicts.{first-fine, second-fine, rule-holds}
+use native.Mathlib.Nat.{mul-le-mul-left}
+use lib.ListN.{length}
+use Rattle.timetable.specs.Verdict.{Verdict, fine, fault}
+use Rattle.timetable.specs.Timetable.{sharesOf, rowOf}
+use Rattle.timetable.specs.Classes.{sum, whole, lastShare}
+use Rattle.timetable.specs.Rows.{rowsVerdict}
+use Rattle.timetable.specs.declared.Ranges.{Ranges}
+use Rattle.timetable.proofs.Verdicts.{first-fine, second-fine}
+use Rattle.timetable.proofs.RowsSound.{RowsSound, rows-give}
 use Rattle.layout.specs.declared.Format.{Format}
 use Rattle.layout.specs.declared.Head.{Head}
-use Rattle.layout.specs.Format.{fewestStops, mostStops, mostRows, fewestClasses, mostClasses}
-use Rattle.layout.specs.Decode.{trailerAt, headOf, tableAt, tablesFrom, tablesEnd, decode}
-use Rattle.layout.specs.Check.{lengthRule, headRule, classesVerdict, sectionsJoin, joined, headVerdict}
-use Rattle.layout.proofs.Blocks.{blockAt, ClassSound, classes-give, table-of-block, tables-length, tables-forward}
+use Rattle.layout.specs.declared.Checked.the-variants.{Sound}
+use Rattle.layout.specs.Format.{Readable, mostRows}
+use Rattle.layout.specs.Decode.{trailerAt, headOf, rowAt, tableAt, rowsFrom, decode}
+use Rattle.layout.specs.Check.{headVerdict, fileVerdict, rangesOf, answered, checkedAs}
+use Rattle.layout.proofs.Blocks.{blockAt, ClassSound}
+use Rattle.layout.proofs.FileRows.{rows-length, row-of-file}
+pub use Rattle.layout.proofs.HeadSound.{HeadSound, head-gives}
 
--- file length and the trailer's numbers inside their ranges (1)
-pub record InRange (f : Format) (s : List ℕ) (h : Head) : Type 0 where
-  pub not-short : f .shortest ≤ length s
-  pub not-long : length s ≤ f .longest
-  pub version : h .version ≡ f .version
-  pub stops-least : fewestStops ≤ h .stops
-  pub stops-most : h .stops ≤ mostStops
-  pub rows-most : h .rows ≤ mostRows
-  pub classes-least : fewestClasses ≤ h .classes
-  pub classes-most : h .classes ≤ mostClasses
+-- shares that keep the rule of a class
+pub record SharesSound (f : Format) (shares : List ℕ) : Type 0 where
+  pub some-shares : 1 ≤ length shares
+  pub few-shares : length shares ≤ suc (f .delay)
+  pub shares-whole : sum shares ≡ whole
+  pub last-counts : 1 ≤ lastShare shares
 
--- all that a fine head tells
-pub record HeadSound (f : Format) (s : List ℕ) : Type 0 where
-  pub in-range : InRange f s (headOf f s)
-  pub rows-inside : headOf f s .rowstart + f .width * headOf f s .rows ≤ trailerAt f s
-  pub tables-inside : tablesEnd s (headOf f s .tablestart) (headOf f s .classes) ≤ trailerAt f s
-  pub trailer-last : f .trailer ≤ f .shortest → trailerAt f s + f .trailer ≡ length s
-  pub class-sound : (k : ℕ) → k < headOf f s .classes → ClassSound f s (trailerAt f s) (blockAt s (headOf f s .tablestart) k)
+-- what the rows of a file are held to
+abbrev pub heldTo : Format → Head → Ranges
+heldTo f h = record { stops = h .stops; classes = h .classes; latest = f .latest }
+
+-- a file without a fault, and the timetable that it decodes to
+pub record SoundFile (f : Format) (s : List ℕ) : Type 0 where
+  pub head : HeadSound f s
+  pub trailer-last : trailerAt f s + f .trailer ≡ length s
+  pub stops-read : decode f s .stops ≡ headOf f s .stops
+  pub rows-count : length (decode f s .rows) ≡ headOf f s .rows
+  pub rows-few : headOf f s .rows ≤ mostRows
+  pub row-read : (i : ℕ) → i < headOf f s .rows
+      → rowOf (decode f s .rows) i ≡ rowAt s (headOf f s .rowstart + f .width * i)
+  pub row-inside : (i : ℕ) → i < headOf f s .rows
+      → headOf f s .rowstart + f .width * i + f .width ≤ trailerAt f s
+  pub row-readable : (i : ℕ) → i < headOf f s .rows → headOf f s .rowstart + f .width * i + 11 < length s
+  pub rows : RowsSound (heldTo f (headOf f s)) (decode f s .rows)
   pub tables-count : length (decode f s .tables) ≡ headOf f s .classes
-  pub table-read : (k : ℕ) → k < headOf f s .classes
-      → getD (decode f s .tables) k [] ≡ tableAt s (blockAt s (headOf f s .tablestart) k)
+  pub class-shares : (c : ℕ) → c < headOf f s .classes → SharesSound f (sharesOf (decode f s .tables) c)
+  -- the class of a row has a table
+  pub row-shares : (i : ℕ) → i < headOf f s .rows → SharesSound f (sharesOf (decode f s .tables) (rowOf (decode f s .rows) i .class))
 
-range-gives : (f : Format) (s : List ℕ) (h : Head) → lengthRule f s ≡ true → headRule f h ≡ true → InRange f s h
-unfolding lengthRule headRule
-range-gives f s h l e =
-    let not-short = leb (f .shortest) (length s) in
-    let version = eqb (h .version) (f .version) in
-    let least = version && leb fewestStops (h .stops) in
-    let most = least && leb (h .stops) mostStops in
-    let rows = most && leb (h .rows) mostRows in
-    let classes = rows && leb fewestClasses (h .classes) in
-    let e₄ = both-left classes (leb (h .classes) mostClasses) e in
-    let e₃ = both-left rows (leb fewestClasses (h .classes)) e₄ in
-    let e₂ = both-left most (leb (h .rows) mostRows) e₃ in
-    let e₁ = both-left least (leb (h .stops) mostStops) e₂ in
-    record {
-      not-short = leb-true (f .shortest) (length s) (both-left not-short (leb (length s) (f .longest)) l);
-      not-long = leb-true (length s) (f .longest) (both-right not-short (leb (length s) (f .longest)) l);
-      version = eqb-true (h .version) (f .version) (both-left version (leb fewestStops (h .stops)) e₁);
-      stops-least = leb-true fewestStops (h .stops) (both-right version (leb fewestStops (h .stops)) e₁);
-      stops-most = leb-true (h .stops) mostStops (both-right least (leb (h .stops) mostStops) e₂);
-      rows-most = leb-true (h .rows) mostRows (both-right most (leb (h .rows) mostRows) e₃);
-      classes-least = leb-true fewestClasses (h .classes) (both-right rows (leb fewestClasses (h .classes)) e₄);
-      classes-most = leb-true (h .classes) mostClasses (both-right classes (leb (h .classes) mostClasses) e);
-    }
-
-three-equal : (a b c d x y : ℕ) → (eqb a b && eqb c d && eqb x y) ≡ true → (a ≡ b) × (c ≡ d) × (x ≡ y)
-three-equal a b c d x y e =
-    let two = both-left (eqb a b && eqb c d) (eqb x y) e in (
-      eqb-true a b (both-left (eqb a b) (eqb c d) two),
-      eqb-true c d (both-right (eqb a b) (eqb c d) two),
-      eqb-true x y (both-right (eqb a b && eqb c d) (eqb x y) e),
-    )
-
--- one section starts at 0, the other where that one ends, and the second ends at `end`
-pub joined-gives : (rows rowsEnd tables ends end : ℕ) → sectionsJoin rows rowsEnd tables ends end ≡ true
-    → ((rows ≡ 0) × (tables ≡ rowsEnd) × (ends ≡ end)) ⊎ ((tables ≡ 0) × (rows ≡ ends) × (rowsEnd ≡ end))
-unfolding sectionsJoin
-joined-gives rows rowsEnd tables ends end e =
-    elim (either (eqb rows 0 && eqb tables rowsEnd && eqb ends end) (eqb tables 0 && eqb rows ends && eqb rowsEnd end) e)
-    [ inl p ↦ inl (three-equal rows 0 tables rowsEnd ends end p) | inr p ↦ inr (three-equal tables 0 rows ends rowsEnd end p) ]
-
--- joined sections lie ahead of the trailer
-sections-inside : (rows rowsEnd tables ends end : ℕ) → sectionsJoin rows rowsEnd tables ends end ≡ true → rows ≤ rowsEnd
-    → tables ≤ ends → (rowsEnd ≤ end) × (ends ≤ end)
-sections-inside rows rowsEnd tables ends end e p q =
-    elim (joined-gives rows rowsEnd tables ends end e) [ inl j ↦ (omega arith, omega arith) | inr j ↦ (omega arith, omega arith) ]
-
-joined-inside : (f : Format) (s : List ℕ) (h : Head) → joined f s h ≡ true
-    → (h .rowstart + f .width * h .rows ≤ trailerAt f s) × (tablesEnd s (h .tablestart) (h .classes) ≤ trailerAt f s)
-unfolding joined
-joined-inside f s h e =
-    sections-inside (h .rowstart) (h .rowstart + f .width * h .rows) (h .tablestart) (tablesEnd s (h .tablestart) (h .classes))
-    (trailerAt f s) e (omega arith) (tables-forward s (h .tablestart) (h .classes))
-
-trailer-ends : (f : Format) (s : List ℕ) → f .trailer ≤ length s → trailerAt f s + f .trailer ≡ length s
-unfolding trailerAt
-trailer-ends f s h = omega arith
-
--- the four tests behind a head's verdict
-head-tests : (f : Format) (s : List ℕ) → headVerdict f s ≡ fine
-    → (lengthRule f s ≡ true) × (headRule f (headOf f s) ≡ true)
-    × (classesVerdict f s (trailerAt f s) 0 (headOf f s .tablestart) (headOf f s .classes) ≡ fine) × (joined f s (headOf f s) ≡ true)
-unfolding headVerdict
-head-tests f s e =
-    let h = headOf f s in
-    let classes = classesVerdict f s (trailerAt f s) 0 (h .tablestart) (h .classes) in
-    let join = unless (joined f s h) 2 0 in
-    let range = unless (headRule f h) 1 0 in
-    let size = unless (lengthRule f s) 1 0 in
-    let e₁ = second-fine size (orElse range (orElse classes join)) e in
-    let e₂ = second-fine range (orElse classes join) e₁ in (
-      rule-holds (lengthRule f s) 1 0 (first-fine size (orElse range (orElse classes join)) e),
-      rule-holds (headRule f h) 1 0 (first-fine range (orElse classes join) e₁),
-      first-fine classes join e₂,
-      rule-holds (joined f s h) 2 0 (second-fine classes join e₂),
-    )
-
-decoded-tables : (f : Format) (s : List ℕ) → decode f s .tables ≡ tablesFrom s (headOf f s .tablestart) (headOf f s .classes)
+decoded-rows : (f : Format) (s : List ℕ) → decode f s .rows ≡ rowsFrom (f .width) s (headOf f s .rowstart) (headOf f s .rows)
 unfolding decode
-decoded-tables f s = refl
+decoded-rows f s = refl
 
--- all that a fine head tells
-pub head-gives : (f : Format) (s : List ℕ) → headVerdict f s ≡ fine → HeadSound f s
-head-gives f s e =
-    let h = headOf f s in
-    let tests = head-tests f s e in
-    let range = range-gives f s h (tests .0) (tests .1) in
-    let inside = joined-inside f s h (tests .3) in
+decoded-stops : (f : Format) (s : List ℕ) → decode f s .stops ≡ headOf f s .stops
+unfolding decode
+decoded-stops f s = refl
+
+-- the two verdicts behind a file's
+file-tests : (f : Format) (s : List ℕ) → fileVerdict f s ≡ fine
+    → (headVerdict f s ≡ fine) × (rowsVerdict (heldTo f (headOf f s)) [] 0 (decode f s .rows) ≡ fine)
+unfolding fileVerdict rangesOf
+file-tests f s e =
+    let rows = rowsVerdict (heldTo f (headOf f s)) [] 0 (decode f s .rows) in
+    (first-fine (headVerdict f s) rows e, second-fine (headVerdict f s) rows e)
+
+table-sound : (f : Format) (s : List ℕ) (end at : ℕ) → ClassSound f s end at → SharesSound f (tableAt s at)
+table-sound f s end at c =
     record {
-      in-range = range;
-      rows-inside = inside .0;
-      tables-inside = inside .1;
-      trailer-last = λ small. trailer-ends f s (omega (arith, range .not-short));
-      class-sound = classes-give f s (trailerAt f s) 0 (h .tablestart) (h .classes) (tests .2);
-      tables-count = ap length (decoded-tables f s) ∙ tables-length s (h .tablestart) (h .classes);
-      table-read =
-          λ k inside. ap (λ tables. getD tables k []) (decoded-tables f s) ∙ table-of-block s (h .tablestart) (h .classes) k inside;
+      some-shares = omega arith;
+      few-shares = omega arith;
+      shares-whole = c .shares-whole;
+      last-counts = c .last-counts;
     }
+
+shares-sound : (f : Format) (s : List ℕ) → HeadSound f s → (c : ℕ) → c < headOf f s .classes
+    → SharesSound f (sharesOf (decode f s .tables) c)
+shares-sound f s h c inside =
+    subst (SharesSound f) (sym (h .table-read c inside))
+    (table-sound f s (trailerAt f s) (blockAt s (headOf f s .tablestart) c) (h .class-sound c inside))
+
+-- a row's bytes lie ahead of the rows' end
+one-row-inside : (width at n end i : ℕ) → at + width * n ≤ end → i < n → at + width * i + width ≤ end
+one-row-inside width at n end i h l = omega (arith, mul-le-mul-left {m = suc i} {n = n} width l)
+
+-- all that planning needs of a file without a fault
+pub sound-gives : (f : Format) (s : List ℕ) → Readable f → fileVerdict f s ≡ fine → SoundFile f s
+sound-gives f s readable e =
+    let tests = file-tests f s e in
+    let h = headOf f s in
+    let head = head-gives f s (tests .0) in
+    let rows = rows-give (heldTo f h) (decode f s .rows) (tests .1) in
+    let count : length (decode f s .rows) ≡ h .rows =
+    ap length (decoded-rows f s) ∙ rows-length (f .width) s (h .rowstart) (h .rows)
+    in
+    let last = head .trailer-last (readable .file-holds-trailer) in
+    let inside : (i : ℕ) → i < h .rows → h .rowstart + f .width * i + f .width ≤ trailerAt f s =
+    λ i l. one-row-inside (f .width) (h .rowstart) (h .rows) (trailerAt f s) i (head .rows-inside) l
+    in
+    record {
+      head = head;
+      trailer-last = last;
+      stops-read = decoded-stops f s;
+      rows-count = count;
+      rows-few = head .in-range .rows-most;
+      row-read =
+          λ i l. ap (λ rows. rowOf rows i) (decoded-rows f s) ∙ row-of-file (f .width) s (h .rowstart) (h .rows) i l;
+      row-inside = inside;
+      row-readable = λ i l. omega (arith, inside i l, readable .width-holds-row, readable .trailer-holds-head, last);
+      rows = rows;
+      tables-count = head .tables-count;
+      class-shares = shares-sound f s head;
+      row-shares =
+          λ i l. shares-sound f s head (rowOf (decode f s .rows) i .class) (rows .own i (omega (arith, count)) .class);
+    }
+
+sound-answer : (h : Head) (v : Verdict) (stops rows classes : ℕ) → answered h v ≡ Sound stops rows classes
+    → (v ≡ fine) × (stops ≡ h .stops) × (rows ≡ h .rows) × (classes ≡ h .classes)
+unfolding answered
+sound-answer h fine stops rows classes e = (refl, (cc), (cc), (cc))
+sound-answer h (fault number place) stops rows classes e = absurd (let z : _≡_ {A = ℕ} 0 1 = cc in let y : ⊥ = omega arith in y)
+
+-- a file answered as sound has no fault, and the answer's numbers are its head's
+pub sound-checked : (f : Format) (s : List ℕ) (stops rows classes : ℕ) → checkedAs f s ≡ Sound stops rows classes
+    → (fileVerdict f s ≡ fine) × (stops ≡ headOf f s .stops) × (rows ≡ headOf f s .rows) × (classes ≡ headOf f s .classes)
+unfolding checkedAs
+sound-checked f s stops rows classes e = sound-answer (headOf f s) (fileVerdict f s) stops rows classes e
