@@ -14,10 +14,10 @@ use Rattle.timetable.proofs.Verdicts.{first-fine, second-fine}
 use Rattle.timetable.proofs.RowsSound.{RowsSound, rows-give}
 use Rattle.layout.specs.declared.Format.{Format}
 use Rattle.layout.specs.declared.Head.{Head}
-use Rattle.layout.specs.declared.Checked.the-variants.{Sound}
-use Rattle.layout.specs.Format.{Readable, mostRows}
+use Rattle.layout.specs.declared.Checked.the-variants.{Sound, Refused}
+use Rattle.layout.specs.Format.{Readable, mostRows, versionOne}
 use Rattle.layout.specs.Decode.{trailerAt, headOf, rowAt, tableAt, rowsFrom, decode}
-use Rattle.layout.specs.Check.{headVerdict, fileVerdict, rangesOf, answered, checkedAs}
+use Rattle.layout.specs.Check.{headVerdict, fileVerdict, rangesOf, answered, checkedAs, checked}
 use Rattle.layout.proofs.Blocks.{blockAt, ClassSound}
 use Rattle.layout.proofs.FileRows.{rows-length, row-of-file}
 pub use Rattle.layout.proofs.HeadSound.{HeadSound, head-gives}
@@ -128,3 +128,25 @@ pub sound-checked : (f : Format) (s : List ℕ) (stops rows classes : ℕ) → c
     → (fileVerdict f s ≡ fine) × (stops ≡ headOf f s .stops) × (rows ≡ headOf f s .rows) × (classes ≡ headOf f s .classes)
 unfolding checkedAs
 sound-checked f s stops rows classes e = sound-answer (headOf f s) (fileVerdict f s) stops rows classes e
+
+-- a file without a fault is answered as sound, with its head's numbers
+pub fine-answered : (f : Format) (s : List ℕ) → fileVerdict f s ≡ fine
+    → checkedAs f s ≡ Sound (headOf f s .stops) (headOf f s .rows) (headOf f s .classes)
+unfolding checkedAs answered
+fine-answered f s e = ap (answered (headOf f s)) e
+
+-- a fault is answered by its number and place
+pub fault-answered : (f : Format) (s : List ℕ) (number place : ℕ) → fileVerdict f s ≡ fault number place
+    → checkedAs f s ≡ Refused number place
+unfolding checkedAs answered
+fault-answered f s number place e = ap (answered (headOf f s)) e
+
+pub version-one-readable : Readable versionOne
+version-one-readable =
+    record { trailer-holds-head = omega arith; file-holds-trailer = omega arith; width-holds-row = omega arith; narrow = omega arith }
+
+-- what the check's answer tells of a file of version 1
+pub checked-gives : (s : List ℕ) (stops rows classes : ℕ) → checked s ≡ Sound stops rows classes → SoundFile versionOne s
+unfolding checked
+checked-gives s stops rows classes e =
+    sound-gives versionOne s version-one-readable (sound-checked versionOne s stops rows classes e .0)

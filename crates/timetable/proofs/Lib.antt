@@ -2,3 +2,4 @@
 pub mod Verdicts
 pub mod Behind
 pub mod RowsSound
+pub mod Pinned
