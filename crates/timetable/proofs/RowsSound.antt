@@ -40,7 +40,7 @@ pub record RowsSound (g : Ranges) (rows : List Row) : Type 0 where
       → ((k : ℕ) → i < k → k < j → rowOf rows k .trip ≡ rowOf rows j .trip → ⊥)
       → (rowOf rows i .land ≡ rowOf rows j .board) × (rowOf rows i .arrival ≤ rowOf rows j .departure)
 
-own-gives : (g : Ranges) (r : Row) → ownRule g r ≡ true → OwnSound g r
+pub own-gives : (g : Ranges) (r : Row) → ownRule g r ≡ true → OwnSound g r
 unfolding ownRule
 own-gives g r e =
     let board = ltb (r .board) (g .stops) in
