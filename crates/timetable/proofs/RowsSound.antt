@@ -70,10 +70,10 @@ own-gives g r e =
     }
 
 -- a row that keeps its rules, `back` behind it
-record Kept (g : Ranges) (back : List Row) (r : Row) : Type 0 where
-  own : ownRule g r ≡ true
-  departures : departureRule back r ≡ true
-  trip : tripRule back r ≡ true
+pub record Kept (g : Ranges) (back : List Row) (r : Row) : Type 0 where
+  pub own : ownRule g r ≡ true
+  pub departures : departureRule back r ≡ true
+  pub trip : tripRule back r ≡ true
 
 row-keeps : (g : Ranges) (back : List Row) (i : ℕ) (r : Row) → rowVerdict g back i r ≡ fine → Kept g back r
 unfolding rowVerdict
