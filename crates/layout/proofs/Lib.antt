@@ -5,3 +5,4 @@ pub mod HeadSound
 pub mod Sound
 pub mod Pinned
 pub mod CaseW
+pub mod SoundFine
