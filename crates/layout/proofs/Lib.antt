@@ -6,3 +6,4 @@ pub mod Sound
 pub mod Pinned
 pub mod CaseW
 pub mod SoundFine
+pub mod Refusals

@@ -4,3 +4,4 @@ pub mod Behind
 pub mod RowsSound
 pub mod Pinned
 pub mod RowsFine
+pub mod Places
