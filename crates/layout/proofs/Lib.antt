@@ -12,3 +12,7 @@ pub mod EncodeCheck
 pub mod ReadAgain
 pub mod Reencode
 pub mod Rewritten
+pub mod Pinned
+pub mod CaseW
+pub mod SoundFine
+pub mod Refusals
