@@ -23,3 +23,4 @@ pub mod ChosenWords
 pub mod Sorting
 pub mod LastMinute
 pub mod Demand2
+pub mod Cases
