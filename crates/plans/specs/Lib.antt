@@ -8,4 +8,5 @@ pub mod Plan
 pub mod SafePlan
 pub mod Walk
 pub mod Words
+pub mod RowWords
 pub mod Cases
