@@ -51,8 +51,11 @@ least-either none on e = inr e
 least-either (some off) none e = inl (e, λ u q. absent q)
 least-either (some off) (some on) {v} e =
     ifb (λ b. ltb (off .worth) (on .worth) ≡ b → cond b (some off) (some on) ≡ some v → Either) (ltb (off .worth) (on .worth))
-    (λ b _ h. inl (h, λ u q. subst (λ (x : Valued). v .worth < x .worth) (same-thing q)
-        (subst (λ (x : Valued). x .worth < on .worth) (same-thing h) (ltb-true (off .worth) (on .worth) b)))) (λ _ _ h. inr h) refl e
+    (λ b _ h. inl (
+      h,
+      λ u q. subst (λ (x : Valued). v .worth < x .worth) (same-thing q)
+          (subst (λ (x : Valued). x .worth < on .worth) (same-thing h) (ltb-true (off .worth) (on .worth) b)),
+    )) (λ _ _ h. inr h) refl e
   where
     Either : Type 0
     Either = ((some off ≡ some v) × ((u : Valued) → some on ≡ some u → v .worth < u .worth)) ⊎ (some on ≡ some v)

@@ -96,7 +96,7 @@ module _ (off : GettingOff) (target : ℕ) (t : Timetable) where
   best-source i h v e =
       ⊎-elim (λ k. got-off _ _ i v refl refl (dearer-on i (v .worth) _ (k .1)) (k .0)) (λ k. stayed _ i v h refl k)
       (least-either (getOff (rowRide (t .tables) i (rowOf (t .rows) i)) (offAt off target t i))
-          (stayOn i (rowOf (t .rows) i) (nextFrom off target t (suc i) (rowOf (t .rows) i .trip))) (sym (best-row off target t i) ∙ e))
+      (stayOn i (rowOf (t .rows) i) (nextFrom off target t (suc i) (rowOf (t .rows) i .trip))) (sym (best-row off target t i) ∙ e))
 
   -- it boards at row i
   pub record Boards (i : ℕ) (v : Valued) : Type 0 where

@@ -6,7 +6,7 @@ use mathlib.Core.Bool.{true, cond, false≢true}
 use mathlib.Core.List.{List, [], _∷_, List·Memᴰ, List·Memᴰ·head, List·Memᴰ·tail}
 use mathlib.Core.Logic.{⊎-elim, _≢_, _↔_}
 use mathlib.Core.Option.{Option, none, some}
-use mathlib.Core.Path.{_≡_, refl, sym, ap, subst, _∙_}
+use mathlib.Core.Path.{_≡_, refl, sym, ap, ap₂, subst, _∙_}
 use lib.Dec.{eqb}
 use lib.ListN.{length, getD, List·getD-eq-default}
 use borrow.Author.Tests.{eqb-true, lt-ltb}
@@ -16,6 +16,7 @@ use Rattle.laws.proofs.Downward.{downward}
 use Rattle.timetable.specs.Timetable.{Timetable, rowOf}
 use Rattle.timetable.specs.declared.Row.{Row}
 use Rattle.plans.specs.Sound.{Timely}
+use Rattle.plans.specs.Rides.{opens, boards}
 use Rattle.plans.specs.Worth.{Valued, firstOpen}
 use Rattle.plans.specs.Chosen.{GettingOff, Weighed, Scan, scan, scanned, offInTicks, worthOf, leads, firstAt, choose}
 use Rattle.plans.specs.Plan.{chosenFor}
@@ -78,7 +79,7 @@ module _ (t : Timetable) (target bound : ℕ) where
   best-ride i h = weighed-at (offInTicks target bound) target t i 0 _ (subst (λ k. k < length (t .rows)) (sym (zero-add i)) h) ∙ ap (bestAt (offInTicks target bound) target t) (zero-add i)
 
   -- past the last row there is none
-  best-past : (i : ℕ) → length (t .rows) ≤ i → bestRide t target bound i ≡ none
+  pub best-past : (i : ℕ) → length (t .rows) ≤ i → bestRide t target bound i ≡ none
   unfolding bestRide scanned
   best-past i h =
       ap (λ (w : Weighed). w .best)
@@ -86,21 +87,21 @@ module _ (t : Timetable) (target bound : ℕ) where
       (subst (λ k. k ≤ i) (sym (scan-length (offInTicks target bound) target (t .tables) 0 (t .rows))) h))
 
   -- a row with a worth is a row of the timetable, with a best ride of that worth
-  record Weighs (j w : ℕ) : Type 0 where
-    inside : j < length (t .rows)
-    ride : Valued
-    best : bestAt (offInTicks target bound) target t j ≡ some ride
-    worth : ride .worth ≡ w
-    at : Boards (offInTicks target bound) target t j ride
+  pub record Weighs (j w : ℕ) : Type 0 where
+    pub inside : j < length (t .rows)
+    pub ride : Valued
+    pub best : bestAt (offInTicks target bound) target t j ≡ some ride
+    pub worth : ride .worth ≡ w
+    pub at : Boards (offInTicks target bound) target t j ride
 
-  weighs : (j w : ℕ) → HasWorth t target bound j w → Weighs j w
+  pub weighs : (j w : ℕ) → HasWorth t target bound j w → Weighs j w
   weighs j w h =
       let found = worth-is (bestRide t target bound j) h in
       let inside : j < length (t .rows) = lt-of-not-le (λ past. absent (sym (best-past j past) ∙ found .1)) in
       let best = sym (best-ride j inside) ∙ found .1 in
       record { inside = inside; ride = found .0; best = best; worth = found .2; at = best-boards (offInTicks target bound) target t j inside (found .0) best }
 
-  has-worth : (j : ℕ) → j < length (t .rows) → (v : Valued) → bestAt (offInTicks target bound) target t j ≡ some v → HasWorth t target bound j (v .worth)
+  pub has-worth : (j : ℕ) → j < length (t .rows) → (v : Valued) → bestAt (offInTicks target bound) target t j ≡ some v → HasWorth t target bound j (v .worth)
   has-worth j h v e = ap worthOf (best-ride j h ∙ e) ∙ worth-of v
 
   module _ (timely : Timely t) where
@@ -242,6 +243,19 @@ module _ (t : Timetable) (target bound : ℕ) where
           (choose target (bestAt (offInTicks target bound) target t (v .ride .board)) (chosenFrom (offInTicks target bound) target t (suc (v .ride .board))))) best
           (choice target (bestAt (offInTicks target bound) target t (v .ride .board)) (chosenFrom (offInTicks target bound) target t (suc (v .ride .board)))))
           (λ e. words .not-at-target (sym (stands .stop) ∙ e)) leads-behind)) stays-chosen 0 zero-le
+
+    -- who can board a row finds a first chosen row that is worth no more
+    pub first-chosen-least :
+        (i w s m : ℕ) → HasWorth t target bound i w → opens (rowOf (t .rows) i .board) (rowOf (t .rows) i .departure) s m ≡ true → s ≢ target
+        → (v : Valued) × (firstOpen (chosenFor t target bound) s m ≡ some v) × (v .worth ≤ w)
+    first-chosen-least i w s m h open' elsewhere =
+        let u = weighs i w h in
+        let here : boards (u .ride .ride) s m ≡ true = ap₂ (λ (a b : ℕ). opens a b s m) (u .at .stop) (u .at .minute) ∙ open' in
+        let there : u .ride .ride .from ≡ s = boards-stop (u .ride .ride) s m here in
+        let first = first-least (offInTicks target bound) target t timely 0 zero-le i zero-le (u .inside) (u .ride) (u .best) (λ e. elsewhere (sym there ∙ e)) m
+        (boards-minute (u .ride .ride) s m here) in
+        found-at-most ((v : Valued) × (firstOpen (chosenFor t target bound) s m ≡ some v) × (v .worth ≤ w)) first
+        (λ v e c. (v, ap₂ (λ (l : List Valued) (x : ℕ). firstOpen l x m) (chosen-for t target bound) (sym there) ∙ e, (let z : v .worth ≤ w = omega (arith, u .worth) in z)))
 
     pub chosen-in-words :
         (v : Valued) → List·Memᴰ v (chosenFor t target bound) ↔ (Chosen t target bound (v .ride .board) × (bestRide t target bound (v .ride .board) ≡ some v))

@@ -1,21 +1,25 @@
 -- Demand 2: the plan is the minimum expected arrival plan, and there is none exactly if there is no safe journey.
 use Prim.Native.Nat.{ℕ, _≤_, _<_}
 use mathlib.Core.List.{List, List·Memᴰ}
+use mathlib.Core.Bool.{true}
+use lib.ListN.{length}
 use mathlib.Core.Logic.{_↔_, _≢_}
 use mathlib.Core.Option.{none, some}
 use mathlib.Core.Path.{_≡_}
-use Rattle.timetable.specs.Timetable.{Timetable}
+use Rattle.timetable.specs.Timetable.{Timetable, rowOf}
 use Rattle.plans.specs.Sound.{Timely}
 use Rattle.plans.specs.declared.Query.{Query}
-use Rattle.plans.specs.Rides.{Ride, latest}
+use Rattle.plans.specs.Rides.{Ride, latest, opens}
 use Rattle.plans.specs.Journeys.{Journey, IsEarliest, boundOf}
-use Rattle.plans.specs.Worth.{Valued, valued}
+use Rattle.plans.specs.Worth.{Valued, valued, firstOpen}
 use Rattle.plans.specs.Plan.{Plan, planned, earliest, chosenFor}
 use Rattle.plans.specs.SafePlan.{SafePlan, Rising, expectedOf}
-use Rattle.plans.specs.Words.{Chosen, InPlan, bestRide}
+use Rattle.plans.specs.Words.{Chosen, InPlan, HasWorth, bestRide}
+use Rattle.plans.specs.RowWords.{OpenWay, LeastWay, StaysAboard}
 use Rattle.plans.proofs.EarliestSafe.{earliest-is-least, no-earliest}
 use Rattle.plans.proofs.PlanExists.{CodeStands, plan-exists, bound-real}
-use Rattle.plans.proofs.ChosenWords.{chosen-in-words}
+use Rattle.plans.proofs.ChosenWords.{chosen-in-words, first-chosen-least}
+use Rattle.plans.proofs.RowWorth.{worth-in-words, no-worth, stays-aboard}
 use Rattle.plans.proofs.PlanIsSafe.{ridesOf, plan-safe, plan-rising, plan-valued, plan-expected, plan-last}
 use Rattle.plans.proofs.PlanSet.{plan-set}
 use Rattle.plans.proofs.Optimal.{expected-stands, plan-least}
@@ -38,11 +42,28 @@ module _ (t : Timetable) (timely : Timely t) (q : Query) where
   pub bound-stands : (e : ℕ) → earliest t q ≡ some e → 4 ≤ q .code → (e ≤ boundOf q e) × (0 < boundOf q e)
   bound-stands = bound-real t timely q
 
+  -- a row's worth is the least over getting off and staying on; it has none if none of these is open
+  pub row-worth : (bound i : ℕ) → i < length (t .rows) → (w : ℕ) → HasWorth t (q .target) bound i w ↔ LeastWay t (q .target) bound i w
+  row-worth bound = worth-in-words t timely (q .target) bound
+
+  pub no-row-worth : (bound i : ℕ) → i < length (t .rows) → (bestRide t (q .target) bound i ≡ none) ↔ ((w : ℕ) → OpenWay t (q .target) bound i w → ⊥)
+  no-row-worth bound = no-worth t timely (q .target) bound
+
+  -- its ride stays aboard while the next row's worth equals the boarded row's
+  pub ride-leaves : (bound i : ℕ) → i < length (t .rows) → (v : Valued) → bestRide t (q .target) bound i ≡ some v → StaysAboard t (q .target) bound v
+  ride-leaves bound = stays-aboard t timely (q .target) bound
+
   -- the chosen rows are those of document 01
   pub chosen-rows :
       (bound : ℕ) (v : Valued) → List·Memᴰ v (chosenFor t (q .target) bound)
       ↔ (Chosen t (q .target) bound (v .ride .board) × (bestRide t (q .target) bound (v .ride .board) ≡ some v))
   chosen-rows bound = chosen-in-words t (q .target) bound timely
+
+  -- who can board a row finds a first chosen row that is worth no more
+  pub first-chosen :
+      (bound i w s m : ℕ) → HasWorth t (q .target) bound i w → opens (rowOf (t .rows) i .board) (rowOf (t .rows) i .departure) s m ≡ true → s ≢ q .target
+      → (v : Valued) × (firstOpen (chosenFor t (q .target) bound) s m ≡ some v) × (v .worth ≤ w)
+  first-chosen bound = first-chosen-least t (q .target) bound timely
 
   module _ (p : Plan) (is-plan : planned t q ≡ some p) where
     -- its bound is that of E

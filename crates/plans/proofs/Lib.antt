@@ -20,6 +20,7 @@ pub mod PlanIsSafe
 pub mod Optimal
 pub mod PlanSet
 pub mod ChosenWords
+pub mod RowWorth
 pub mod Sorting
 pub mod LastMinute
 pub mod Demand2
