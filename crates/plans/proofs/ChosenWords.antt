@@ -23,12 +23,13 @@ use Rattle.plans.specs.Plan.{chosenFor}
 use Rattle.plans.specs.Words.{bestRide, HasWorth, Chosen}
 use Rattle.plans.proofs.Open.{can-board, boards-stop, boards-minute, found-member, found-boards}
 use Rattle.plans.proofs.AtMost.{found-at-most}
-use Rattle.plans.proofs.FromRow.{scanFrom, chosenFrom, bestAt, scan-row, chosen-row}
+use Rattle.plans.proofs.FromRow.{scanFrom, bestAt, scan-row, chosen-row}
 use Rattle.plans.proofs.Choice.{Choice, worthless, at-target, behind, added, choice, others-kept}
 use Rattle.plans.proofs.Order.{Ordered, leads-each, members-apart, first-before}
 use Rattle.plans.proofs.BestRides.{Boards, best-boards, Picked, chosen-picked}
 use Rattle.plans.proofs.FirstLeast.{chosen-ordered, first-least}
 use Rattle.plans.proofs.EarliestSafe.{worth-is, worth-of}
+use Rattle.plans.proofs.InTicks.{chosenInTicks, bestInTicks}
 use Rattle.plans.proofs.Made.{chosen-for}
 
 -- a worth below that of each chosen row at the stop leads them
@@ -74,9 +75,9 @@ module _ (off : GettingOff) (target : ℕ) (t : Timetable) where
 
 module _ (t : Timetable) (target bound : ℕ) where
   -- the best ride of a row
-  pub best-ride : (i : ℕ) → i < length (t .rows) → bestRide t target bound i ≡ bestAt (offInTicks target bound) target t i
+  pub best-ride : (i : ℕ) → i < length (t .rows) → bestRide t target bound i ≡ bestInTicks t target bound i
   unfolding bestRide scanned scanFrom
-  best-ride i h = weighed-at (offInTicks target bound) target t i 0 _ (subst (λ k. k < length (t .rows)) (sym (zero-add i)) h) ∙ ap (bestAt (offInTicks target bound) target t) (zero-add i)
+  best-ride i h = weighed-at (offInTicks target bound) target t i 0 _ (subst (λ k. k < length (t .rows)) (sym (zero-add i)) h) ∙ ap (bestInTicks t target bound) (zero-add i)
 
   -- past the last row there is none
   pub best-past : (i : ℕ) → length (t .rows) ≤ i → bestRide t target bound i ≡ none
@@ -90,7 +91,7 @@ module _ (t : Timetable) (target bound : ℕ) where
   pub record Weighs (j w : ℕ) : Type 0 where
     pub inside : j < length (t .rows)
     pub ride : Valued
-    pub best : bestAt (offInTicks target bound) target t j ≡ some ride
+    pub best : bestInTicks t target bound j ≡ some ride
     pub worth : ride .worth ≡ w
     pub at : Boards (offInTicks target bound) target t j ride
 
@@ -101,21 +102,21 @@ module _ (t : Timetable) (target bound : ℕ) where
       let best = sym (best-ride j inside) ∙ found .1 in
       record { inside = inside; ride = found .0; best = best; worth = found .2; at = best-boards (offInTicks target bound) target t j inside (found .0) best }
 
-  pub has-worth : (j : ℕ) → j < length (t .rows) → (v : Valued) → bestAt (offInTicks target bound) target t j ≡ some v → HasWorth t target bound j (v .worth)
+  pub has-worth : (j : ℕ) → j < length (t .rows) → (v : Valued) → bestInTicks t target bound j ≡ some v → HasWorth t target bound j (v .worth)
   has-worth j h v e = ap worthOf (best-ride j h ∙ e) ∙ worth-of v
 
   module _ (timely : Timely t) where
     -- among the chosen rows from row k on, a row with a worth finds one at its stop, at its minute or later, that is worth no more
     record Finds (k : ℕ) (u : Valued) : Type 0 where
       first : Valued
-      is-first : firstOpen (chosenFrom (offInTicks target bound) target t k) (u .ride .from) (u .ride .departs) ≡ some first
-      member : List·Memᴰ first (chosenFrom (offInTicks target bound) target t k)
+      is-first : firstOpen (chosenInTicks t target bound k) (u .ride .from) (u .ride .departs) ≡ some first
+      member : List·Memᴰ first (chosenInTicks t target bound k)
       there : first .ride .from ≡ u .ride .from
       then : u .ride .departs ≤ first .ride .departs
       cheap : first .worth ≤ u .worth
 
     row-finds :
-        (k j : ℕ) → k ≤ j → j < length (t .rows) → (u : Valued) → bestAt (offInTicks target bound) target t j ≡ some u → u .ride .from ≢ target → Finds k u
+        (k j : ℕ) → k ≤ j → j < length (t .rows) → (u : Valued) → bestInTicks t target bound j ≡ some u → u .ride .from ≢ target → Finds k u
     row-finds k j a b u e elsewhere =
         found-at-most (Finds k u)
         (first-least (offInTicks target bound) target t timely k (let z : k ≤ length (t .rows) = omega arith in z) j a b u e elsewhere (u .ride .departs)
@@ -130,14 +131,14 @@ module _ (t : Timetable) (target bound : ℕ) where
           cheap = h;
         })
 
-    module _ (v : Valued) (member : List·Memᴰ v (chosenFrom (offInTicks target bound) target t 0)) where
+    module _ (v : Valued) (member : List·Memᴰ v (chosenInTicks t target bound 0)) where
       picked : Picked (offInTicks target bound) target t 0 v
       picked = chosen-picked (offInTicks target bound) target t 0 zero-le v member
 
       here : Boards (offInTicks target bound) target t (v .ride .board) v
       here = best-boards (offInTicks target bound) target t (v .ride .board) (picked .inside) v (picked .best)
 
-      order : Ordered (chosenFrom (offInTicks target bound) target t 0)
+      order : Ordered (chosenInTicks t target bound 0)
       order = chosen-ordered (offInTicks target bound) target t timely 0 zero-le
 
       -- below every later-minute row at its stop
@@ -149,7 +150,7 @@ module _ (t : Timetable) (target bound : ℕ) where
           let same : u .ride .ride .from ≡ v .ride .from = u .at .stop ∙ stop ∙ sym (here .stop) in
           let f = row-finds 0 j zero-le (u .inside) (u .ride) (u .best) (λ e. picked .elsewhere (sym same ∙ e)) in
           let late : v .ride .departs < f .first .ride .departs = omega (arith, f .then, u .at .minute, here .minute) in
-          members-apart (chosenFrom (offInTicks target bound) target t 0) order v (f .first) member (f .member)
+          members-apart (chosenInTicks t target bound 0) order v (f .first) member (f .member)
           (λ e. absurd (let q : v .ride .departs ≡ f .first .ride .departs = ap (λ (x : Valued). x .ride .departs) e in let z : ⊥ = omega arith in z))
           (λ b. let c : v .worth < f .first .worth = b .cheaper (sym (f .there ∙ same)) in omega (arith, f .cheap, u .worth))
           (λ b. absurd (let z : ⊥ = omega (arith, b .minutes) in z))
@@ -163,7 +164,7 @@ module _ (t : Timetable) (target bound : ℕ) where
           let same : u .ride .ride .from ≡ v .ride .from = u .at .stop ∙ stop ∙ sym (here .stop) in
           let then : u .ride .ride .departs ≡ v .ride .departs = u .at .minute ∙ minute ∙ sym (here .minute) in
           let f = row-finds 0 j zero-le (u .inside) (u .ride) (u .best) (λ e. picked .elsewhere (sym same ∙ e)) in
-          let g = first-before (chosenFrom (offInTicks target bound) target t 0) order (u .ride .ride .from) (u .ride .ride .departs) v member
+          let g = first-before (chosenInTicks t target bound 0) order (u .ride .ride .from) (u .ride .ride .departs) v member
           (can-board (v .ride) (u .ride .ride .from) (u .ride .ride .departs) (sym same) (let z : u .ride .ride .departs ≤ v .ride .departs = omega arith in z)) in
           let one : g .0 ≡ f .first = same-thing (sym (g .1) ∙ f .is-first) in
           ⊎-elim (λ e. let c : v .worth ≡ f .first .worth = ap (λ (x : Valued). x .worth) (sym e ∙ one) in omega (arith, f .cheap, u .worth))
@@ -178,7 +179,7 @@ module _ (t : Timetable) (target bound : ℕ) where
           (λ later. let u = weighs j w h in
           let same : u .ride .ride .from ≡ v .ride .from = u .at .stop ∙ stop ∙ sym (here .stop) in
           let f = row-finds (suc (v .ride .board)) j later (u .inside) (u .ride) (u .best) (λ e. picked .elsewhere (sym same ∙ e)) in
-          let c : v .worth < f .first .worth = leads-each (chosenFrom (offInTicks target bound) target t (suc (v .ride .board)))
+          let c : v .worth < f .first .worth = leads-each (chosenInTicks t target bound (suc (v .ride .board)))
           (chosen-ordered (offInTicks target bound) target t timely (suc (v .ride .board)) (picked .inside)) (v .worth) (v .ride .from) (picked .leading) (f .first) (f .member)
           (f .there ∙ same) in
           let z : ⊥ = omega (arith, f .cheap, u .worth) in z) in
@@ -194,7 +195,7 @@ module _ (t : Timetable) (target bound : ℕ) where
             least-of-minute = λ j w h stop minute. (least-then j w h stop minute, highest j w h stop);
           }
 
-    module _ (v : Valued) (inside : v .ride .board < length (t .rows)) (best : bestAt (offInTicks target bound) target t (v .ride .board) ≡ some v)
+    module _ (v : Valued) (inside : v .ride .board < length (t .rows)) (best : bestInTicks t target bound (v .ride .board) ≡ some v)
         (words : Chosen t target bound (v .ride .board)) where
       own-worth : words .worth ≡ v .worth
       own-worth = same-thing (sym (words .has-worth) ∙ has-worth (v .ride .board) inside v best)
@@ -203,7 +204,7 @@ module _ (t : Timetable) (target bound : ℕ) where
       stands = best-boards (offInTicks target bound) target t (v .ride .board) inside v best
 
       -- it leads the chosen rows behind it
-      leads-behind : leads (v .worth) (firstAt (chosenFrom (offInTicks target bound) target t (suc (v .ride .board))) (v .ride .from)) ≡ true
+      leads-behind : leads (v .worth) (firstAt (chosenInTicks t target bound (suc (v .ride .board))) (v .ride .from)) ≡ true
       leads-behind =
           leads-all _ (v .worth) (v .ride .from)
           (λ x m there. let p = chosen-picked (offInTicks target bound) target t (suc (v .ride .board)) inside x m in
@@ -222,26 +223,26 @@ module _ (t : Timetable) (target bound : ℕ) where
 
       -- and no row of its minute replaces it
       stays-chosen :
-          (k : ℕ) → k < v .ride .board → List·Memᴰ v (chosenFrom (offInTicks target bound) target t (suc k)) → List·Memᴰ v (chosenFrom (offInTicks target bound) target t k)
+          (k : ℕ) → k < v .ride .board → List·Memᴰ v (chosenInTicks t target bound (suc k)) → List·Memᴰ v (chosenInTicks t target bound k)
       stays-chosen k before m =
           let row : k < length (t .rows) = omega (arith, inside) in
           subst (λ (l : List Valued). List·Memᴰ v l) (sym (chosen-row (offInTicks target bound) target t k row))
-          (choice-keeps target (choice target (bestAt (offInTicks target bound) target t k) (chosenFrom (offInTicks target bound) target t (suc k))) v m
+          (choice-keeps target (choice target (bestInTicks t target bound k) (chosenInTicks t target bound (suc k))) v m
           (λ u e lead there then. let at = best-boards (offInTicks target bound) target t k row u e in
           let c : words .worth ≤ u .worth = words .least-of-minute k (u .worth) (has-worth k row u e) (sym (at .stop) ∙ sym there ∙ stands .stop)
           (sym (at .minute) ∙ sym then ∙ stands .minute) .0 in
-          let d : u .worth < v .worth = leads-each (chosenFrom (offInTicks target bound) target t (suc k))
+          let d : u .worth < v .worth = leads-each (chosenInTicks t target bound (suc k))
           (chosen-ordered (offInTicks target bound) target t timely (suc k) row) (u .worth) (u .ride .from) lead v m there in
           let z : ⊥ = omega (arith, own-worth) in z))
 
-      pub chosen-is : List·Memᴰ v (chosenFrom (offInTicks target bound) target t 0)
+      pub chosen-is : List·Memᴰ v (chosenInTicks t target bound 0)
       chosen-is =
-          downward (λ k. List·Memᴰ v (chosenFrom (offInTicks target bound) target t k)) (v .ride .board)
+          downward (λ k. List·Memᴰ v (chosenInTicks t target bound k)) (v .ride .board)
           (subst (λ (l : List Valued). List·Memᴰ v l) (sym (chosen-row (offInTicks target bound) target t (v .ride .board) inside))
           (choice-takes target
-          (subst (λ (o : Option Valued). Choice target (chosenFrom (offInTicks target bound) target t (suc (v .ride .board))) o
-          (choose target (bestAt (offInTicks target bound) target t (v .ride .board)) (chosenFrom (offInTicks target bound) target t (suc (v .ride .board))))) best
-          (choice target (bestAt (offInTicks target bound) target t (v .ride .board)) (chosenFrom (offInTicks target bound) target t (suc (v .ride .board)))))
+          (subst (λ (o : Option Valued). Choice target (chosenInTicks t target bound (suc (v .ride .board))) o
+          (choose target (bestInTicks t target bound (v .ride .board)) (chosenInTicks t target bound (suc (v .ride .board))))) best
+          (choice target (bestInTicks t target bound (v .ride .board)) (chosenInTicks t target bound (suc (v .ride .board)))))
           (λ e. words .not-at-target (sym (stands .stop) ∙ e)) leads-behind)) stays-chosen 0 zero-le
 
     -- who can board a row finds a first chosen row that is worth no more

@@ -11,11 +11,20 @@ use borrow.Author.Tests.{eqb-true, eqb-false, eq-eqb, ne-eqb, leb-true, le-leb}
 use Rattle.laws.proofs.Options.{absent, same-thing}
 use Rattle.laws.proofs.Tests.{ifb, either, cond-true, cond-false}
 use Rattle.laws.proofs.Alternatives.{or-left, or-right}
+use Rattle.timetable.specs.Timetable.{Timetable}
 use Rattle.plans.specs.Rides.{Ride, latest}
 use Rattle.plans.specs.Journeys.{within}
 use Rattle.plans.specs.Worth.{Valued, firstOpen, arrivalWorth, changeWorth, landWorth}
 use Rattle.plans.specs.Chosen.{offInTicks, whenSafe}
+use Rattle.plans.proofs.FromRow.{chosenFrom, bestAt}
 use Rattle.plans.proofs.Staying.{AsLanded}
+
+-- in ticks, the chosen rows from row i on and the best ride of row i
+abbrev pub chosenInTicks : Timetable → (target bound i : ℕ) → List Valued
+chosenInTicks t target bound i = chosenFrom (offInTicks target bound) target t i
+
+abbrev pub bestInTicks : Timetable → (target bound i : ℕ) → Option Valued
+bestInTicks t target bound i = bestAt (offInTicks target bound) target t i
 
 -- what lies within the bound, so do earlier minutes
 pub within-earlier : (bound a b : ℕ) → a ≤ b → within bound b ≡ true → within bound a ≡ true

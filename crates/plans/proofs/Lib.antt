@@ -1,4 +1,5 @@
 -- The theorems of demands 2 and 3, and the laws that lead to them.
+pub mod Cases
 pub mod Open
 pub mod AtMost
 pub mod FromRow
@@ -24,4 +25,3 @@ pub mod RowWorth
 pub mod Sorting
 pub mod LastMinute
 pub mod Demand2
-pub mod Cases

@@ -26,7 +26,7 @@ use Rattle.plans.proofs.AtMost.{AtMost, raised, found-at-most, worth-at
 use Rattle.plans.proofs.FromRow.{chosenFrom, bestAt}
 use Rattle.plans.proofs.Staying.{ride-at-most}
 use Rattle.plans.proofs.RideMinutes.{boards-behind, ride-first, ride-delays}
-use Rattle.plans.proofs.InTicks.{ticks-landed, ticks-at-target, ticks-elsewhere}
+use Rattle.plans.proofs.InTicks.{bestInTicks, ticks-landed, ticks-at-target, ticks-elsewhere}
 use Rattle.plans.proofs.Weighing.{change-less}
 use Rattle.plans.proofs.EarliestSafe.{worth-is, worth-of}
 use Rattle.plans.proofs.Made.{Made, chosen-for}
@@ -98,9 +98,9 @@ module _ (t : Timetable) (timely : Timely t) where
     -- the boarding row of a ride that goes on in a chain is worth no more than the ride
     change-bounds :
         (r : Ride) (rides : List Ride) → IsRide t r → r .to ≢ target → ((x : Ride) → List·Memᴰ x rides → IsRide t x)
-        → ((v : Valued) → List·Memᴰ v (valued target rides) → AtMost (bestAt (offInTicks target bound) target t (v .ride .board)) (v .worth))
+        → ((v : Valued) → List·Memᴰ v (valued target rides) → AtMost (bestInTicks t target bound (v .ride .board)) (v .worth))
         → (next : Ride) → List·Memᴰ next rides → boards next (r .to) (latest r) ≡ true
-        → AtMost (bestAt (offInTicks target bound) target t (r .board)) (changeWorth r (valued target rides))
+        → AtMost (bestInTicks t target bound (r .board)) (changeWorth r (valued target rides))
     change-bounds r rides is away are bounds next m b =
         found-at-most (AtMost (bestAt off target t (r .board)) (changeWorth r behind)) (let found = open-at (latest r) (le-refl (latest r)) in seen (latest r) (let z : r .arrives ≤ latest r = omega arith in z) (found .0) (found .1))
         (λ u e _. raised (ride-at-most off target t r is (ticks-landed target bound) (changeWorth r chosen) (ticks-elsewhere target bound r chosen away u e))
@@ -138,8 +138,8 @@ module _ (t : Timetable) (timely : Timely t) where
     link-bounds :
         (r : Ride) (rides : List Ride) → IsRide t r → within bound (latest r) ≡ true
         → (r .to ≢ target → (next : Ride) × List·Memᴰ next rides × (boards next (r .to) (latest r) ≡ true)) → ((x : Ride) → List·Memᴰ x rides → IsRide t x)
-        → ((v : Valued) → List·Memᴰ v (valued target rides) → AtMost (bestAt (offInTicks target bound) target t (v .ride .board)) (v .worth))
-        → AtMost (bestAt (offInTicks target bound) target t (r .board)) (landWorth target r (valued target rides))
+        → ((v : Valued) → List·Memᴰ v (valued target rides) → AtMost (bestInTicks t target bound (v .ride .board)) (v .worth))
+        → AtMost (bestInTicks t target bound (r .board)) (landWorth target r (valued target rides))
     unfolding landWorth
     link-bounds r rides is b on are bounds =
         ifb (λ c. eqb (r .to) target ≡ c → AtMost best (cond c (arrivalWorth r) (changeWorth r (valued target rides)))) (eqb (r .to) target)
@@ -147,17 +147,17 @@ module _ (t : Timetable) (timely : Timely t) where
         (λ e _. let next = on (eqb-false (r .to) target e) in change-bounds r rides is (eqb-false (r .to) target e) are bounds (next .0) (next .1) (next .2)) refl
       where
         best : Option Valued
-        best = bestAt (offInTicks target bound) target t (r .board)
+        best = bestInTicks t target bound (r .board)
 
     -- each ride of a chain: its boarding row is worth no more
     pub chain-bounds :
         {rides : List Ride} → Chain t target bound rides → (v : Valued) → List·Memᴰ v (valued target rides)
-        → AtMost (bestAt (offInTicks target bound) target t (v .ride .board)) (v .worth)
+        → AtMost (bestInTicks t target bound (v .ride .board)) (v .worth)
     unfolding valued
     chain-bounds over v m = absurd (List·Memᴰ·not-nil m)
     chain-bounds (link {r} {rides} is from b on chain) v m =
-        head-or-later (AtMost (bestAt (offInTicks target bound) target t (v .ride .board)) (v .worth)) m
-        (λ e. subst (λ (x : Valued). AtMost (bestAt (offInTicks target bound) target t (x .ride .board)) (x .worth)) (sym e)
+        head-or-later (AtMost (bestInTicks t target bound (v .ride .board)) (v .worth)) m
+        (λ e. subst (λ (x : Valued). AtMost (bestInTicks t target bound (x .ride .board)) (x .worth)) (sym e)
         (link-bounds r rides is b on (chain-ride chain) (chain-bounds chain))) (λ n. chain-bounds chain v n)
 
   -- every safe plan has an expected arrival, and none is below the plan's

@@ -22,11 +22,11 @@ use Rattle.plans.specs.Chosen.{offInTicks}
 use Rattle.plans.specs.Plan.{planned, earliest, chosenFor}
 use Rattle.plans.proofs.Open.{boards-minute}
 use Rattle.plans.proofs.AtMost.{AtMost, found-at-most}
-use Rattle.plans.proofs.FromRow.{chosenFrom, bestAt}
+use Rattle.plans.proofs.FromRow.{chosenFrom}
 use Rattle.plans.proofs.Staying.{ride-at-most}
 use Rattle.plans.proofs.RideMinutes.{boards-behind, ride-first}
 use Rattle.plans.proofs.EarliestSafe.{onward-ride, onward-after, earliest-is-least, no-earliest}
-use Rattle.plans.proofs.InTicks.{within-earlier, ticks-landed, ticks-at-target, ticks-elsewhere}
+use Rattle.plans.proofs.InTicks.{bestInTicks, within-earlier, ticks-landed, ticks-at-target, ticks-elsewhere}
 use Rattle.plans.proofs.Made.{chosen-for, no-plan, no-plan-without}
 
 -- Bound code q is 0 (no bound) or 4 to 16 (quarters)
@@ -50,7 +50,7 @@ module _ (t : Timetable) (timely : Timely t) where
   -- the boarding row of a ride has a worth, if what is boarded after it has one
   change-exists :
       (target bound : ℕ) (r next : Ride) → IsRide t r → IsRide t next → boards next (r .to) (latest r) ≡ true → within bound (latest r) ≡ true
-      → (w : ℕ) × AtMost (bestAt (offInTicks target bound) target t (next .board)) w → (w : ℕ) × AtMost (bestAt (offInTicks target bound) target t (r .board)) w
+      → (w : ℕ) × AtMost (bestInTicks t target bound (next .board)) w → (w : ℕ) × AtMost (bestInTicks t target bound (r .board)) w
   change-exists target bound r next is is' caught b further =
       let off = offInTicks target bound in
       let late : latest r ≤ next .departs = boards-minute next (r .to) (latest r) caught in
@@ -66,11 +66,11 @@ module _ (t : Timetable) (timely : Timely t) where
       ))) refl
     where
       Some : Type 0
-      Some = (w : ℕ) × AtMost (bestAt (offInTicks target bound) target t (r .board)) w
+      Some = (w : ℕ) × AtMost (bestInTicks t target bound (r .board)) w
 
   -- the row where a safe journey within the bound boards has a worth
   pub ticks-exist :
-      (target bound : ℕ) {r : Ride} {end : ℕ} → Onward t target r end → within bound end ≡ true → (w : ℕ) × AtMost (bestAt (offInTicks target bound) target t (r .board)) w
+      (target bound : ℕ) {r : Ride} {end : ℕ} → Onward t target r end → within bound end ≡ true → (w : ℕ) × AtMost (bestInTicks t target bound (r .board)) w
   ticks-exist target bound (leaves {r} is e) b =
       (arrivalWorth r, ride-at-most (offInTicks target bound) target t r is (ticks-landed target bound) (arrivalWorth r) (ticks-at-target target bound r _ e b))
   ticks-exist target bound (changes {r} {next} {end} is caught on) b =
