@@ -21,3 +21,4 @@ pub mod Optimal
 pub mod PlanSet
 pub mod ChosenWords
 pub mod Sorting
+pub mod Means
