@@ -22,3 +22,4 @@ pub mod PlanSet
 pub mod ChosenWords
 pub mod Sorting
 pub mod Means
+pub mod Choices
