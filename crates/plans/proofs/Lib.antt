@@ -23,3 +23,5 @@ pub mod ChosenWords
 pub mod Sorting
 pub mod Means
 pub mod Choices
+pub mod Forward
+pub mod Course
