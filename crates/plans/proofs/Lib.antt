@@ -25,3 +25,4 @@ pub mod Means
 pub mod Choices
 pub mod Forward
 pub mod Course
+pub mod Reached
