@@ -26,3 +26,4 @@ pub mod Choices
 pub mod Forward
 pub mod Course
 pub mod Reached
+pub mod Sandwich
