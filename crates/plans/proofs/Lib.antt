@@ -27,3 +27,6 @@ pub mod Forward
 pub mod Course
 pub mod Reached
 pub mod Sandwich
+pub mod Safe
+pub mod Walked
+pub mod Demand3
