@@ -16,8 +16,8 @@ use Rattle.plans.specs.Walk.{Sailed, Standing, firstSailed, landed, step
 use Rattle.plans.proofs.Open.{boards-stop, too-late}
 use Rattle.plans.proofs.Forward.{Timed, AllTimed, one, rides-forward}
 
-abbrev pub ridesOf : List Sailed → List Ride
-ridesOf = map (λ s. s .ride)
+abbrev pub ridesSailed : List Sailed → List Ride
+ridesSailed = map (λ s. s .ride)
 
 -- each ride of the plan in turn: boarded where it opens, passed over where not
 unfoldable pub course : List Sailed → Standing → Standing
@@ -116,7 +116,7 @@ lands-later timed rest u among = omega (arith, timed .in-order u among, rides-fo
 
 -- a ride that opens is boarded, and the rest of the walk is in the rides behind it
 pub steps-board :
-    (target : ℕ) (s : Sailed) (sailed : List Sailed) → Timed target (s .ride) (ridesOf sailed) → AllTimed target (ridesOf sailed)
+    (target : ℕ) (s : Sailed) (sailed : List Sailed) → Timed target (s .ride) (ridesSailed sailed) → AllTimed target (ridesSailed sailed)
     → (k : ℕ) (at : Standing) → boards (s .ride) (at .stop) (at .minute) ≡ true
     → steps target (s ∷ sailed) (suc k) at ≡ steps target sailed k (landed at (some s))
 unfolding steps landed
@@ -126,7 +126,7 @@ steps-board target s sailed timed rest k at opens =
       (too-late (s .ride) (s .ride .to) (s .ride .arrives + s .delay) (omega (arith, timed .forward)))
 
 pub steps-shut :
-    (target : ℕ) (s : Sailed) (sailed : List Sailed) → Timed target (s .ride) (ridesOf sailed) → AllTimed target (ridesOf sailed)
+    (target : ℕ) (s : Sailed) (sailed : List Sailed) → Timed target (s .ride) (ridesSailed sailed) → AllTimed target (ridesSailed sailed)
     → (k : ℕ) (at : Standing) → boards (s .ride) (at .stop) (at .minute) ≡ false
     → steps target (s ∷ sailed) k at ≡ steps target sailed k at
 steps-shut target s sailed timed rest =
@@ -140,7 +140,7 @@ steps-end target (suc k) at =
 
 -- as many landings as there are rides go the whole course, and more of them go no further
 pub steps-course :
-    (target : ℕ) (sailed : List Sailed) → AllTimed target (ridesOf sailed) → (k : ℕ) → length sailed ≤ k → (at : Standing)
+    (target : ℕ) (sailed : List Sailed) → AllTimed target (ridesSailed sailed) → (k : ℕ) → length sailed ≤ k → (at : Standing)
     → steps target sailed k at ≡ course sailed at
 unfolding course
 steps-course target [] timed k enough at = steps-end target k at

@@ -30,3 +30,6 @@ pub mod Sandwich
 pub mod Safe
 pub mod Walked
 pub mod Demand3
+pub mod Meeting
+pub mod EveryRide
+pub mod Boarded

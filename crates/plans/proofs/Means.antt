@@ -3,7 +3,7 @@ use Prim.Native.Nat.{ℕ, zero, suc, pred, _+_, _*_, _/_, _≤_, _<_}
 use mathlib.Core.Bool.{Bool, true, false, cond}
 use mathlib.Core.List.{List, [], _∷_}
 use mathlib.Core.Path.{_≡_, refl, sym, _∙_, ap}
-use native.Mathlib.Nat.{mul-le-mul-left, add-zero}
+use native.Mathlib.Nat.{add-zero}
 use native.Mathlib.Omega.{arith}
 use lib.Dec.{eqb}
 use lib.ListN.{length}
@@ -11,17 +11,6 @@ use Rattle.laws.proofs.Tests.{ifb}
 use Rattle.timetable.specs.Classes.{sum, whole}
 use Rattle.plans.specs.Rides.{Ride}
 use Rattle.plans.specs.Worth.{ticks, up, weigh, Valued, caught, arrivalWorth, changeWorth, landWorth}
-
--- a greater worth at each delay makes a greater sum
-pub weigh-mono :
-    (shares : List ℕ) (a : ℕ) (f g : ℕ → ℕ) → ((m : ℕ) → a ≤ m → m < a + length shares → f m ≤ g m)
-    → weigh shares a f ≤ weigh shares a g
-unfolding weigh
-weigh-mono [] a f g h = omega arith
-weigh-mono (p ∷ shares) a f g h =
-    omega (
-      arith, mul-le-mul-left p (h a (omega arith) (omega arith)),
-      weigh-mono shares (suc a) f g (λ m from below. h m (omega arith) (omega arith)))
 
 pub weigh-scale : (shares : List ℕ) (a k : ℕ) (f : ℕ → ℕ) → weigh shares a (λ m. k * f m) ≡ k * weigh shares a f
 unfolding weigh

@@ -15,7 +15,7 @@ use Rattle.plans.specs.Worth.{Valued}
 use Rattle.plans.specs.Plan.{latestOf}
 use Rattle.plans.specs.Walk.{Sailed, Standing, firstSailed, landed, step, steps}
 use Rattle.plans.proofs.Forward.{Served, over, onward, Forward, served-sooner, served-behind, delay-latest}
-use Rattle.plans.proofs.Course.{ridesOf, course, found-sailed, steps-keep}
+use Rattle.plans.proofs.Course.{ridesSailed, course, found-sailed, steps-keep}
 
 -- delays from 0 to M
 abbrev pub InRange : List Sailed → Type 0
@@ -23,8 +23,8 @@ InRange sailed = (s : Sailed) → List·Memᴰ s sailed → s .delay < length (s
 
 -- the course ends at the target
 pub course-reaches :
-    (target : ℕ) (sailed : List Sailed) → Forward target (ridesOf sailed) → InRange sailed → (at : Standing)
-    → Served target (ridesOf sailed) (at .stop) (at .minute) → course sailed at .stop ≡ target
+    (target : ℕ) (sailed : List Sailed) → Forward target (ridesSailed sailed) → InRange sailed → (at : Standing)
+    → Served target (ridesSailed sailed) (at .stop) (at .minute) → course sailed at .stop ≡ target
 unfolding course landed
 course-reaches target [] forward ranged at (over there) = there
 course-reaches target [] forward ranged at (onward next among opens) = absurd (List·Memᴰ·not-nil among)
@@ -42,17 +42,17 @@ course-reaches target (s ∷ sailed) (Forward.one timed goes-on rest) ranged at 
 -- wherever one lands in the plan, one is served
 pub steps-served :
     (target : ℕ) (sailed : List Sailed) → InRange sailed
-    → ((r : Ride) → List·Memᴰ r (ridesOf sailed) → Served target (ridesOf sailed) (r .to) (latest r)) → (k : ℕ) (at : Standing)
-    → Served target (ridesOf sailed) (at .stop) (at .minute)
-    → Served target (ridesOf sailed) (steps target sailed k at .stop) (steps target sailed k at .minute)
+    → ((r : Ride) → List·Memᴰ r (ridesSailed sailed) → Served target (ridesSailed sailed) (r .to) (latest r)) → (k : ℕ) (at : Standing)
+    → Served target (ridesSailed sailed) (at .stop) (at .minute)
+    → Served target (ridesSailed sailed) (steps target sailed k at .stop) (steps target sailed k at .minute)
 unfolding landed
 steps-served target sailed ranged goes-on =
-    steps-keep (λ at. Served target (ridesOf sailed) (at .stop) (at .minute)) target sailed lands
+    steps-keep (λ at. Served target (ridesSailed sailed) (at .stop) (at .minute)) target sailed lands
   where
     lands :
-        (at : Standing) (s : Sailed) → Served target (ridesOf sailed) (at .stop) (at .minute)
+        (at : Standing) (s : Sailed) → Served target (ridesSailed sailed) (at .stop) (at .minute)
         → firstSailed sailed (at .stop) (at .minute) ≡ some s
-        → Served target (ridesOf sailed) (landed at (some s) .stop) (landed at (some s) .minute)
+        → Served target (ridesSailed sailed) (landed at (some s) .stop) (landed at (some s) .minute)
     lands at s served found =
         let there = found-sailed sailed (at .stop) (at .minute) found .0 in
         served-sooner (s .ride .arrives + s .delay) (delay-latest (s .ride) (s .delay) (ranged s there))
@@ -60,7 +60,7 @@ steps-served target sailed ranged goes-on =
 
 -- one who is served away from the target finds a ride
 find :
-    (sailed : List Sailed) (stop minute : ℕ) (next : Ride) → List·Memᴰ next (ridesOf sailed) → boards next stop minute ≡ true
+    (sailed : List Sailed) (stop minute : ℕ) (next : Ride) → List·Memᴰ next (ridesSailed sailed) → boards next stop minute ≡ true
     → (s : Sailed) × (firstSailed sailed stop minute ≡ some s)
 unfolding firstSailed
 find [] stop minute next among opens = absurd (List·Memᴰ·not-nil among)
@@ -73,14 +73,14 @@ find (u ∷ sailed) stop minute next (List·Memᴰ·tail among) opens =
     (λ here. (u, refl)) (λ shut. find sailed stop minute next among opens)
 
 pub served-finds :
-    {target : ℕ} (sailed : List Sailed) (stop minute : ℕ) → Served target (ridesOf sailed) stop minute → stop ≢ target
+    {target : ℕ} (sailed : List Sailed) (stop minute : ℕ) → Served target (ridesSailed sailed) stop minute → stop ≢ target
     → (s : Sailed) × (firstSailed sailed stop minute ≡ some s)
 served-finds sailed stop minute (over there) elsewhere = absurd (elsewhere there)
 served-finds sailed stop minute (onward next among opens) elsewhere = find sailed stop minute next among (T-true opens)
 
 -- nobody lands later than the latest minute
 pub steps-in-time :
-    (target last : ℕ) (sailed : List Sailed) → InRange sailed → ((r : Ride) → List·Memᴰ r (ridesOf sailed) → latest r ≤ last)
+    (target last : ℕ) (sailed : List Sailed) → InRange sailed → ((r : Ride) → List·Memᴰ r (ridesSailed sailed) → latest r ≤ last)
     → (k : ℕ) (at : Standing) → at .minute ≤ last → steps target sailed k at .minute ≤ last
 unfolding landed
 steps-in-time target last sailed ranged by-last = steps-keep (λ at. at .minute ≤ last) target sailed lands

@@ -15,7 +15,8 @@ use Rattle.timetable.specs.Classes.{sum, whole}
 use Rattle.plans.specs.Rides.{Ride, boards, latest}
 use Rattle.plans.specs.Worth.{ticks, up, weigh, Valued, firstOpen, worthOr, caught, landWorth, valued}
 use Rattle.plans.specs.Walk.{Sailed, Standing, landed}
-use Rattle.plans.proofs.Means.{standingWorth, weigh-mono, weigh-scale, weigh-add, weigh-constant, weigh-shift, up-reaches, up-loses, land-mean}
+use Rattle.plans.proofs.Weighing.{weigh-less}
+use Rattle.plans.proofs.Means.{standingWorth, weigh-scale, weigh-add, weigh-constant, weigh-shift, up-reaches, up-loses, land-mean}
 use Rattle.plans.proofs.Choices.{Delayed, late, total, total-cons, total-nil}
 use Rattle.plans.proofs.Forward.{Timed, Served, over, onward, Forward, served-sooner, served-behind, landing-latest}
 use Rattle.plans.proofs.Open.{boards-stop}
@@ -98,7 +99,7 @@ board-within target r behind at timed opens each =
     rw (mean-boards r behind at opens, worth-boards target r behind at timed opens, pow-succ' whole (length behind))
     (round (whole ^ length behind) (weigh (r .shares) (r .arrives) (λ minute. mean behind (off at r minute))) worths
       (le-trans
-        (weigh-mono (r .shares) (r .arrives) (λ minute. mean behind (off at r minute))
+        (weigh-less (r .shares) (r .arrives) (λ minute. mean behind (off at r minute))
           (λ minute. whole ^ length behind * worthAt target behind (off at r minute)) each)
         (le-of-eq (weigh-scale (r .shares) (r .arrives) (whole ^ length behind) (λ minute. worthAt target behind (off at r minute))))))
   where
@@ -152,7 +153,7 @@ sums-within :
     → power * weigh shares a worths + whole * (power * b) ≤ weigh shares a means + whole * (power * most)
 sums-within shares a worths means power b most full each =
     omega (
-      arith, weigh-mono shares a (λ minute. power * worths minute + power * b) (λ minute. means minute + power * most) each,
+      arith, weigh-less shares a (λ minute. power * worths minute + power * b) (λ minute. means minute + power * most) each,
       weigh-add shares a (λ minute. power * worths minute) (λ minute. power * b), weigh-scale shares a power worths,
       weigh-constant shares a (power * b) ∙ ap (λ n. n * (power * b)) full, weigh-add shares a means (λ minute. power * most),
       weigh-constant shares a (power * most) ∙ ap (λ n. n * (power * most)) full)

@@ -27,7 +27,7 @@ use Rattle.plans.proofs.Choices.{Delayed, total, total-same, choice-del
 use Rattle.plans.proofs.Forward.{Timed, Served, over, onward, Forward, forward-timed}
 use Rattle.plans.proofs.Open.{boards-minute, boards-stop}
 use Rattle.plans.proofs.RideMinutes.{departs-before}
-use Rattle.plans.proofs.Course.{ridesOf, course, steps-course}
+use Rattle.plans.proofs.Course.{ridesSailed, course, steps-course}
 use Rattle.plans.proofs.Reached.{InRange, course-reaches, steps-served, served-finds, steps-in-time, steps-count, latest-most}
 use Rattle.plans.proofs.Sandwich.{mean, worthAt, AtMostRides, mean-within, mean-strictly-above}
 use Rattle.plans.proofs.Safe.{plan-serves, safe-forward}
@@ -87,7 +87,7 @@ module _ {t : Timetable} (q : Query) (bound : ℕ) (rides : List Ride) (safe : S
         (subst (λ (x : List Ride). Served (q .target) x (q .source) (q .minute)) (sym (delayed-rides delayed)) begins-served))
       elsewhere
     where
-      serves : (r : Ride) → List·Memᴰ r (ridesOf sailed) → Served (q .target) (ridesOf sailed) (r .to) (latest r)
+      serves : (r : Ride) → List·Memᴰ r (ridesSailed sailed) → Served (q .target) (ridesSailed sailed) (r .to) (latest r)
       serves =
           subst (λ (x : List Ride). (r : Ride) → List·Memᴰ r x → Served (q .target) x (r .to) (latest r)) (sym (delayed-rides delayed))
           (plan-serves q bound rides safe)
