@@ -6,11 +6,13 @@ use mathlib.Core.Option.{Option, none, some}
 use mathlib.Core.Path.{_≡_, refl, sym, _∙_, ap, subst}
 use native.Mathlib.Omega.{arith}
 use lib.ListN.{length}
+use Rattle.laws.proofs.Options.{absent, same-thing}
 use Rattle.timetable.specs.Timetable.{Timetable}
 use Rattle.plans.specs.declared.Query.{Query}
 use Rattle.plans.specs.Rides.{Ride, boards}
 use Rattle.plans.specs.Worth.{Valued, firstOpen}
-use Rattle.plans.specs.Plan.{Plan, Window, upTo, extract, ridesFrom, chosenFor}
+use Rattle.plans.specs.Journeys.{boundOf}
+use Rattle.plans.specs.Plan.{Plan, Window, upTo, extract, ridesFrom, chosenFor, earliest, latestOf, planWithin, planBefore, planned}
 use Rattle.plans.specs.Sound.{Timely}
 use Rattle.plans.specs.Walk.{Sailed, start, choices, Boards}
 use Rattle.plans.proofs.Open.{boards-stop, boards-minute, can-board}
@@ -77,3 +79,17 @@ module _ (t : Timetable) (timely : Timely t) (q : Query) (p : Plan) (made : Made
 
       delayed : Delayed (ridesOf (p .rides)) (e .sailed)
       delayed = subst (λ (l : List Valued). Delayed (ridesOf l) (e .sailed)) (sym (made .holds)) (e .delayed)
+
+-- the plan's latest minute is that of its rides
+pub plan-last : (t : Timetable) (q : Query) (p : Plan) → planned t q ≡ some p → p .last ≡ latestOf (p .rides)
+unfolding planned planBefore planWithin
+plan-last t q p is-planned = before (earliest t q) is-planned
+  where
+    within : (bound : ℕ) (first : Option Valued) → planWithin t q bound first ≡ some p → p .last ≡ latestOf (p .rides)
+    within bound none e = absent e
+    within bound (some first) e = subst (λ (x : Plan). x .last ≡ latestOf (x .rides)) (same-thing e) refl
+
+    before : (end : Option ℕ) → planBefore t q end ≡ some p → p .last ≡ latestOf (p .rides)
+    before none e = absent e
+    before (some end) e =
+        within (boundOf q end) (firstOpen (chosenFor t (q .target) (boundOf q end)) (q .source) (q .minute)) e

@@ -8,3 +8,4 @@ pub mod Plan
 pub mod SafePlan
 pub mod Walk
 pub mod Words
+pub mod Passenger
