@@ -29,7 +29,8 @@ pub mod Reached
 pub mod Sandwich
 pub mod Safe
 pub mod Walked
-pub mod Demand3
+pub mod RowNumbers
 pub mod Meeting
 pub mod EveryRide
 pub mod Boarded
+pub mod Demand3
