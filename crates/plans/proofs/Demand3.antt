@@ -1,7 +1,7 @@
 -- Demand 3, for every safe plan with its own worths and for the plan that demand 2 fixes. Uses all that a sound timetable keeps.
 use Prim.Native.Nat.{ℕ, _^_}
 use mathlib.Core.List.{List, map, List·Memᴰ}
-use mathlib.Core.Option.{Option, some}
+use mathlib.Core.Option.{some}
 use mathlib.Core.Path.{_≡_, sym, subst}
 use lib.ListN.{length}
 use Rattle.timetable.specs.Timetable.{Timetable}

@@ -1,16 +1,13 @@
 -- A safe plan by boarding row rising, over a timely timetable, goes forward: what a ride leads to stands behind it. Assumes nothing.
-use Prim.Native.Nat.{ℕ, zero, suc, _+_, _≤_, _<_}
-use mathlib.Core.Bool.{Bool, true, false}
+use Prim.Native.Nat.{ℕ, _≤_, _<_}
 use mathlib.Core.List.{List, [], _∷_, List·Memᴰ, List·Memᴰ·head, List·Memᴰ·tail, List·Memᴰ·cases-cons}
-use mathlib.Core.Logic.{_≢_, _⊎_, inl, inr}
-use mathlib.Core.Path.{_≡_, refl, sym, _∙_, ap, subst}
+use mathlib.Core.Logic.{_⊎_, inl, inr}
+use mathlib.Core.Path.{_≡_, refl, ap}
 use native.Mathlib.Omega.{arith}
 use borrow.Author.Tests.{eqb-true, eqb-false}
 use lib.Dec.{T, eqb}
-use lib.ListN.{length}
 use Rattle.laws.proofs.Tests.{ifb, T-true}
 use Rattle.timetable.specs.Timetable.{Timetable}
-use Rattle.timetable.specs.Classes.{sum, whole}
 use Rattle.plans.specs.declared.Query.{Query}
 use Rattle.plans.specs.Rides.{Ride, IsRide, latest, boards}
 use Rattle.plans.specs.SafePlan.{SafePlan, Rising}

@@ -1,9 +1,9 @@
 -- The mean arrival over all delays lies within the expected ticks, less than one tick a ride below. Assumes nothing.
-use Prim.Native.Nat.{ℕ, zero, suc, _+_, _-_, _*_, _^_, _≤_, _<_}
+use Prim.Native.Nat.{ℕ, suc, _+_, _-_, _*_, _^_, _≤_, _<_}
 use mathlib.Core.Bool.{Bool, true, false, cond}
 use mathlib.Core.List.{List, [], _∷_, List·Memᴰ·not-nil}
 use mathlib.Core.Logic.{_≢_}
-use mathlib.Core.Option.{Option, none, some}
+use mathlib.Core.Option.{none, some}
 use mathlib.Core.Path.{_≡_, refl, sym, _∙_, ap, subst}
 use native.Mathlib.Nat.{mul-le-mul-left, add-zero, pow-succ', one-le-pow, le-trans, le-of-eq}
 use native.Mathlib.Omega.{arith}
@@ -12,8 +12,8 @@ use lib.Dec.{eqb}
 use lib.ListN.{length}
 use Rattle.laws.proofs.Tests.{ifb, cond-true, cond-false}
 use Rattle.timetable.specs.Classes.{sum, whole}
-use Rattle.plans.specs.Rides.{Ride, boards, latest}
-use Rattle.plans.specs.Worth.{ticks, up, weigh, Valued, firstOpen, worthOr, caught, landWorth, valued}
+use Rattle.plans.specs.Rides.{Ride, boards}
+use Rattle.plans.specs.Worth.{ticks, up, weigh, firstOpen, worthOr, caught, landWorth, valued}
 use Rattle.plans.specs.Walk.{Sailed, Standing, landed}
 use Rattle.plans.proofs.Weighing.{weigh-less}
 use Rattle.plans.proofs.Means.{standingWorth, weigh-scale, weigh-add, weigh-constant, weigh-shift, up-reaches, up-loses, land-mean}

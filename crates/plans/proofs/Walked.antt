@@ -1,34 +1,33 @@
 -- A safe plan's walk under any choice of delays, from the query's source and minute. Assumes nothing.
-use Prim.Native.Nat.{ℕ, zero, suc, _+_, _*_, _^_, _≤_, _<_, max}
-use mathlib.Core.Bool.{Bool, true, false, cond}
-use mathlib.Core.List.{List, [], _∷_, map, List·Memᴰ, List·Memᴰ·head, List·Memᴰ·tail, List·Memᴰ·not-nil, Memᴰ·of-map, Memᴰ·map}
+use Prim.Native.Nat.{ℕ, _+_, _*_, _^_, _≤_, _<_, max}
+use mathlib.Core.Bool.{true, cond}
+use mathlib.Core.List.{List, [], _∷_, map, List·Memᴰ, List·Memᴰ·head, List·Memᴰ·tail, Memᴰ·of-map}
 use mathlib.Core.Logic.{_≢_}
 use mathlib.Core.Option.{Option, none, some}
 use mathlib.Core.Path.{_≡_, refl, sym, _∙_, ap, subst}
 use native.Mathlib.Nat.{le-trans, le-of-eq, le-max-left, le-max-right}
 use native.Mathlib.Omega.{arith}
 use borrow.Author.Tests.{ne-eqb}
-use lib.Dec.{T, eqb}
 use lib.ListN.{length, length-map}
 use Rattle.laws.proofs.Tests.{ifb, T-true, cond-true, cond-false}
 use Rattle.laws.proofs.Options.{absent, same-thing}
 use Rattle.timetable.specs.Timetable.{Timetable}
-use Rattle.timetable.specs.Classes.{sum, whole}
+use Rattle.timetable.specs.Classes.{whole}
 use Rattle.plans.specs.declared.Query.{Query}
-use Rattle.plans.specs.Rides.{Ride, IsRide, latest, boards}
+use Rattle.plans.specs.Rides.{Ride, latest, boards}
 use Rattle.plans.specs.Worth.{ticks, Valued, valued, firstOpen, caught, worthOr, landWorth}
 use Rattle.plans.specs.Chosen.{worthOf}
 use Rattle.plans.specs.Plan.{latestOf}
 use Rattle.plans.specs.SafePlan.{SafePlan, Rising, expectedOf}
 use Rattle.plans.specs.Sound.{Timely}
-use Rattle.plans.specs.Walk.{Sailed, Standing, firstSailed, steps, start, walked, choices, weight, weightedArrivals, largest, longestWay}
+use Rattle.plans.specs.Walk.{Sailed, Standing, firstSailed, steps, start, walked, choices, weightedArrivals, largest, longestWay}
 use Rattle.plans.proofs.Means.{standingWorth}
-use Rattle.plans.proofs.Choices.{Delayed, total, total-same, choice-delayed, delayed-choice, delayed-rides, delayed-range}
-use Rattle.plans.proofs.Forward.{Timed, Served, over, onward, Forward, forward-timed}
+use Rattle.plans.proofs.Choices.{Delayed, total, total-same, delayed-choice, delayed-rides, delayed-range}
+use Rattle.plans.proofs.Forward.{Served, onward, Forward, forward-timed}
 use Rattle.plans.proofs.Open.{boards-minute, boards-stop}
 use Rattle.plans.proofs.RideMinutes.{departs-before}
 use Rattle.plans.proofs.Course.{ridesSailed, course, steps-course}
-use Rattle.plans.proofs.Reached.{InRange, course-reaches, steps-served, served-finds, steps-in-time, steps-count, latest-most}
+use Rattle.plans.proofs.Reached.{course-reaches, steps-served, served-finds, steps-in-time, steps-count, latest-most}
 use Rattle.plans.proofs.Sandwich.{mean, worthAt, AtMostRides, mean-within, mean-strictly-above}
 use Rattle.plans.proofs.Safe.{plan-serves, safe-forward}
 

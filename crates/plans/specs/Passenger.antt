@@ -2,7 +2,7 @@
 use Prim.Native.Nat.{ℕ, _+_, _*_, _^_, _≤_, _<_}
 use mathlib.Core.List.{List, List·Memᴰ}
 use mathlib.Core.Logic.{_≢_}
-use mathlib.Core.Option.{Option, some}
+use mathlib.Core.Option.{some}
 use mathlib.Core.Path.{_≡_}
 use lib.ListN.{length}
 use Rattle.timetable.specs.Classes.{whole}
