@@ -42,13 +42,18 @@ module _ (t : Timetable) (timely : Timely t) (q : Query) (p : Plan) (made : Made
   entry-meets {r} e =
       meets-sooner (q .minute)
       (omega (
-        arith, ap (λ w. w .minute) is,
-        boards-minute (e .first .ride) (e .window .stop) (e .window .minute) (window-boards (e .window) (e .first .ride) (e .in-window))))
+        arith,
+        ap (λ w. w .minute) is,
+        boards-minute (e .first .ride) (e .window .stop) (e .window .minute) (window-boards (e .window) (e .first .ride) (e .in-window)),
+      ))
       (λ s there opens. can-board (s .ride) (q .source) (e .first .ride .departs) (boards-stop (s .ride) (q .source) (q .minute) opens)
-        (omega (
-          arith, window-until (e .window) (e .first .ride) (e .in-window), ap (λ w. w .until) is,
-          taken-after chosen (extract (q .target) windows chosen) (for-ordered t timely (q .target) (p .bound))
-          (λ v among. extract-member (q .target) chosen windows among) (q .source) (q .minute) (found .1) (e .delayed) s there opens)))
+      (omega (
+        arith,
+        window-until (e .window) (e .first .ride) (e .in-window),
+        ap (λ w. w .until) is,
+        taken-after chosen (extract (q .target) windows chosen) (for-ordered t timely (q .target) (p .bound))
+            (λ v among. extract-member (q .target) chosen windows among) (q .source) (q .minute) (found .1) (e .delayed) s there opens,
+      )))
       (subst (λ (stop : ℕ). Meets r (e .sailed) stop (e .first .ride .departs)) (ap (λ w. w .stop) is) (e .meets))
     where
       found :
@@ -63,12 +68,14 @@ module _ (t : Timetable) (timely : Timely t) (q : Query) (p : Plan) (made : Made
       (v : Valued) → List·Memᴰ v (p .rides)
       → (sailed : List Sailed) × List·Memᴰ sailed (choices (ridesOf (p .rides))) × Boards (q .target) sailed (start q) (v .ride)
   unfolding chosen windows ridesFrom
-  plan-boards v among =
-      (e .sailed, delayed-choice delayed,
-        meets-boards (q .target) (e .sailed)
+  plan-boards v among = (
+    e .sailed,
+    delayed-choice delayed,
+    meets-boards (q .target) (e .sailed)
         (subst (AllTimed (q .target)) (sym (delayed-rides delayed))
-          (forward-timed (safe-forward timely q (p .bound) (ridesOf (p .rides)) (plan-safe t timely q p made) (plan-rising t timely q p made))))
-        (start q) (entry-meets e))
+        (forward-timed (safe-forward timely q (p .bound) (ridesOf (p .rides)) (plan-safe t timely q p made) (plan-rising t timely q p made))))
+        (start q) (entry-meets e),
+  )
     where
       e : Entry windows chosen (extract (q .target) windows chosen) (v .ride)
       e =

@@ -30,11 +30,12 @@ delays-hold :
 unfolding withDelays
 delays-hold r v [] ways w sailed from below way = absurd (let z : ⊥ = omega arith in z)
 delays-hold r v (p ∷ shares) ways w sailed from below way =
-    elim (decLe (suc v) w)
-    [ yes further ↦ Memᴰ·append-right (map (λ sailed. late r v ∷ sailed) ways)
-      (delays-hold r (suc v) shares ways w sailed further (omega arith) way)
-    | no here ↦ Memᴰ·append-left (withDelays r (suc v) shares ways)
-      (Memᴰ·cast (ap (λ x. late r x ∷ sailed) (omega arith)) (Memᴰ·map (λ sailed. late r v ∷ sailed) way)) ]
+    elim (decLe (suc v) w) [
+      | yes further ↦ Memᴰ·append-right (map (λ sailed. late r v ∷ sailed) ways)
+          (delays-hold r (suc v) shares ways w sailed further (omega arith) way)
+      | no here ↦ Memᴰ·append-left (withDelays r (suc v) shares ways)
+          (Memᴰ·cast (ap (λ x. late r x ∷ sailed) (omega arith)) (Memᴰ·map (λ sailed. late r v ∷ sailed) way))
+    ]
 
 -- a choice of withDelays, taken apart
 record Apart (r : Ride) (v : ℕ) (shares : List ℕ) (ways : List (List Sailed)) (sailed : List Sailed) : Type 0 where
@@ -141,9 +142,9 @@ total-delays r v (p ∷ shares) ways f share =
     ap sum (map-append g (map (λ sailed. late r v ∷ sailed) ways) (withDelays r (suc v) shares ways))
     ∙ sum-append (map g (map (λ sailed. late r v ∷ sailed) ways)) (map g (withDelays r (suc v) shares ways))
     ∙ ap₂ (λ x y. x + y)
-      (sum-scale p (λ sailed. late r v ∷ sailed) g (λ sailed. weight sailed * f (late r v ∷ sailed)) ways 
-      (λ sailed. weight-late r v p f sailed (ap (λ k. getD (r .shares) k 0) (sym (add-zero v)) ∙ share 0)))
-      (total-delays r (suc v) shares ways f (λ i. ap (λ k. getD (r .shares) k 0) (omega arith) ∙ share (suc i)))
+    (sum-scale p (λ sailed. late r v ∷ sailed) g (λ sailed. weight sailed * f (late r v ∷ sailed)) ways
+    (λ sailed. weight-late r v p f sailed (ap (λ k. getD (r .shares) k 0) (sym (add-zero v)) ∙ share 0)))
+    (total-delays r (suc v) shares ways f (λ i. ap (λ k. getD (r .shares) k 0) (omega arith) ∙ share (suc i)))
 
 -- the first ride's delays, each with the sum over the rest
 pub total-cons :

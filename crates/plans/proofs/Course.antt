@@ -56,7 +56,7 @@ steps-keep P target sailed lands zero at here = here
 steps-keep P target sailed lands (suc k) at here =
     steps-keep P target sailed lands k (step target sailed at)
     (ifb (λ b. P (cond b at (landed at (firstSailed sailed (at .stop) (at .minute))))) (eqb (at .stop) target) (λ over. here)
-      (λ onward. go (firstSailed sailed (at .stop) (at .minute)) (λ s. lands at s here)))
+    (λ onward. go (firstSailed sailed (at .stop) (at .minute)) (λ s. lands at s here)))
   where
     go : (o : Option Sailed) → ((s : Sailed) → o ≡ some s → P (landed at (some s))) → P (landed at o)
     go none lands-here = here
@@ -123,7 +123,7 @@ unfolding steps landed
 steps-board target s sailed timed rest k at opens =
     ap (steps target (s ∷ sailed) k) (board-one target s sailed at (timed .off-target) opens)
     ∙ steps-pass target s sailed (λ u among. lands-later timed rest (u .ride) (Memᴰ·map (λ x. x .ride) among)) k (landed at (some s))
-      (too-late (s .ride) (s .ride .to) (s .ride .arrives + s .delay) (omega (arith, timed .forward)))
+    (too-late (s .ride) (s .ride .to) (s .ride .arrives + s .delay) (omega (arith, timed .forward)))
 
 pub steps-shut :
     (target : ℕ) (s : Sailed) (sailed : List Sailed) → Timed target (s .ride) (ridesSailed sailed) → AllTimed target (ridesSailed sailed)

@@ -53,7 +53,7 @@ module _ {t : Timetable} (timely : Timely t) (q : Query) where
         let made = plan-made t q p is-planned in
         subst (λ (last : ℕ). Carries q (ridesOf (p .rides)) last (p .expected)) (sym (plan-last t q p is-planned))
         (rides-carry (p .bound) (ridesOf (p .rides)) (plan-safe t timely q p made) (plan-rising t timely q p made) (p .rides) (λ i. ridesOf (p .rides))
-          (p .expected) (plan-expected t timely q p made))
+        (p .expected) (plan-expected t timely q p made))
 
     -- every ride is boarded under some such delays
     pub every-ride-boarded :

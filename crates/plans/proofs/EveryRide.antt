@@ -80,8 +80,10 @@ pub taken-after :
 taken-after chosen taken ordered part stop minute is-first delayed s there opens =
     let found = Memᴰ·of-map (λ v. v .ride) taken (subst (List·Memᴰ (s .ride)) (delayed-rides delayed) (Memᴰ·map (λ x. x .ride) there)) in
     omega (
-      arith, ap (λ x. x .departs) (found .2),
-      first-departs chosen ordered stop minute is-first (part (found .0) (found .1)) (ap (λ x. boards x stop minute) (found .2) ∙ opens))
+      arith,
+      ap (λ x. x .departs) (found .2),
+      first-departs chosen ordered stop minute is-first (part (found .0) (found .1)) (ap (λ x. boards x stop minute) (found .2) ∙ opens),
+    )
 
 -- a delay of u after which r is met
 record Landing (u r : Ride) (sailed : List Sailed) : Type 0 where
@@ -116,7 +118,7 @@ landing u {r} {sailed} {minute} some-share from none-between meets = pick (decLe
           meets =
               meets-sooner (latest u) (omega (arith, after))
               (λ s there opens.
-                can-board (s .ride) (u .to) minute (boards-stop (s .ride) (u .to) (latest u) opens) (none-between s there opens))
+              can-board (s .ride) (u .to) minute (boards-stop (s .ride) (u .to) (latest u) opens) (none-between s there opens))
               meets;
         }
 
@@ -165,7 +167,7 @@ module _ {ws : List Window} {u : Valued} {behind taken : List Valued} (w : Windo
       others =
           on-time (ridesOf taken)
           (λ r there. let found = Memᴰ·of-map (λ v. v .ride) taken there in
-            subst (λ (x : Ride). 0 < length (x .shares)) (found .2) (shares (found .0) (found .1)))
+          subst (λ (x : Ride). 0 < length (x .shares)) (found .2) (shares (found .0) (found .1)))
 
   -- and what is met from the window that it opens
   entry-onward :
@@ -188,15 +190,20 @@ module _ {ws : List Window} {u : Valued} {behind taken : List Valued} (w : Windo
           → e .first .ride .departs ≤ s .ride .departs
       none-between s there opens =
           omega (
-            arith, window-until (e .window) (e .first .ride) (e .in-window), ap (λ x. x .until) (opened .is),
-            taken-after behind taken ordered part (u .ride .to) (latest (u .ride)) (opened .is-first) (e .delayed) s there opens)
+            arith,
+            window-until (e .window) (e .first .ride) (e .in-window),
+            ap (λ x. x .until) (opened .is),
+            taken-after behind taken ordered part (u .ride .to) (latest (u .ride)) (opened .is-first) (e .delayed) s there opens,
+          )
 
       landed : Landing (u .ride) r (e .sailed)
       landed =
           landing (u .ride) some-share
           (omega (
-            arith, ap (λ x. x .minute) (opened .is),
-            boards-minute (e .first .ride) (e .window .stop) (e .window .minute) (window-boards (e .window) (e .first .ride) (e .in-window))))
+            arith,
+            ap (λ x. x .minute) (opened .is),
+            boards-minute (e .first .ride) (e .window .stop) (e .window .minute) (window-boards (e .window) (e .first .ride) (e .in-window)),
+          ))
           none-between (subst (λ (stop : ℕ). Meets r (e .sailed) stop (e .first .ride .departs)) (ap (λ x. x .stop) (opened .is)) (e .meets))
 
 -- what is met from an older window is met all the same: a ride taken before does not depart then and there
@@ -226,9 +233,11 @@ entry-older {u = u} some-share before e among =
     shut =
         ifb (λ b. boards (u .ride) stop (e .first .ride .departs) ≡ b → b ≡ false) (boards (u .ride) stop (e .first .ride .departs))
         (λ _ opens. absurd (let z : ⊥ = omega (
-          arith, boards-minute (u .ride) stop (e .first .ride .departs) opens,
+          arith,
+          boards-minute (u .ride) stop (e .first .ride .departs) opens,
           before (e .first) (e .is-chosen) .apart
-          (boards-stop (u .ride) stop (e .first .ride .departs) opens ∙ sym (boards-stop (e .first .ride) stop (e .window .minute) there))) in z))
+              (boards-stop (u .ride) stop (e .first .ride .departs) opens ∙ sym (boards-stop (e .first .ride) stop (e .window .minute) there)),
+        ) in z))
         (λ _ _. refl) refl
 
 entry-passed :
@@ -255,7 +264,7 @@ entries target (u ∷ behind) (ahead before ordered) shares ws v there =
     (λ b. wanted ws (u .ride) ≡ b → List·Memᴰ v (cond b (u ∷ taken) passed) → Entry ws (u ∷ behind) (cond b (u ∷ taken) passed) (v .ride))
     (wanted ws (u .ride))
     (λ _ wants among. head-or-later (Entry ws (u ∷ behind) (u ∷ taken) (v .ride)) among (itself wants)
-      (λ later. onward wants (entries target behind ordered shares-behind (windowsOf target (u .ride) behind ++ ws) v later)))
+    (λ later. onward wants (entries target behind ordered shares-behind (windowsOf target (u .ride) behind ++ ws) v later)))
     (λ _ _ among. entry-passed (entries target behind ordered shares-behind ws v among)) refl there
   where
     taken : List Valued
@@ -286,6 +295,6 @@ entries target (u ∷ behind) (ahead before ordered) shares ws v there =
         let found = wanted-in ws (u .ride) wants in
         ⊎-elim
         (λ (own : List·Memᴰ (e .window) (windowsOf target (u .ride) behind)).
-          entry-onward (found .0) (found .1) (found .2) some-share ordered part e (window-opened target (u .ride) behind own))
+        entry-onward (found .0) (found .1) (found .2) some-share ordered part e (window-opened target (u .ride) behind own))
         (λ (older : List·Memᴰ (e .window) ws). entry-older some-share before e older)
         (List·Memᴰ·append-cases (windowsOf target (u .ride) behind) (e .among))

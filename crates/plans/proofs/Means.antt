@@ -51,8 +51,8 @@ pub weigh-minutes :
 weigh-minutes shares a =
     weigh-scale shares a ticks (λ m. m)
     ∙ ap (λ x. ticks * x)
-      (ap (λ m. weigh shares m (λ m. m)) (sym (add-zero a)) ∙ weigh-shift shares a 0 (λ m. m)
-      ∙ weigh-add shares 0 (λ v. a) (λ v. v) ∙ ap (λ x. x + weigh shares 0 (λ v. v)) (weigh-constant shares 0 a))
+    (ap (λ m. weigh shares m (λ m. m)) (sym (add-zero a)) ∙ weigh-shift shares a 0 (λ m. m)
+    ∙ weigh-add shares 0 (λ v. a) (λ v. v) ∙ ap (λ x. x + weigh shares 0 (λ v. v)) (weigh-constant shares 0 a))
 
 -- 256a + (sum of delay × share)/16 is the sum of share × 256(a + delay), divided by 4,096 and rounded up
 pub arrival-mean :
@@ -61,7 +61,8 @@ unfolding arrivalWorth
 arrival-mean r full =
     omega (
       arith,
-      weigh-minutes (r .shares) (r .arrives) ∙ ap (λ n. ticks * (n * r .arrives + weigh (r .shares) 0 (λ v. v))) full)
+      weigh-minutes (r .shares) (r .arrives) ∙ ap (λ n. ticks * (n * r .arrives + weigh (r .shares) 0 (λ v. v))) full,
+    )
 
 -- every ride is worth the mean of what its landings are worth, rounded up once
 pub land-mean :
@@ -70,7 +71,7 @@ pub land-mean :
 unfolding landWorth changeWorth standingWorth
 land-mean target r behind full =
     ifb (
-      λ b.
-        cond b (arrivalWorth r) (changeWorth r behind)
-        ≡ up whole (weigh (r .shares) (r .arrives) (λ m. cond b (ticks * m) (caught behind (r .to) m))))
+    λ b.
+    cond b (arrivalWorth r) (changeWorth r behind)
+    ≡ up whole (weigh (r .shares) (r .arrives) (λ m. cond b (ticks * m) (caught behind (r .to) m))))
     (eqb (r .to) target) (λ ends. arrival-mean r full) (λ goes-on. refl)

@@ -70,7 +70,8 @@ later-boards target s sailed timed rest at next shut more same {r} b =
         too-late (s .ride) (u .ride .to) (u .ride .arrives + u .delay)
         (omega (
           arith,
-          lands-later timed rest (u .ride) (Memᴰ·map (λ x. x .ride) (found-sailed sailed (x .stop) (x .minute) found .0))))
+          lands-later timed rest (u .ride) (Memᴰ·map (λ x. x .ride) (found-sailed sailed (x .stop) (x .minute) found .0)),
+        ))
 
     still-shut : Shut then
     still-shut = steps-keep Shut target sailed landing (b .landings) next shut

@@ -32,8 +32,8 @@ course-reaches target (s ∷ sailed) (Forward.one timed goes-on rest) ranged at 
     ifb (λ b. cond b (course sailed (landed at (some s))) (course sailed at) .stop ≡ target)
     (boards (s .ride) (at .stop) (at .minute))
     (λ opens.
-      course-reaches target sailed rest behind (landed at (some s))
-      (served-sooner (s .ride .arrives + s .delay) (delay-latest (s .ride) (s .delay) (ranged s (List·Memᴰ·head refl))) goes-on))
+    course-reaches target sailed rest behind (landed at (some s))
+    (served-sooner (s .ride .arrives + s .delay) (delay-latest (s .ride) (s .delay) (ranged s (List·Memᴰ·head refl))) goes-on))
     (λ shut. course-reaches target sailed rest behind at (served-behind shut served))
   where
     behind : InRange sailed

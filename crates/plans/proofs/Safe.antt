@@ -20,8 +20,11 @@ module _ {t : Timetable} (timely : Timely t) where
   pub rides-ordered : {r next : Ride} → IsRide t r → IsRide t next → r .board ≤ next .board → r .departs ≤ next .departs
   rides-ordered {r} {next} is is-next before =
       omega (
-        arith, ap (λ x. x .departs) (is .as-timed), ap (λ x. x .departs) (is-next .as-timed),
-        timely .rising (r .board) (next .board) before (board-inside t timely next is-next))
+        arith,
+        ap (λ x. x .departs) (is .as-timed),
+        ap (λ x. x .departs) (is-next .as-timed),
+        timely .rising (r .board) (next .board) before (board-inside t timely next is-next),
+      )
 
 module _ {t : Timetable} (q : Query) (bound : ℕ) (all : List Ride) (safe : SafePlan t q bound all) where
   -- from each ride's latest landing one is served by the plan

@@ -41,7 +41,7 @@ unfolding mean course landed
 mean-boards r behind at opens =
     total-cons (λ sailed. ticks * course sailed at .minute) r behind
     ∙ ap (λ b. weigh (r .shares) 0
-        (λ v. total (λ sailed. ticks * cond b (course sailed (off at r (r .arrives + v))) (course sailed at) .minute) behind)) opens
+    (λ v. total (λ sailed. ticks * cond b (course sailed (off at r (r .arrives + v))) (course sailed at) .minute) behind)) opens
     ∙ sym (weigh-shift (r .shares) (r .arrives) 0 (λ minute. mean behind (off at r minute)))
     ∙ ap (λ a. weigh (r .shares) a (λ minute. mean behind (off at r minute))) (add-zero (r .arrives))
 
@@ -52,7 +52,7 @@ unfolding mean course landed
 mean-passes r behind at full shut =
     total-cons (λ sailed. ticks * course sailed at .minute) r behind
     ∙ ap (λ b. weigh (r .shares) 0
-        (λ v. total (λ sailed. ticks * cond b (course sailed (off at r (r .arrives + v))) (course sailed at) .minute) behind)) shut
+    (λ v. total (λ sailed. ticks * cond b (course sailed (off at r (r .arrives + v))) (course sailed at) .minute) behind)) shut
     ∙ weigh-constant (r .shares) 0 (mean behind at) ∙ ap (λ n. n * mean behind at) full
 
 -- what standing there is worth by the plan's own worths
@@ -67,8 +67,8 @@ worth-boards target r behind at timed opens =
     cond-false (ticks * at .minute) (caught (valued target (r ∷ behind)) (at .stop) (at .minute))
     (ne-eqb (at .stop) target (λ there. timed .off-target (boards-stop r (at .stop) (at .minute) opens ∙ there)))
     ∙ ap (worthOr 0)
-      (cond-true (some (record { ride = r; worth = landWorth target r (valued target behind) }))
-        (firstOpen (valued target behind) (at .stop) (at .minute)) opens)
+    (cond-true (some (record { ride = r; worth = landWorth target r (valued target behind) }))
+    (firstOpen (valued target behind) (at .stop) (at .minute)) opens)
     ∙ land-mean target r (valued target behind) (timed .full)
 
 worth-passes :
@@ -78,7 +78,7 @@ unfolding standingWorth caught firstOpen valued
 worth-passes target r behind at shut =
     ap (λ o. cond (eqb (at .stop) target) (ticks * at .minute) (worthOr 0 o))
     (cond-false (some (record { ride = r; worth = landWorth target r (valued target behind) }))
-      (firstOpen (valued target behind) (at .stop) (at .minute)) shut)
+    (firstOpen (valued target behind) (at .stop) (at .minute)) shut)
 
 worth-over : (target : ℕ) (rides : List Ride) (at : Standing) → at .stop ≡ target → worthAt target rides at ≡ ticks * at .minute
 unfolding standingWorth
@@ -98,10 +98,10 @@ unfolding Landings
 board-within target r behind at timed opens each =
     rw (mean-boards r behind at opens, worth-boards target r behind at timed opens, pow-succ' whole (length behind))
     (round (whole ^ length behind) (weigh (r .shares) (r .arrives) (λ minute. mean behind (off at r minute))) worths
-      (le-trans
-        (weigh-less (r .shares) (r .arrives) (λ minute. mean behind (off at r minute))
-          (λ minute. whole ^ length behind * worthAt target behind (off at r minute)) each)
-        (le-of-eq (weigh-scale (r .shares) (r .arrives) (whole ^ length behind) (λ minute. worthAt target behind (off at r minute))))))
+    (le-trans
+    (weigh-less (r .shares) (r .arrives) (λ minute. mean behind (off at r minute))
+    (λ minute. whole ^ length behind * worthAt target behind (off at r minute)) each)
+    (le-of-eq (weigh-scale (r .shares) (r .arrives) (whole ^ length behind) (λ minute. worthAt target behind (off at r minute))))))
   where
     worths : ℕ
     worths = weigh (r .shares) (r .arrives) (λ minute. worthAt target behind (off at r minute))
@@ -127,7 +127,7 @@ mean-within target (Forward.one {r = r} {behind = behind} timed goes-on rest) at
     ifb (λ b. mean (r ∷ behind) at ≤ whole ^ suc (length behind) * worthAt target (r ∷ behind) at)
     (boards r (at .stop) (at .minute))
     (λ opens. board-within target r behind at timed opens
-      (λ minute from below. mean-within target rest (off at r minute) (served-sooner minute (landing-latest r minute from below) goes-on)))
+    (λ minute from below. mean-within target rest (off at r minute) (served-sooner minute (landing-latest r minute from below) goes-on)))
     (λ shut. pass-within target r behind at timed shut (mean-within target rest at (served-behind shut served)))
 
 -- under no choice are more rides boarded in all
@@ -153,10 +153,14 @@ sums-within :
     → power * weigh shares a worths + whole * (power * b) ≤ weigh shares a means + whole * (power * most)
 sums-within shares a worths means power b most full each =
     omega (
-      arith, weigh-less shares a (λ minute. power * worths minute + power * b) (λ minute. means minute + power * most) each,
-      weigh-add shares a (λ minute. power * worths minute) (λ minute. power * b), weigh-scale shares a power worths,
-      weigh-constant shares a (power * b) ∙ ap (λ n. n * (power * b)) full, weigh-add shares a means (λ minute. power * most),
-      weigh-constant shares a (power * most) ∙ ap (λ n. n * (power * most)) full)
+      arith,
+      weigh-less shares a (λ minute. power * worths minute + power * b) (λ minute. means minute + power * most) each,
+      weigh-add shares a (λ minute. power * worths minute) (λ minute. power * b),
+      weigh-scale shares a power worths,
+      weigh-constant shares a (power * b) ∙ ap (λ n. n * (power * b)) full,
+      weigh-add shares a means (λ minute. power * most),
+      weigh-constant shares a (power * most) ∙ ap (λ n. n * (power * most)) full,
+    )
 
 board-above :
     (target : ℕ) (r : Ride) (behind : List Ride) (at : Standing) (most : ℕ) → Timed target r behind
@@ -166,7 +170,7 @@ unfolding Landings Above
 board-above target r behind at most timed opens each =
     rw (mean-boards r behind at opens, worth-boards target r behind at timed opens, pow-succ' whole (length behind))
     (round (whole ^ length behind) (one-le-pow (length behind) whole (omega arith))
-      (weigh (r .shares) (r .arrives) means) (weigh (r .shares) (r .arrives) worths) (at .boarded) (gap target at) (gap-one target at) summed)
+    (weigh (r .shares) (r .arrives) means) (weigh (r .shares) (r .arrives) worths) (at .boarded) (gap target at) (gap-one target at) summed)
   where
     power : ℕ
     power = whole ^ length behind
@@ -205,7 +209,7 @@ unfolding Landings course landed
 most-boarded r behind at most opens within minute from below sailed delayed =
     subst (λ (m : ℕ). course sailed (off at r m) .boarded ≤ most) (omega arith)
     (subst (λ (b : Bool). cond b (course sailed (off at r (r .arrives + (minute - r .arrives)))) (course sailed at) .boarded ≤ most) opens
-      (within (late r (minute - r .arrives) ∷ sailed) (Delayed.one refl (omega arith) delayed)))
+    (within (late r (minute - r .arrives) ∷ sailed) (Delayed.one refl (omega arith) delayed)))
 
 some-share : (shares : List ℕ) → sum shares ≡ whole → 0 < length shares
 unfolding sum
@@ -227,16 +231,20 @@ unfolding Landings Above course
 mean-above target most Forward.none at (onward next among opens) within = absurd (List·Memᴰ·not-nil among)
 mean-above target most Forward.none at (over there) within =
     omega (
-      arith, mean-end at, worth-over target [] at there, within [] Delayed.none,
-      cond-true {A = ℕ} 0 1 (eq-eqb (at .stop) target there))
+      arith,
+      mean-end at,
+      worth-over target [] at there,
+      within [] Delayed.none,
+      cond-true {A = ℕ} 0 1 (eq-eqb (at .stop) target there),
+    )
 mean-above target most (Forward.one {r = r} {behind = behind} timed goes-on rest) at served within =
     ifb (λ b. Above target (r ∷ behind) at most) (boards r (at .stop) (at .minute))
     (λ opens. board-above target r behind at most timed opens
-      (λ minute from below.
-        mean-above target most rest (off at r minute) (served-sooner minute (landing-latest r minute from below) goes-on)
-        (most-boarded r behind at most opens within minute from below)))
+    (λ minute from below.
+    mean-above target most rest (off at r minute) (served-sooner minute (landing-latest r minute from below) goes-on)
+    (most-boarded r behind at most opens within minute from below)))
     (λ shut. pass-above target r behind at most timed shut
-      (mean-above target most rest at (served-behind shut served) (most-passed r behind at most (timed .full) shut within)))
+    (mean-above target most rest at (served-behind shut served) (most-passed r behind at most (timed .full) shut within)))
 
 -- 4,096^R × X < A + 4,096^R × L, for one who sets out away from the target
 pub mean-strictly-above :
@@ -246,4 +254,7 @@ pub mean-strictly-above :
 unfolding Above
 mean-strictly-above target most forward at served within elsewhere =
     omega (
-      arith, mean-above target most forward at served within, cond-false {A = ℕ} 0 1 (ne-eqb (at .stop) target elsewhere))
+      arith,
+      mean-above target most forward at served within,
+      cond-false {A = ℕ} 0 1 (ne-eqb (at .stop) target elsewhere),
+    )

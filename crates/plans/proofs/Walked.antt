@@ -42,16 +42,17 @@ valued-finds :
     (target : ℕ) (rides : List Ride) (stop minute : ℕ) (next : Ride) → List·Memᴰ next rides → boards next stop minute ≡ true
     → (x : ℕ) × (worthOf (firstOpen (valued target rides) stop minute) ≡ some x)
 unfolding valued firstOpen worthOf
-valued-finds target (r ∷ rides) stop minute next (List·Memᴰ·head same) opens =
-    (landWorth target r (valued target rides),
-      ap worthOf
+valued-finds target (r ∷ rides) stop minute next (List·Memᴰ·head same) opens = (
+  landWorth target r (valued target rides),
+  ap worthOf
       (cond-true (some (record { ride = r; worth = landWorth target r (valued target rides) })) (firstOpen (valued target rides) stop minute)
-        (ap (λ x. boards x stop minute) (sym same) ∙ opens)))
+      (ap (λ x. boards x stop minute) (sym same) ∙ opens)),
+)
 valued-finds target (r ∷ rides) stop minute next (List·Memᴰ·tail among) opens =
     ifb
     (λ b. (x : ℕ)
-      × (worthOf
-        (cond b (some (record { ride = r; worth = landWorth target r (valued target rides) })) (firstOpen (valued target rides) stop minute)) ≡ some x))
+    × (worthOf
+    (cond b (some (record { ride = r; worth = landWorth target r (valued target rides) })) (firstOpen (valued target rides) stop minute)) ≡ some x))
     (boards r stop minute) (λ here. (landWorth target r (valued target rides), refl))
     (λ shut. valued-finds target rides stop minute next among opens)
 
@@ -83,7 +84,7 @@ module _ {t : Timetable} (q : Query) (bound : ℕ) (rides : List Ride) (safe : S
   finds-ride sailed delayed k elsewhere =
       served-finds sailed (steps (q .target) sailed k (start q) .stop) (steps (q .target) sailed k (start q) .minute)
       (steps-served (q .target) sailed (delayed-range delayed) serves k (start q)
-        (subst (λ (x : List Ride). Served (q .target) x (q .source) (q .minute)) (sym (delayed-rides delayed)) begins-served))
+      (subst (λ (x : List Ride). Served (q .target) x (q .source) (q .minute)) (sym (delayed-rides delayed)) begins-served))
       elsewhere
     where
       serves : (r : Ride) → List·Memᴰ r (ridesSailed sailed) → Served (q .target) (ridesSailed sailed) (r .to) (latest r)
@@ -106,7 +107,7 @@ module _ {t : Timetable} (timely : Timely t) (q : Query) (bound : ℕ) (rides : 
   walk-reaches sailed delayed =
       ap (λ at. at .stop) (walk-course sailed delayed)
       ∙ course-reaches (q .target) sailed (subst (Forward (q .target)) (sym (delayed-rides delayed)) forward) (delayed-range delayed) (start q)
-        (subst (λ (x : List Ride). Served (q .target) x (q .source) (q .minute)) (sym (delayed-rides delayed)) (begins-served q bound rides safe))
+      (subst (λ (x : List Ride). Served (q .target) x (q .source) (q .minute)) (sym (delayed-rides delayed)) (begins-served q bound rides safe))
 
   -- by the latest minute of the same rides, with whatever worths
   pub walk-in-time :
@@ -125,14 +126,20 @@ module _ {t : Timetable} (timely : Timely t) (q : Query) (bound : ℕ) (rides : 
       before =
           let first = safe .begins .0 in
           omega (
-            arith, boards-minute first (q .source) (q .minute) (T-true (safe .begins .2)),
-            departs-before t timely first (safe .are-rides first (safe .begins .1)), by-last first (safe .begins .1))
+            arith,
+            boards-minute first (q .source) (q .minute) (T-true (safe .begins .2)),
+            departs-before t timely first (safe .are-rides first (safe .begins .1)),
+            by-last first (safe .begins .1),
+          )
 
   pub walk-count : (sailed : List Sailed) → Delayed rides sailed → walked q sailed .boarded ≤ length rides
   unfolding walked
   walk-count sailed delayed =
       omega (
-        arith, steps-count (q .target) sailed (length sailed) (start q), sym (length-map sailed (λ s. s .ride)) ∙ ap length (delayed-rides delayed))
+        arith,
+        steps-count (q .target) sailed (length sailed) (start q),
+        sym (length-map sailed (λ s. s .ride)) ∙ ap length (delayed-rides delayed),
+      )
 
   -- the expected ticks are what standing at the source is worth
   expected-worth : (x : ℕ) → expectedOf q rides ≡ some x → worthAt (q .target) rides (start q) ≡ x
@@ -167,4 +174,4 @@ module _ {t : Timetable} (timely : Timely t) (q : Query) (bound : ℕ) (rides : 
   sandwich-above x e =
       rw (arrivals-mean, ← expected-worth x e)
       (mean-strictly-above (q .target) (longestWay q rides) forward (start q) (begins-served q bound rides safe) longest-most
-        (begins-elsewhere q bound rides safe))
+      (begins-elsewhere q bound rides safe))
