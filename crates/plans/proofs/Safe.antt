@@ -1,4 +1,5 @@
--- A safe plan by boarding row rising, over a timely timetable, goes forward: what a ride leads to stands behind it. Assumes nothing.
+-- A safe plan by boarding row rising, over a timely timetable, goes forward: what a ride leads to stands behind it.
+-- Uses all that a sound timetable keeps.
 use Prim.Native.Nat.{ℕ, _≤_, _<_}
 use mathlib.Core.List.{List, [], _∷_, List·Memᴰ, List·Memᴰ·head, List·Memᴰ·tail, List·Memᴰ·cases-cons}
 use mathlib.Core.Logic.{_⊎_, inl, inr}
@@ -17,7 +18,7 @@ use Rattle.plans.proofs.Open.{boards-minute}
 use Rattle.plans.proofs.RideMinutes.{ride-shares, departs-before, board-inside}
 
 module _ {t : Timetable} (timely : Timely t) where
-  pub rides-ordered : {r next : Ride} → IsRide t r → IsRide t next → r .board ≤ next .board → r .departs ≤ next .departs
+  rides-ordered : {r next : Ride} → IsRide t r → IsRide t next → r .board ≤ next .board → r .departs ≤ next .departs
   rides-ordered {r} {next} is is-next before =
       omega (
         arith,
@@ -43,11 +44,11 @@ module _ {t : Timetable} (timely : Timely t) (q : Query) (bound : ℕ) (all : Li
       ((r : Ride) → List·Memᴰ r rides → List·Memᴰ r all)
       × ((r later : Ride) → List·Memᴰ r rides → List·Memᴰ later all → r .departs < later .departs → List·Memᴰ later rides)
 
-  go : (rides : List Ride) → Rising rides → Closing rides → Forward (q .target) rides
+  part-forward : (rides : List Ride) → Rising rides → Closing rides → Forward (q .target) rides
   unfolding Closing
-  go [] rising closing = Forward.none
-  go (r ∷ rides) (Rising.one before rising) closing =
-      Forward.one timed (serves (plan-serves q bound all safe r here)) (go rides rising (λ u among. closing .0 u (List·Memᴰ·tail among), keeps))
+  part-forward [] rising closing = Forward.none
+  part-forward (r ∷ rides) (Rising.one before rising) closing =
+      Forward.one timed (serves (plan-serves q bound all safe r here)) (part-forward rides rising (λ u among. closing .0 u (List·Memᴰ·tail among), keeps))
     where
       here : List·Memᴰ r all
       here = closing .0 r (List·Memᴰ·head refl)
@@ -86,4 +87,4 @@ module _ {t : Timetable} (timely : Timely t) (q : Query) (bound : ℕ) (all : Li
 
   pub safe-forward : Rising all → Forward (q .target) all
   unfolding Closing
-  safe-forward rising = go all rising (λ r among. among, λ r later _ among _. among)
+  safe-forward rising = part-forward all rising (λ r among. among, λ r later _ among _. among)

@@ -1,4 +1,4 @@
--- A safe plan's walk under any choice of delays, from the query's source and minute. Assumes nothing.
+-- A safe plan's walk under any choice of delays, from the query's source and minute. Uses all that a sound timetable keeps.
 use Prim.Native.Nat.{ℕ, _+_, _*_, _^_, _≤_, _<_, max}
 use mathlib.Core.Bool.{true, cond}
 use mathlib.Core.List.{List, [], _∷_, map, List·Memᴰ, List·Memᴰ·head, List·Memᴰ·tail, Memᴰ·of-map}
@@ -20,7 +20,8 @@ use Rattle.plans.specs.Chosen.{worthOf}
 use Rattle.plans.specs.Plan.{latestOf}
 use Rattle.plans.specs.SafePlan.{SafePlan, Rising, expectedOf}
 use Rattle.plans.specs.Sound.{Timely}
-use Rattle.plans.specs.Walk.{Sailed, Standing, firstSailed, steps, start, walked, choices, weightedArrivals, largest, longestWay}
+use Rattle.plans.specs.Walk.{Sailed, Standing, firstSailed, start, walked, choices, weightedArrivals, largest, longestWay}
+use Rattle.plans.specs.Passenger.{standsAfter}
 use Rattle.plans.proofs.Means.{standingWorth}
 use Rattle.plans.proofs.Choices.{Delayed, total, total-same, delayed-choice, delayed-rides, delayed-range}
 use Rattle.plans.proofs.Forward.{Served, onward, Forward, forward-timed}
@@ -78,11 +79,10 @@ module _ {t : Timetable} (q : Query) (bound : ℕ) (rides : List Ride) (safe : S
       (boards-stop (safe .begins .0) (q .source) (q .minute) (T-true (safe .begins .2)) ∙ there)
 
   pub finds-ride :
-      (sailed : List Sailed) → Delayed rides sailed → (k : ℕ) → steps (q .target) sailed k (start q) .stop ≢ q .target
-      → (s : Sailed)
-      × (firstSailed sailed (steps (q .target) sailed k (start q) .stop) (steps (q .target) sailed k (start q) .minute) ≡ some s)
+      (sailed : List Sailed) → Delayed rides sailed → (k : ℕ) → standsAfter q sailed k .stop ≢ q .target
+      → (s : Sailed) × (firstSailed sailed (standsAfter q sailed k .stop) (standsAfter q sailed k .minute) ≡ some s)
   finds-ride sailed delayed k elsewhere =
-      served-finds sailed (steps (q .target) sailed k (start q) .stop) (steps (q .target) sailed k (start q) .minute)
+      served-finds sailed (standsAfter q sailed k .stop) (standsAfter q sailed k .minute)
       (steps-served (q .target) sailed (delayed-range delayed) serves k (start q)
       (subst (λ (x : List Ride). Served (q .target) x (q .source) (q .minute)) (sym (delayed-rides delayed)) begins-served))
       elsewhere
