@@ -34,3 +34,4 @@ pub mod Meeting
 pub mod EveryRide
 pub mod Boarded
 pub mod Demand3
+pub mod Cases

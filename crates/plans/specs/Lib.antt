@@ -9,3 +9,4 @@ pub mod SafePlan
 pub mod Walk
 pub mod Words
 pub mod Passenger
+pub mod Cases
