@@ -1,4 +1,5 @@
 -- The theorems of demands 2 and 3, and the laws that lead to them.
+pub mod Cases
 pub mod Open
 pub mod AtMost
 pub mod FromRow
@@ -34,4 +35,3 @@ pub mod Meeting
 pub mod EveryRide
 pub mod Boarded
 pub mod Demand3
-pub mod Cases
