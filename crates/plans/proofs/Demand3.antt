@@ -2,7 +2,7 @@
 use Prim.Native.Nat.{ℕ, _^_}
 use mathlib.Core.List.{List, map, List·Memᴰ}
 use mathlib.Core.Option.{some}
-use mathlib.Core.Path.{_≡_, sym, subst}
+use mathlib.Core.Path.{_≡_, refl, sym, subst}
 use lib.ListN.{length}
 use Rattle.timetable.specs.Timetable.{Timetable}
 use Rattle.timetable.specs.Classes.{sum, whole}
@@ -52,7 +52,7 @@ module _ {t : Timetable} (timely : Timely t) (q : Query) where
     plan-carries =
         let made = plan-made t q p is-planned in
         subst (λ (last : ℕ). Carries q (ridesOf (p .rides)) last (p .expected)) (sym (plan-last t q p is-planned))
-        (rides-carry (p .bound) (ridesOf (p .rides)) (plan-safe t timely q p made) (plan-rising t timely q p made) (p .rides) (λ i. ridesOf (p .rides))
+        (rides-carry (p .bound) (ridesOf (p .rides)) (plan-safe t timely q p made) (plan-rising t timely q p made) (p .rides) refl
         (p .expected) (plan-expected t timely q p made))
 
     -- every ride is boarded under some such delays
