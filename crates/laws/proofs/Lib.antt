@@ -2,3 +2,7 @@
 pub mod Lists
 pub mod Tests
 pub mod Outcomes
+pub mod Options
+pub mod Downward
+pub mod Members
+pub mod Alternatives
