@@ -1,32 +1,31 @@
 -- The chosen rows are exactly those that document 01's words choose. Uses rising departures.
 use Prim.Native.Nat.{ℕ, zero, suc, zero-le, _+_, _≤_, _<_}
-use native.Mathlib.Nat.{add-zero, add-suc, suc-add, zero-add, lt-of-not-le, eq-or-lt-of-le}
+use native.Mathlib.Nat.{add-zero, zero-add, lt-of-not-le, eq-or-lt-of-le}
 use native.Mathlib.Omega.{arith}
-use mathlib.Core.Bool.{Bool, true, false, cond, false≢true}
-use mathlib.Core.List.{List, [], _∷_, List·Memᴰ, List·Memᴰ·head, List·Memᴰ·tail, List·Memᴰ·not-nil}
-use mathlib.Core.Logic.{_⊎_, inl, inr, ⊎-elim, _≢_, _↔_}
+use mathlib.Core.Bool.{true, cond, false≢true}
+use mathlib.Core.List.{List, [], _∷_, List·Memᴰ, List·Memᴰ·head, List·Memᴰ·tail}
+use mathlib.Core.Logic.{⊎-elim, _≢_, _↔_}
 use mathlib.Core.Option.{Option, none, some}
-use mathlib.Core.Path.{_≡_, refl, sym, ap, subst, _∙_}
+use mathlib.Core.Path.{_≡_, refl, sym, ap, ap₂, subst, _∙_}
 use lib.Dec.{eqb}
 use lib.ListN.{length, getD, List·getD-eq-default}
 use borrow.Author.Tests.{eqb-true, lt-ltb}
 use Rattle.laws.proofs.Options.{absent, same-thing}
 use Rattle.laws.proofs.Tests.{ifb}
-use Rattle.laws.proofs.Members.{head-or-later}
 use Rattle.laws.proofs.Downward.{downward}
 use Rattle.timetable.specs.Timetable.{Timetable, rowOf}
 use Rattle.timetable.specs.declared.Row.{Row}
 use Rattle.plans.specs.Sound.{Timely}
-use Rattle.plans.specs.Rides.{Ride, boards}
+use Rattle.plans.specs.Rides.{opens, boards}
 use Rattle.plans.specs.Worth.{Valued, firstOpen}
-use Rattle.plans.specs.Chosen.{GettingOff, Weighed, Scan, scan, scanned, offInTicks, worthOf, leads, firstAt, others, choose}
+use Rattle.plans.specs.Chosen.{GettingOff, Weighed, Scan, scan, scanned, offInTicks, worthOf, leads, firstAt, choose}
 use Rattle.plans.specs.Plan.{chosenFor}
 use Rattle.plans.specs.Words.{bestRide, HasWorth, Chosen}
 use Rattle.plans.proofs.Open.{can-board, boards-stop, boards-minute, found-member, found-boards}
-use Rattle.plans.proofs.AtMost.{AtMost, found-at-most}
+use Rattle.plans.proofs.AtMost.{found-at-most}
 use Rattle.plans.proofs.FromRow.{scanFrom, chosenFrom, bestAt, scan-row, chosen-row}
 use Rattle.plans.proofs.Choice.{Choice, worthless, at-target, behind, added, choice, others-kept}
-use Rattle.plans.proofs.Order.{Before, Ordered, leads-each, members-apart, first-before}
+use Rattle.plans.proofs.Order.{Ordered, leads-each, members-apart, first-before}
 use Rattle.plans.proofs.BestRides.{Boards, best-boards, Picked, chosen-picked}
 use Rattle.plans.proofs.FirstLeast.{chosen-ordered, first-least}
 use Rattle.plans.proofs.EarliestSafe.{worth-is, worth-of}
@@ -80,29 +79,29 @@ module _ (t : Timetable) (target bound : ℕ) where
   best-ride i h = weighed-at (offInTicks target bound) target t i 0 _ (subst (λ k. k < length (t .rows)) (sym (zero-add i)) h) ∙ ap (bestAt (offInTicks target bound) target t) (zero-add i)
 
   -- past the last row there is none
-  best-past : (i : ℕ) → length (t .rows) ≤ i → bestRide t target bound i ≡ none
+  pub best-past : (i : ℕ) → length (t .rows) ≤ i → bestRide t target bound i ≡ none
   unfolding bestRide scanned
   best-past i h =
       ap (λ (w : Weighed). w .best)
       (List·getD-eq-default (scanned (offInTicks target bound) target t .weighed) _
-          (subst (λ k. k ≤ i) (sym (scan-length (offInTicks target bound) target (t .tables) 0 (t .rows))) h))
+      (subst (λ k. k ≤ i) (sym (scan-length (offInTicks target bound) target (t .tables) 0 (t .rows))) h))
 
   -- a row with a worth is a row of the timetable, with a best ride of that worth
-  record Weighs (j w : ℕ) : Type 0 where
-    inside : j < length (t .rows)
-    ride : Valued
-    best : bestAt (offInTicks target bound) target t j ≡ some ride
-    worth : ride .worth ≡ w
-    at : Boards (offInTicks target bound) target t j ride
+  pub record Weighs (j w : ℕ) : Type 0 where
+    pub inside : j < length (t .rows)
+    pub ride : Valued
+    pub best : bestAt (offInTicks target bound) target t j ≡ some ride
+    pub worth : ride .worth ≡ w
+    pub at : Boards (offInTicks target bound) target t j ride
 
-  weighs : (j w : ℕ) → HasWorth t target bound j w → Weighs j w
+  pub weighs : (j w : ℕ) → HasWorth t target bound j w → Weighs j w
   weighs j w h =
       let found = worth-is (bestRide t target bound j) h in
       let inside : j < length (t .rows) = lt-of-not-le (λ past. absent (sym (best-past j past) ∙ found .1)) in
       let best = sym (best-ride j inside) ∙ found .1 in
       record { inside = inside; ride = found .0; best = best; worth = found .2; at = best-boards (offInTicks target bound) target t j inside (found .0) best }
 
-  has-worth : (j : ℕ) → j < length (t .rows) → (v : Valued) → bestAt (offInTicks target bound) target t j ≡ some v → HasWorth t target bound j (v .worth)
+  pub has-worth : (j : ℕ) → j < length (t .rows) → (v : Valued) → bestAt (offInTicks target bound) target t j ≡ some v → HasWorth t target bound j (v .worth)
   has-worth j h v e = ap worthOf (best-ride j h ∙ e) ∙ worth-of v
 
   module _ (timely : Timely t) where
@@ -120,16 +119,16 @@ module _ (t : Timetable) (target bound : ℕ) where
     row-finds k j a b u e elsewhere =
         found-at-most (Finds k u)
         (first-least (offInTicks target bound) target t timely k (let z : k ≤ length (t .rows) = omega arith in z) j a b u e elsewhere (u .ride .departs)
-            (let z : u .ride .departs ≤ u .ride .departs = omega arith in z))
+        (let z : u .ride .departs ≤ u .ride .departs = omega arith in z))
         (λ x q h. let opens = found-boards _ (u .ride .from) (u .ride .departs) q in
-            record {
-              first = x;
-              is-first = q;
-              member = found-member _ (u .ride .from) (u .ride .departs) q;
-              there = boards-stop (x .ride) (u .ride .from) (u .ride .departs) opens;
-              then = boards-minute (x .ride) (u .ride .from) (u .ride .departs) opens;
-              cheap = h;
-            })
+        record {
+          first = x;
+          is-first = q;
+          member = found-member _ (u .ride .from) (u .ride .departs) q;
+          there = boards-stop (x .ride) (u .ride .from) (u .ride .departs) opens;
+          then = boards-minute (x .ride) (u .ride .from) (u .ride .departs) opens;
+          cheap = h;
+        })
 
     module _ (v : Valued) (member : List·Memᴰ v (chosenFrom (offInTicks target bound) target t 0)) where
       picked : Picked (offInTicks target bound) target t 0 v
@@ -165,24 +164,24 @@ module _ (t : Timetable) (target bound : ℕ) where
           let then : u .ride .ride .departs ≡ v .ride .departs = u .at .minute ∙ minute ∙ sym (here .minute) in
           let f = row-finds 0 j zero-le (u .inside) (u .ride) (u .best) (λ e. picked .elsewhere (sym same ∙ e)) in
           let g = first-before (chosenFrom (offInTicks target bound) target t 0) order (u .ride .ride .from) (u .ride .ride .departs) v member
-              (can-board (v .ride) (u .ride .ride .from) (u .ride .ride .departs) (sym same) (let z : u .ride .ride .departs ≤ v .ride .departs = omega arith in z)) in
+          (can-board (v .ride) (u .ride .ride .from) (u .ride .ride .departs) (sym same) (let z : u .ride .ride .departs ≤ v .ride .departs = omega arith in z)) in
           let one : g .0 ≡ f .first = same-thing (sym (g .1) ∙ f .is-first) in
           ⊎-elim (λ e. let c : v .worth ≡ f .first .worth = ap (λ (x : Valued). x .worth) (sym e ∙ one) in omega (arith, f .cheap, u .worth))
           (λ b. absurd (let c : g .0 .ride .departs < v .ride .departs = b .apart (ap (λ (x : Valued). x .ride .from) one ∙ f .there ∙ same) in
-              let d : g .0 .ride .departs ≡ f .first .ride .departs = ap (λ (x : Valued). x .ride .departs) one in
-              let z : ⊥ = omega (arith, f .then) in z)) (g .2)
+          let d : g .0 .ride .departs ≡ f .first .ride .departs = ap (λ (x : Valued). x .ride .departs) one in
+          let z : ⊥ = omega (arith, f .then) in z)) (g .2)
 
       -- the highest row number deciding among equals
       highest : (j w : ℕ) → HasWorth t target bound j w → rowOf (t .rows) j .board ≡ rowOf (t .rows) (v .ride .board) .board → v .worth ≡ w → j ≤ v .ride .board
       highest j w h stop equal =
           let back : j < suc (v .ride .board) = lt-of-not-le
-              (λ later. let u = weighs j w h in
-                  let same : u .ride .ride .from ≡ v .ride .from = u .at .stop ∙ stop ∙ sym (here .stop) in
-                  let f = row-finds (suc (v .ride .board)) j later (u .inside) (u .ride) (u .best) (λ e. picked .elsewhere (sym same ∙ e)) in
-                  let c : v .worth < f .first .worth = leads-each (chosenFrom (offInTicks target bound) target t (suc (v .ride .board)))
-                      (chosen-ordered (offInTicks target bound) target t timely (suc (v .ride .board)) (picked .inside)) (v .worth) (v .ride .from) (picked .leading) (f .first) (f .member)
-                      (f .there ∙ same) in
-                  let z : ⊥ = omega (arith, f .cheap, u .worth) in z) in
+          (λ later. let u = weighs j w h in
+          let same : u .ride .ride .from ≡ v .ride .from = u .at .stop ∙ stop ∙ sym (here .stop) in
+          let f = row-finds (suc (v .ride .board)) j later (u .inside) (u .ride) (u .best) (λ e. picked .elsewhere (sym same ∙ e)) in
+          let c : v .worth < f .first .worth = leads-each (chosenFrom (offInTicks target bound) target t (suc (v .ride .board)))
+          (chosen-ordered (offInTicks target bound) target t timely (suc (v .ride .board)) (picked .inside)) (v .worth) (v .ride .from) (picked .leading) (f .first) (f .member)
+          (f .there ∙ same) in
+          let z : ⊥ = omega (arith, f .cheap, u .worth) in z) in
           omega arith
 
       pub is-chosen : Chosen t target bound (v .ride .board)
@@ -208,15 +207,15 @@ module _ (t : Timetable) (target bound : ℕ) where
       leads-behind =
           leads-all _ (v .worth) (v .ride .from)
           (λ x m there. let p = chosen-picked (offInTicks target bound) target t (suc (v .ride .board)) inside x m in
-              let at = best-boards (offInTicks target bound) target t (x .ride .board) (p .inside) x (p .best) in
-              let h = has-worth (x .ride .board) (p .inside) x (p .best) in
-              let stop : rowOf (t .rows) (x .ride .board) .board ≡ rowOf (t .rows) (v .ride .board) .board = sym (at .stop) ∙ there ∙ stands .stop in
-              let before : v .ride .board ≤ x .ride .board = omega (arith, p .here) in
-              ⊎-elim
-              (λ minute. let c = words .least-of-minute (x .ride .board) (x .worth) h stop (sym minute) in
-                  below-unless (x .worth) (c .0) (λ e. let d : x .ride .board ≤ v .ride .board = c .1 e in let z : ⊥ = omega (arith, p .here) in z))
-              (λ later. let c : words .worth < x .worth = words .below-later (x .ride .board) (x .worth) h stop later in omega (arith, own-worth))
-              (eq-or-lt-of-le (timely .rising (v .ride .board) (x .ride .board) before (p .inside))))
+          let at = best-boards (offInTicks target bound) target t (x .ride .board) (p .inside) x (p .best) in
+          let h = has-worth (x .ride .board) (p .inside) x (p .best) in
+          let stop : rowOf (t .rows) (x .ride .board) .board ≡ rowOf (t .rows) (v .ride .board) .board = sym (at .stop) ∙ there ∙ stands .stop in
+          let before : v .ride .board ≤ x .ride .board = omega (arith, p .here) in
+          ⊎-elim
+          (λ minute. let c = words .least-of-minute (x .ride .board) (x .worth) h stop (sym minute) in
+          below-unless (x .worth) (c .0) (λ e. let d : x .ride .board ≤ v .ride .board = c .1 e in let z : ⊥ = omega (arith, p .here) in z))
+          (λ later. let c : words .worth < x .worth = words .below-later (x .ride .board) (x .worth) h stop later in omega (arith, own-worth))
+          (eq-or-lt-of-le (timely .rising (v .ride .board) (x .ride .board) before (p .inside))))
         where
           below-unless : (w : ℕ) → words .worth ≤ w → (words .worth ≡ w → ⊥) → v .worth < w
           below-unless w h no-tie = omega (arith, own-worth)
@@ -228,27 +227,41 @@ module _ (t : Timetable) (target bound : ℕ) where
           let row : k < length (t .rows) = omega (arith, inside) in
           subst (λ (l : List Valued). List·Memᴰ v l) (sym (chosen-row (offInTicks target bound) target t k row))
           (choice-keeps target (choice target (bestAt (offInTicks target bound) target t k) (chosenFrom (offInTicks target bound) target t (suc k))) v m
-              (λ u e lead there then. let at = best-boards (offInTicks target bound) target t k row u e in
-                  let c : words .worth ≤ u .worth = words .least-of-minute k (u .worth) (has-worth k row u e) (sym (at .stop) ∙ sym there ∙ stands .stop)
-                      (sym (at .minute) ∙ sym then ∙ stands .minute) .0 in
-                  let d : u .worth < v .worth = leads-each (chosenFrom (offInTicks target bound) target t (suc k))
-                      (chosen-ordered (offInTicks target bound) target t timely (suc k) row) (u .worth) (u .ride .from) lead v m there in
-                  let z : ⊥ = omega (arith, own-worth) in z))
+          (λ u e lead there then. let at = best-boards (offInTicks target bound) target t k row u e in
+          let c : words .worth ≤ u .worth = words .least-of-minute k (u .worth) (has-worth k row u e) (sym (at .stop) ∙ sym there ∙ stands .stop)
+          (sym (at .minute) ∙ sym then ∙ stands .minute) .0 in
+          let d : u .worth < v .worth = leads-each (chosenFrom (offInTicks target bound) target t (suc k))
+          (chosen-ordered (offInTicks target bound) target t timely (suc k) row) (u .worth) (u .ride .from) lead v m there in
+          let z : ⊥ = omega (arith, own-worth) in z))
 
       pub chosen-is : List·Memᴰ v (chosenFrom (offInTicks target bound) target t 0)
       chosen-is =
           downward (λ k. List·Memᴰ v (chosenFrom (offInTicks target bound) target t k)) (v .ride .board)
           (subst (λ (l : List Valued). List·Memᴰ v l) (sym (chosen-row (offInTicks target bound) target t (v .ride .board) inside))
-              (choice-takes target
-                  (subst (λ (o : Option Valued). Choice target (chosenFrom (offInTicks target bound) target t (suc (v .ride .board))) o
-                          (choose target (bestAt (offInTicks target bound) target t (v .ride .board)) (chosenFrom (offInTicks target bound) target t (suc (v .ride .board))))) best
-                      (choice target (bestAt (offInTicks target bound) target t (v .ride .board)) (chosenFrom (offInTicks target bound) target t (suc (v .ride .board)))))
-                  (λ e. words .not-at-target (sym (stands .stop) ∙ e)) leads-behind)) stays-chosen 0 zero-le
+          (choice-takes target
+          (subst (λ (o : Option Valued). Choice target (chosenFrom (offInTicks target bound) target t (suc (v .ride .board))) o
+          (choose target (bestAt (offInTicks target bound) target t (v .ride .board)) (chosenFrom (offInTicks target bound) target t (suc (v .ride .board))))) best
+          (choice target (bestAt (offInTicks target bound) target t (v .ride .board)) (chosenFrom (offInTicks target bound) target t (suc (v .ride .board)))))
+          (λ e. words .not-at-target (sym (stands .stop) ∙ e)) leads-behind)) stays-chosen 0 zero-le
+
+    -- who can board a row finds a first chosen row that is worth no more
+    pub first-chosen-least :
+        (i w s m : ℕ) → HasWorth t target bound i w → opens (rowOf (t .rows) i .board) (rowOf (t .rows) i .departure) s m ≡ true → s ≢ target
+        → (v : Valued) × (firstOpen (chosenFor t target bound) s m ≡ some v) × (v .worth ≤ w)
+    first-chosen-least i w s m h open' elsewhere =
+        let u = weighs i w h in
+        let here : boards (u .ride .ride) s m ≡ true = ap₂ (λ (a b : ℕ). opens a b s m) (u .at .stop) (u .at .minute) ∙ open' in
+        let there : u .ride .ride .from ≡ s = boards-stop (u .ride .ride) s m here in
+        let first = first-least (offInTicks target bound) target t timely 0 zero-le i zero-le (u .inside) (u .ride) (u .best) (λ e. elsewhere (sym there ∙ e)) m
+        (boards-minute (u .ride .ride) s m here) in
+        found-at-most ((v : Valued) × (firstOpen (chosenFor t target bound) s m ≡ some v) × (v .worth ≤ w)) first
+        (λ v e c. (v, ap₂ (λ (l : List Valued) (x : ℕ). firstOpen l x m) (chosen-for t target bound) (sym there) ∙ e, (let z : v .worth ≤ w = omega (arith, u .worth) in z)))
 
     pub chosen-in-words :
         (v : Valued) → List·Memᴰ v (chosenFor t target bound) ↔ (Chosen t target bound (v .ride .board) × (bestRide t target bound (v .ride .board) ≡ some v))
-    chosen-in-words v =
-        (λ m. let there = subst (λ (l : List Valued). List·Memᴰ v l) (chosen-for t target bound) m in
-            let p = picked v there in (is-chosen v there, best-ride (v .ride .board) (p .inside) ∙ p .best),
-         λ w. let inside : v .ride .board < length (t .rows) = lt-of-not-le (λ past. absent (sym (best-past (v .ride .board) past) ∙ w .1)) in
-             subst (λ (l : List Valued). List·Memᴰ v l) (sym (chosen-for t target bound)) (chosen-is v inside (sym (best-ride (v .ride .board) inside) ∙ w .1) (w .0)))
+    chosen-in-words v = (
+      λ m. let there = subst (λ (l : List Valued). List·Memᴰ v l) (chosen-for t target bound) m in
+          let p = picked v there in (is-chosen v there, best-ride (v .ride .board) (p .inside) ∙ p .best),
+      λ w. let inside : v .ride .board < length (t .rows) = lt-of-not-le (λ past. absent (sym (best-past (v .ride .board) past) ∙ w .1)) in
+          subst (λ (l : List Valued). List·Memᴰ v l) (sym (chosen-for t target bound)) (chosen-is v inside (sym (best-ride (v .ride .board) inside) ∙ w .1) (w .0)),
+    )

@@ -1,26 +1,24 @@
 -- Each chosen ride is worth what the chosen rides behind it give, and lands within the bound. Uses all that a sound timetable keeps.
-use Prim.Native.Nat.{ℕ, suc, zero-le, _+_, _≤_, _<_}
-use native.Mathlib.Nat.{eq-or-lt-of-le}
+use Prim.Native.Nat.{ℕ, suc, _≤_, _<_}
 use native.Mathlib.Omega.{arith}
-use mathlib.Core.Bool.{Bool, true, false, cond}
-use mathlib.Core.List.{List, [], _∷_, List·Memᴰ}
-use mathlib.Core.Logic.{_⊎_, inl, inr, _≢_}
-use mathlib.Core.Option.{Option, none, some}
+use mathlib.Core.Bool.{true, false}
+use mathlib.Core.List.{List, List·Memᴰ}
+use mathlib.Core.Logic.{_≢_}
+use mathlib.Core.Option.{Option, some}
 use mathlib.Core.Path.{_≡_, refl, sym, ap, subst, _∙_}
 use lib.ListN.{length}
-use Rattle.laws.proofs.Options.{same-thing}
 use Rattle.laws.proofs.Downward.{downward}
 use Rattle.timetable.specs.Timetable.{Timetable, rowOf}
 use Rattle.timetable.specs.declared.Row.{Row}
 use Rattle.plans.specs.Sound.{Timely}
 use Rattle.plans.specs.Rides.{Ride, IsRide, latest, boards}
 use Rattle.plans.specs.Journeys.{within}
-use Rattle.plans.specs.Worth.{Valued, firstOpen, arrivalWorth, changeWorth, landWorth}
-use Rattle.plans.specs.Chosen.{GettingOff, offInTicks, others, choose, rowRide, boardedAt}
+use Rattle.plans.specs.Worth.{Valued, firstOpen, arrivalWorth, changeWorth}
+use Rattle.plans.specs.Chosen.{GettingOff, offInTicks, others, rowRide, boardedAt}
 use Rattle.plans.proofs.Open.{boards-minute, too-late, first-further, found-member, found-boards}
 use Rattle.plans.proofs.FromRow.{chosenFrom, bestAt, offAt, chosen-row, chosen-end}
 use Rattle.plans.proofs.Choice.{Choice, worthless, at-target, behind, added, choice, others-first}
-use Rattle.plans.proofs.BestRides.{best-boards, best-is-ride, each-best, chosen-picked, Picked, row-is-ride}
+use Rattle.plans.proofs.BestRides.{best-boards, best-is-ride, each-best, chosen-picked}
 use Rattle.plans.proofs.FirstLeast.{chosen-rising}
 use Rattle.plans.proofs.RideMinutes.{ride-delays, departs-before, leaves-before}
 use Rattle.plans.proofs.InTicks.{Off, arrives, goes-on, off-is, off-worth, within-earlier}
@@ -48,7 +46,7 @@ module _ (t : Timetable) (timely : Timely t) where
     row-passed i h s m gone =
         ap (λ (l : List Valued). firstOpen l s m) (chosen-row off target t i h)
         ∙ choice-passed target (choice target (bestAt off target t i) (chosenFrom off target t (suc i))) s m
-            (λ v e. too-late (v .ride) s m (subst (λ k. k < m) (sym (best-boards off target t i h v e .minute)) gone))
+        (λ v e. too-late (v .ride) s m (subst (λ k. k < m) (sym (best-boards off target t i h v e .minute)) gone))
 
     -- and so are all rows up to one that has left
     pub rows-passed :
@@ -57,7 +55,7 @@ module _ (t : Timetable) (timely : Timely t) where
     rows-passed j h s m gone =
         downward (λ i. firstOpen (chosenFrom off target t i) s m ≡ firstOpen (chosenFrom off target t (suc j)) s m) (suc j) refl
         (λ i k later. row-passed i (let z : i < length (t .rows) = omega arith in z) s m
-            (let z : rowOf (t .rows) i .departure < m = omega (arith, timely .rising i j (let y : i ≤ j = omega arith in y) h) in z) ∙ later)
+        (let z : rowOf (t .rows) i .departure < m = omega (arith, timely .rising i j (let y : i ≤ j = omega arith in y) h) in z) ∙ later)
 
     -- who lands after a ride finds the same chosen rows, whether from the start or from behind its last row
     pub landing-sees :
@@ -118,10 +116,10 @@ module _ (t : Timetable) (timely : Timely t) where
         let landing = best-off i h v e in
         ahead-of target v (chosenFrom off target t (suc (v .ride .leave))) (others (v .ride) later) moves
         (λ m late _. others-first (v .ride) later (v .ride .to) m (too-late (v .ride) (v .ride .to) m (omega (arith, moves .forward)))
-            ∙ landing-sees off target (v .ride) is (suc i) (omega (arith, is .onward, at .row)) (v .ride .to) m late)
+        ∙ landing-sees off target (v .ride) is (suc i) (omega (arith, is .onward, at .row)) (v .ride .to) m late)
         (sym (off-worth target bound (v .ride) _ (v .worth) landing)) (goes landing)
         (others-own target (v .ride) later
-            (λ x m. subst (λ k. k ≤ x .ride .departs) (sym (at .minute)) (chosen-rising off target t timely i (suc i) (let z : i ≤ suc i = omega arith in z) h x m)) own)
+        (λ x m. subst (λ k. k ≤ x .ride .departs) (sym (at .minute)) (chosen-rising off target t timely i (suc i) (let z : i ≤ suc i = omega arith in z) h x m)) own)
       where
         goes : {w : ℕ} {vs : List Valued} → Off target bound (v .ride) vs w → v .ride .to ≢ target → (safe : Valued) × (firstOpen vs (v .ride .to) (latest (v .ride)) ≡ some safe)
         goes (arrives q b) away = absurd (away q)
@@ -132,4 +130,4 @@ module _ (t : Timetable) (timely : Timely t) where
         downward (λ i. OwnWorth target (chosenFrom (offInTicks target bound) target t i)) (length (t .rows))
         (subst (λ (l : List Valued). OwnWorth target l) (sym (chosen-end (offInTicks target bound) target t)) nobody)
         (λ i h own. subst (λ (l : List Valued). OwnWorth target l) (sym (chosen-row (offInTicks target bound) target t i h))
-            (chosen-next i h own _ _ refl (choice target (bestAt (offInTicks target bound) target t i) (chosenFrom (offInTicks target bound) target t (suc i)))))
+        (chosen-next i h own _ _ refl (choice target (bestAt (offInTicks target bound) target t i) (chosenFrom (offInTicks target bound) target t (suc i)))))

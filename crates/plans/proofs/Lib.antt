@@ -21,6 +21,7 @@ pub mod PlanIsSafe
 pub mod Optimal
 pub mod PlanSet
 pub mod ChosenWords
+pub mod RowWorth
 pub mod Sorting
 pub mod Means
 pub mod Choices
@@ -35,3 +36,5 @@ pub mod Meeting
 pub mod EveryRide
 pub mod Boarded
 pub mod Demand3
+pub mod LastMinute
+pub mod Demand2

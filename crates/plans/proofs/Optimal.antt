@@ -1,16 +1,15 @@
 -- No safe plan is worth less than the plan. Uses all that a sound timetable keeps.
-use Prim.Native.Nat.{ℕ, suc, zero-le, _+_, _≤_, _<_}
+use Prim.Native.Nat.{ℕ, suc, zero-le, _≤_, _<_}
 use native.Mathlib.Nat.{le-refl}
 use native.Mathlib.Omega.{arith}
-use mathlib.Core.Bool.{Bool, true, false, cond}
+use mathlib.Core.Bool.{true, cond}
 use mathlib.Core.List.{List, [], _∷_, List·Memᴰ, List·Memᴰ·head, List·Memᴰ·tail, List·Memᴰ·not-nil}
 use mathlib.Core.Logic.{_≢_}
 use mathlib.Core.Option.{Option, some}
 use mathlib.Core.Path.{_≡_, refl, sym, ap, subst, _∙_}
-use lib.Dec.{T, eqb}
-use lib.ListN.{length}
+use lib.Dec.{eqb}
 use borrow.Author.Tests.{eqb-true, eqb-false}
-use Rattle.laws.proofs.Tests.{ifb, T-true, cond-true, cond-false}
+use Rattle.laws.proofs.Tests.{ifb, T-true}
 use Rattle.laws.proofs.Members.{head-or-later}
 use Rattle.timetable.specs.Timetable.{Timetable}
 use Rattle.plans.specs.Sound.{Timely}
@@ -23,7 +22,7 @@ use Rattle.plans.specs.Plan.{Plan}
 use Rattle.plans.specs.SafePlan.{SafePlan, Rising, expectedOf}
 use Rattle.plans.specs.SafePlan as safe
 use Rattle.plans.proofs.Open.{boards-stop, boards-minute, boards-earlier, found-member, found-boards, finds}
-use Rattle.plans.proofs.AtMost.{AtMost, at-most, raised, found-at-most, worth-at-most}
+use Rattle.plans.proofs.AtMost.{AtMost, raised, found-at-most, worth-at-most}
 use Rattle.plans.proofs.FromRow.{chosenFrom, bestAt}
 use Rattle.plans.proofs.Staying.{ride-at-most}
 use Rattle.plans.proofs.RideMinutes.{boards-behind, ride-first, ride-delays}
@@ -73,17 +72,20 @@ module _ (t : Timetable) (timely : Timely t) where
         let here = sub r (List·Memᴰ·head refl) in
         link (plan .are-rides r here) (plan .none-at-target r here) (T-true (plan .each-within r here))
         (λ away. let next = plan .goes-on r here away in
-            let b = T-true (next .2) in
-            let is = plan .are-rides r here in
-            let is' = plan .are-rides (next .0) (next .1) in
-            let late : latest r ≤ next .0 .departs = boards-minute (next .0) (r .to) (latest r) b in
-            let behind : r .leave < next .0 .board = boards-behind t timely r (next .0) is is' (let z : r .arrives ≤ next .0 .departs = omega arith in z) in
-            let later : r .board < next .0 .board = omega (arith, is .onward) in
-            (next .0, head-or-later (List·Memᴰ (next .0) rides) (closed (next .0) r (next .1) (List·Memᴰ·head refl) later)
-                (λ e. absurd (let same : next .0 .board ≡ r .board = ap (λ (x : Ride). x .board) e in let z : ⊥ = omega arith in z)) (λ n. n), b))
+        let b = T-true (next .2) in
+        let is = plan .are-rides r here in
+        let is' = plan .are-rides (next .0) (next .1) in
+        let late : latest r ≤ next .0 .departs = boards-minute (next .0) (r .to) (latest r) b in
+        let behind : r .leave < next .0 .board = boards-behind t timely r (next .0) is is' (let z : r .arrives ≤ next .0 .departs = omega arith in z) in
+        let later : r .board < next .0 .board = omega (arith, is .onward) in (
+          next .0,
+          head-or-later (List·Memᴰ (next .0) rides) (closed (next .0) r (next .1) (List·Memᴰ·head refl) later)
+              (λ e. absurd (let same : next .0 .board ≡ r .board = ap (λ (x : Ride). x .board) e in let z : ⊥ = omega arith in z)) (λ n. n),
+          b,
+        ))
         (chain-from rides rising (λ x m. sub x (List·Memᴰ·tail m))
-            (λ x k m n h. head-or-later (List·Memᴰ x rides) (closed x k m (List·Memᴰ·tail n) h)
-                (λ e. absurd (let same : x .board ≡ r .board = ap (λ (y : Ride). y .board) e in let z : ⊥ = omega (arith, before k n) in z)) (λ l. l)))
+        (λ x k m n h. head-or-later (List·Memᴰ x rides) (closed x k m (List·Memᴰ·tail n) h)
+        (λ e. absurd (let same : x .board ≡ r .board = ap (λ (y : Ride). y .board) e in let z : ⊥ = omega (arith, before k n) in z)) (λ l. l)))
 
     pub safe-chain : Rising whole → Chain t (q .target) bound whole
     safe-chain rising = chain-from whole rising (λ x m. m) (λ x r m n h. m)
@@ -102,23 +104,27 @@ module _ (t : Timetable) (timely : Timely t) where
     change-bounds r rides is away are bounds next m b =
         found-at-most (AtMost (bestAt off target t (r .board)) (changeWorth r behind)) (let found = open-at (latest r) (le-refl (latest r)) in seen (latest r) (let z : r .arrives ≤ latest r = omega arith in z) (found .0) (found .1))
         (λ u e _. raised (ride-at-most off target t r is (ticks-landed target bound) (changeWorth r chosen) (ticks-elsewhere target bound r chosen away u e))
-            (change-less r chosen behind (ride-delays t timely r is)
-                (λ k late early. let found = open-at k early in
-                    subst (λ w. caught chosen (r .to) k ≤ w) (sym (caught-is behind (r .to) k (found .0) (found .1)))
-                    (caught-at-most chosen (r .to) k (found .0 .worth) (seen k late (found .0) (found .1))))))
+        (change-less r chosen behind (ride-delays t timely r is)
+        (λ k late early. let found = open-at k early in
+        subst (λ w. caught chosen (r .to) k ≤ w) (sym (caught-is behind (r .to) k (found .0) (found .1)))
+        (caught-at-most chosen (r .to) k (found .0 .worth) (seen k late (found .0) (found .1))))))
       where
         off : GettingOff
         off = offInTicks target bound
+
         chosen : List Valued
         chosen = chosenFrom off target t (suc (r .leave))
+
         behind : List Valued
         behind = valued target rides
+
         -- who lands finds one to board up to a + M
         open-at : (k : ℕ) → k ≤ latest r → (v : Valued) × (firstOpen behind (r .to) k ≡ some v)
         open-at k early =
             let n = ride-valued target rides m in
             finds behind (r .to) k (n .1)
             (subst (λ (x : Ride). boards x (r .to) k ≡ true) (sym (n .2)) (boards-earlier next (r .to) (latest r) k early b))
+
         -- and a chosen row that is worth no more
         seen : (k : ℕ) → r .arrives ≤ k → (v : Valued) → firstOpen behind (r .to) k ≡ some v → AtMost (firstOpen chosen (r .to) k) (v .worth)
         seen k late v e =
@@ -152,7 +158,7 @@ module _ (t : Timetable) (timely : Timely t) where
     chain-bounds (link {r} {rides} is from b on chain) v m =
         head-or-later (AtMost (bestAt (offInTicks target bound) target t (v .ride .board)) (v .worth)) m
         (λ e. subst (λ (x : Valued). AtMost (bestAt (offInTicks target bound) target t (x .ride .board)) (x .worth)) (sym e)
-            (link-bounds r rides is b on (chain-ride chain) (chain-bounds chain))) (λ n. chain-bounds chain v n)
+        (link-bounds r rides is b on (chain-ride chain) (chain-bounds chain))) (λ n. chain-bounds chain v n)
 
   -- every safe plan has an expected arrival, and none is below the plan's
   pub expected-stands : (q : Query) (bound : ℕ) (rides : List Ride) → SafePlan t q bound rides → (x : ℕ) × (expectedOf q rides ≡ some x)
@@ -175,7 +181,7 @@ module _ (t : Timetable) (timely : Timely t) where
       let ride = valued-ride (q .target) rides there in
       let chain = safe-chain q (p .bound) rides plan rising in
       let least = ride-first t timely (offInTicks (q .target) (p .bound)) (q .target) 0 (v .ride) (plan .are-rides (v .ride) ride) zero-le (q .source) (q .minute) (v .worth) opens
-          (λ same. plan .none-at-target (v .ride) ride (boards-stop (v .ride) (q .source) (q .minute) opens ∙ same)) (chain-bounds (q .target) (p .bound) chain v there) in
+      (λ same. plan .none-at-target (v .ride) ride (boards-stop (v .ride) (q .source) (q .minute) opens ∙ same)) (chain-bounds (q .target) (p .bound) chain v there) in
       let ours : made .first .worth ≤ v .worth = worth-at-most least (made .first)
-          (sym (ap (λ (l : List Valued). firstOpen l (q .source) (q .minute)) (chosen-for t (q .target) (p .bound))) ∙ made .begins) in
+      (sym (ap (λ (l : List Valued). firstOpen l (q .source) (q .minute)) (chosen-for t (q .target) (p .bound))) ∙ made .begins) in
       omega (arith, made .worth, first .2)

@@ -1,15 +1,15 @@
 -- Lists in which each ride is worth what the rides behind it give, and can go on among them. Assumes nothing.
 use Prim.Native.Nat.{ℕ, suc, _≤_, _<_}
 use native.Mathlib.Omega.{arith}
-use mathlib.Core.Bool.{Bool, true, false, cond}
+use mathlib.Core.Bool.{cond}
 use mathlib.Core.List.{List, [], _∷_, map, List·Memᴰ, List·Memᴰ·head, List·Memᴰ·tail}
 use mathlib.Core.Logic.{_≢_}
-use mathlib.Core.Option.{Option, none, some}
-use mathlib.Core.Path.{_≡_, refl, sym, ap, ap₂, subst, _∙_}
+use mathlib.Core.Option.{some}
+use mathlib.Core.Path.{_≡_, refl, sym, ap, _∙_}
 use lib.ListN.{length}
 use Rattle.laws.proofs.Tests.{ifb}
 use Rattle.timetable.specs.Timetable.{longest}
-use Rattle.plans.specs.Rides.{Ride, latest, boards}
+use Rattle.plans.specs.Rides.{Ride, latest}
 use Rattle.plans.specs.Worth.{Valued, firstOpen, landWorth, valued}
 use Rattle.plans.specs.Chosen.{others}
 use Rattle.plans.proofs.Open.{too-late}
@@ -20,7 +20,6 @@ use Rattle.plans.proofs.Weighing.{land-same}
 pub record Moves (r : Ride) : Type 0 where
   pub forward : r .departs < r .arrives
   pub delays : length (r .shares) ≡ suc (longest (r .shares))
-
 
 pub data OwnWorth (target : ℕ) : List Valued → Type 0 where
   nobody : OwnWorth target []
@@ -55,5 +54,5 @@ others-own target r (v ∷ vs) rising (ahead moves worth on own) =
     let further : OwnWorth target (others r vs) = others-own target r vs (λ x m. rising x (List·Memᴰ·tail m)) own in
     ifb (λ b. OwnWorth target (cond b (others r vs) (v ∷ others r vs))) (same-minute (v .ride) r) (λ _. further)
     (λ _. ahead-of target v vs (others r vs) moves
-        (λ m h _. others-first r vs (v .ride .to) m
-            (too-late r (v .ride .to) m (let a : r .departs ≤ v .ride .departs = rising v (List·Memᴰ·head refl) in omega (arith, moves .forward)))) worth on further)
+    (λ m h _. others-first r vs (v .ride .to) m
+    (too-late r (v .ride .to) m (let a : r .departs ≤ v .ride .departs = rising v (List·Memᴰ·head refl) in omega (arith, moves .forward)))) worth on further)

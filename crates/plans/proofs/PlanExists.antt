@@ -2,21 +2,21 @@
 use Prim.Native.Nat.{ℕ, suc, zero-le, _+_, _-_, _*_, _/_, _≤_, _<_}
 use native.Mathlib.Nat.{mul-le-mul-right, le-div-iff-mul-le, lt-of-lt-of-le}
 use native.Mathlib.Omega.{arith}
-use mathlib.Core.Bool.{Bool, true, false, cond, _||_}
-use mathlib.Core.List.{List, [], _∷_}
+use mathlib.Core.Bool.{true, false, cond, _||_}
+use mathlib.Core.List.{List}
 use mathlib.Core.Logic.{_⊎_, inl, inr, _≢_, _↔_}
-use mathlib.Core.Option.{Option, none, some}
+use mathlib.Core.Option.{none, some}
 use mathlib.Core.Path.{_≡_, refl, sym, ap, subst, _∙_}
-use lib.Dec.{T, eqb, leb}
-use borrow.Author.Tests.{eqb-true, eqb-false, eq-eqb, ne-eqb, leb-true, le-leb}
-use Rattle.laws.proofs.Options.{absent, same-thing, present-or-absent}
-use Rattle.laws.proofs.Tests.{ifb, either, cond-true, cond-false, T-true}
+use lib.Dec.{eqb, leb}
+use borrow.Author.Tests.{eqb-true, eqb-false, eq-eqb, ne-eqb, le-leb}
+use Rattle.laws.proofs.Options.{absent, present-or-absent}
+use Rattle.laws.proofs.Tests.{ifb, cond-false, T-true}
 use Rattle.laws.proofs.Alternatives.{or-right}
 use Rattle.timetable.specs.Timetable.{Timetable}
 use Rattle.plans.specs.Sound.{Timely}
 use Rattle.plans.specs.declared.Query.{Query}
 use Rattle.plans.specs.Rides.{Ride, IsRide, latest, boards}
-use Rattle.plans.specs.Journeys.{Onward, leaves, changes, Journey, IsEarliest, boundOf, within}
+use Rattle.plans.specs.Journeys.{Onward, leaves, changes, Journey, boundOf, within}
 use Rattle.plans.specs.Worth.{Valued, firstOpen, arrivalWorth, changeWorth}
 use Rattle.plans.specs.Chosen.{offInTicks}
 use Rattle.plans.specs.Plan.{planned, earliest, chosenFor}
@@ -57,10 +57,13 @@ module _ (t : Timetable) (timely : Timely t) where
       ifb (λ c. eqb (r .to) target ≡ c → Some) (eqb (r .to) target)
       (λ q _. (arrivalWorth r, ride-at-most off target t r is (ticks-landed target bound) (arrivalWorth r) (ticks-at-target target bound r _ (eqb-true (r .to) target q) b)))
       (λ q _. found-at-most Some
-          (ride-first t timely off target (suc (r .leave)) next is' (boards-behind t timely r next is is' (let z : r .arrives ≤ next .departs = omega arith in z))
-              (r .to) (latest r) (further .0) caught (eqb-false (r .to) target q) (further .1))
-          (λ u e _. (changeWorth r (chosenFrom off target t (suc (r .leave))), ride-at-most off target t r is (ticks-landed target bound) _
-              (ticks-elsewhere target bound r _ (eqb-false (r .to) target q) u e)))) refl
+      (ride-first t timely off target (suc (r .leave)) next is' (boards-behind t timely r next is is' (let z : r .arrives ≤ next .departs = omega arith in z))
+      (r .to) (latest r) (further .0) caught (eqb-false (r .to) target q) (further .1))
+      (λ u e _. (
+        changeWorth r (chosenFrom off target t (suc (r .leave))),
+        ride-at-most off target t r is (ticks-landed target bound) _
+            (ticks-elsewhere target bound r _ (eqb-false (r .to) target q) u e),
+      ))) refl
     where
       Some : Type 0
       Some = (w : ℕ) × AtMost (bestAt (offInTicks target bound) target t (r .board)) w
@@ -90,17 +93,18 @@ module _ (t : Timetable) (timely : Timely t) where
       let some' = ticks-exist (q .target) bound (j .onward) b in
       found-at-most ⊥
       (ride-first t timely (offInTicks (q .target) bound) (q .target) 0 (j .first) (onward-ride t (q .target) (j .onward)) zero-le (q .source) (q .minute) (some' .0)
-          (T-true (j .in-time)) apart (some' .1))
+      (T-true (j .in-time)) apart (some' .1))
       (λ v e _. absent {a = v} (sym h ∙ ap (λ (l : List Valued). firstOpen l (q .source) (q .minute)) (chosen-for t (q .target) bound) ∙ e))
 
   pub plan-exists : (q : Query) → CodeStands (q .code) → q .source ≢ q .target → (planned t q ≡ none) ↔ ((end : ℕ) → Journey t q end → ⊥)
-  plan-exists q stands apart =
-      (λ h end j. no-plan t q h (λ never. no-earliest t timely q apart never end j)
-          (λ e reached shut. let least = earliest-is-least t timely q e reached in
-              journey-begins q (boundOf q e) e apart (least .reached)
-              (within-bound q e (let z : q .minute ≤ e = omega (arith, journey-after q e (least .reached)) in z) stands) shut),
-       λ h. present-or-absent (planned t q ≡ none) (earliest t q) (λ never. no-plan-without t q never)
-           (λ e reached. absurd (h e (earliest-is-least t timely q e reached .reached))))
+  plan-exists q stands apart = (
+    λ h end j. no-plan t q h (λ never. no-earliest t timely q apart never end j)
+        (λ e reached shut. let least = earliest-is-least t timely q e reached in
+        journey-begins q (boundOf q e) e apart (least .reached)
+        (within-bound q e (let z : q .minute ≤ e = omega (arith, journey-after q e (least .reached)) in z) stands) shut),
+    λ h. present-or-absent (planned t q ≡ none) (earliest t q) (λ never. no-plan-without t q never)
+        (λ e reached. absurd (h e (earliest-is-least t timely q e reached .reached))),
+  )
 
   -- a real bound is never 0, which stands for none
   pub bound-real : (q : Query) (e : ℕ) → earliest t q ≡ some e → 4 ≤ q .code → (e ≤ boundOf q e) × (0 < boundOf q e)

@@ -9,4 +9,5 @@ pub mod SafePlan
 pub mod Walk
 pub mod Words
 pub mod Passenger
+pub mod RowWords
 pub mod Cases
