@@ -2,3 +2,4 @@
 pub mod Shares
 pub mod ClassBlocks
 pub mod Heads
+pub mod Settled
