@@ -1,18 +1,17 @@
 -- Laws on class blocks: what reading one answers by its tests, and what reading several answers by the first. Assumes nothing.
-use Prim.Native.Nat.{ℕ, zero, suc, _+_, _*_, _-_, _≤_, _<_}
-use mathlib.Core.Path.{_≡_, refl, sym, ap, _∙_}
+use Prim.Native.Nat.{ℕ, zero, suc, _+_, _≤_, _<_}
+use mathlib.Core.Path.{_≡_, refl}
 use mathlib.Core.Bool.{true, false}
 use mathlib.Core.List.{List}
 use native.Mathlib.Numerals.{add-one}
 use native.Mathlib.Omega.{arith}
 use borrow.Author.Tests.{le-leb, lt-leb}
-use Rattle.timetable.specs.Verdict.{Verdict, fine, fault, orElse}
+use Rattle.timetable.specs.Verdict.{Verdict, fine, fault}
 use Rattle.timetable.specs.Classes.{sharesRule}
 use Rattle.layout.specs.declared.Format.{Format}
 use Rattle.layout.specs.Numbers.{u16At}
 use Rattle.layout.specs.Decode.{tableAt, blockEnd, tablesEnd}
 use Rattle.layout.specs.Check.{classVerdict, classesVerdict}
-use Rattle.head.specs.declared.Blocks.{Blocks}
 use Rattle.head.specs.declared.Blocks.the-variants.{End, Fault}
 use Rattle.head.specs.Blocks.{blocksBy, blockRead, blocksRead}
 

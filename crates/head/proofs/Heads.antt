@@ -1,10 +1,12 @@
 -- Laws on the head: what the check answers, by its tests in their order. Assumes nothing.
-use Prim.Native.Nat.{ℕ, _+_, _*_, _≤_, _<_}
-use mathlib.Core.Path.{_≡_, sym, ap, _∙_}
+use Prim.Native.Nat.{ℕ, _+_, _*_, _≤_}
+use mathlib.Core.Path.{_≡_, _∙_}
 use mathlib.Core.Bool.{true, false}
 use mathlib.Core.List.{List}
-use borrow.Author.Tests.{le-leb, lt-leb}
+use borrow.Author.Tests.{leb-true}
+use lib.Dec.{leb}
 use lib.ListN.{length}
+use Rattle.laws.proofs.Tests.{both-left}
 use Rattle.timetable.specs.Verdict.{fine, orElse, unless}
 use Rattle.layout.specs.declared.Format.{Format}
 use Rattle.layout.specs.declared.Head.{Head}
@@ -17,14 +19,14 @@ use Rattle.head.specs.Headed.{headedBy, headed}
 use Rattle.head.specs.Blocks.{blocksRead}
 use Rattle.head.proofs.ClassBlocks.{ends-by, faults-by}
 
-module _ (f : Format) (s : List ℕ) where
-  pub too-short : length s < f .shortest → headed f s ≡ Bad 1 0
-  unfolding headed headVerdict lengthRule
-  too-short short = simp (lt-leb _ _ short)
+-- a file whose length is in its range holds the shortest
+pub long-enough : (f : Format) (s : List ℕ) → lengthRule f s ≡ true → f .shortest ≤ length s
+unfolding lengthRule
+long-enough f s fits = leb-true _ _ (both-left _ (leb (length s) (f .longest)) fits)
 
-  pub too-long : f .shortest ≤ length s → f .longest < length s → headed f s ≡ Bad 1 0
-  unfolding headed headVerdict lengthRule
-  too-long lower past = simp (le-leb _ _ lower, lt-leb _ _ past)
+pub length-breaks : (f : Format) (s : List ℕ) → lengthRule f s ≡ false → headed f s ≡ Bad 1 0
+unfolding headed headVerdict
+length-breaks f s broken = simp broken
 
 -- the answer on a file whose length is in its range, by the head that is read
 answerBehind : Format → List ℕ → Head → Headed
@@ -33,10 +35,10 @@ answerBehind f s h =
     (orElse (unless (headRule f h) 1 0)
     (orElse (classesVerdict f s (trailerAt f s) 0 (h .tablestart) (h .classes)) (unless (joined f s h) 2 0)))
 
-module _ (f : Format) (s : List ℕ) (lower : f .shortest ≤ length s) (upper : length s ≤ f .longest) (h : Head) (read : h ≡ headOf f s) where
+module _ (f : Format) (s : List ℕ) (fits : lengthRule f s ≡ true) (h : Head) (read : h ≡ headOf f s) where
   by-head : headed f s ≡ answerBehind f s h
-  unfolding headed headVerdict lengthRule answerBehind
-  by-head = rw (read, le-leb _ _ lower, le-leb _ _ upper)
+  unfolding headed headVerdict answerBehind
+  by-head = rw (read, fits)
 
   pub ranges-break : headRule f h ≡ false → headed f s ≡ Bad 1 0
   unfolding answerBehind

@@ -1,10 +1,11 @@
 -- Laws on the shares of a class block: how many there are, which is where, and their sum one by one. Assumes nothing.
 use Prim.Native.Nat.{ℕ, zero, suc, _+_, _*_, _-_, _≤_, _<_}
 use mathlib.Core.Path.{_≡_, refl, sym, ap, _∙_}
-use mathlib.Core.List.{List, [], _∷_}
-use mathlib.Core.Bool.{true, false}
+use mathlib.Core.List.{List}
+use mathlib.Core.Bool.{false}
 use native.Mathlib.Omega.{arith}
-use borrow.Author.Tests.{eq-eqb, ne-eqb, le-leb, lt-leb}
+use borrow.Author.Tests.{eq-eqb, ne-eqb}
+use lib.Dec.{leb}
 use lib.ListN.{length, getD}
 use Rattle.timetable.specs.Classes.{whole, sum, lastShare, sharesRule}
 use Rattle.layout.specs.Numbers.{u16At}
@@ -59,10 +60,6 @@ module _ (s : List ℕ) (at delay total : ℕ) (read : delay ≡ u16At s at) (su
   unfolding sharesRule
   sum-breaks no' = simp (table-sum, ne-eqb _ _ no')
 
-  pub last-breaks : total ≡ whole → (last : ℕ) → last ≡ u16At s (at + 2 + 2 * delay) → last < 1 → sharesRule (tableAt s at) ≡ false
+  pub last-decides : total ≡ whole → (last : ℕ) → last ≡ u16At s (at + 2 + 2 * delay) → leb 1 last ≡ sharesRule (tableAt s at)
   unfolding sharesRule
-  last-breaks full last e none = simp (table-sum, eq-eqb _ _ full, table-last last e, lt-leb _ _ none)
-
-  pub shares-keep : total ≡ whole → (last : ℕ) → last ≡ u16At s (at + 2 + 2 * delay) → 1 ≤ last → sharesRule (tableAt s at) ≡ true
-  unfolding sharesRule
-  shares-keep full last e some' = simp (table-sum, eq-eqb _ _ full, table-last last e, le-leb _ _ some')
+  last-decides full last e = sym (simp (table-sum, eq-eqb _ _ full, table-last last e))

@@ -1,12 +1,14 @@
 // Document 01, "Numbers returned on refusal": the first step of the check, the trailer and the class blocks.
 ghost use mathlib.Core.Path.{_≡_};
 ghost use mathlib.Core.Bool.{_&&_};
-ghost use Prim.Native.Nat.{_+_, _*_, _≤_};
-ghost use lib.Dec.{eqb};
+ghost use Prim.Native.Nat.{_+_, _-_, _*_, _≤_, _<_};
+ghost use lib.Dec.{leb, eqb};
 ghost use lib.ListN.{length};
-ghost use Rattle.timetable.specs.Classes.{sum};
+ghost use Rattle.timetable.specs.Classes.{sum, sharesRule};
 ghost use Rattle.layout.specs.Format.{Readable};
-ghost use Rattle.layout.specs.Decode.{sharesFrom};
+ghost use Rattle.layout.specs.Numbers.{u16At};
+ghost use Rattle.layout.specs.Decode.{sharesFrom, tableAt};
+ghost use Rattle.layout.specs.Small.{SmallHead};
 ghost use Rattle.layout.specs.Check.{headRule, sectionsJoin};
 ghost use Rattle.head.specs.Headed.{headed};
 ghost use Rattle.head.specs.Blocks.{blockRead, blocksRead};
@@ -39,13 +41,7 @@ pub fn head(file: &[u8], f: Format) -> Headed
     ensures { λ r. ⌜ r ≡ headed f (now (file .entry)) ⌝ }
 {
     let length = file.len();
-    if length < f.shortest {
-        return Headed::Bad {
-            number: 1,
-            place: 0,
-        };
-    }
-    if f.longest < length {
+    if !length_in_range(f, length) {
         return Headed::Bad {
             number: 1,
             place: 0,
@@ -63,15 +59,7 @@ pub fn head(file: &[u8], f: Format) -> Headed
     match blocks {
         Blocks::Fault { number, place } => Headed::Bad { number, place },
         Blocks::End { at } => {
-            let rows = Section {
-                start: head.rowstart,
-                end: head.rowstart + f.width * head.rows,
-            };
-            let tables = Section {
-                start: head.tablestart,
-                end: at,
-            };
-            if sections_join(rows, tables, end) {
+            if joined(f, head, at, end) {
                 Headed::Good { head }
             } else {
                 Headed::Bad {
@@ -81,6 +69,16 @@ pub fn head(file: &[u8], f: Format) -> Headed
             }
         }
     }
+}
+
+// The file length is in its range.
+fn length_in_range(f: Format, length: usize) -> bool
+    ensures { λ r. ⌜ r ≡ (leb (f .shortest) length && leb length (f .longest)) ⌝ }
+{
+    if length < f.shortest {
+        return false;
+    }
+    length <= f.longest
 }
 
 // Version, S, n and K are in their ranges.
@@ -135,13 +133,7 @@ fn class_block(file: &[u8], f: Format, end: usize, class: usize, at: usize) -> B
     requires { ⌜ end ≤ length (now file) ⌝ }
     ensures { λ r. ⌜ r ≡ blockRead f (now (file .entry)) end class at ⌝ }
 {
-    if end <= at {
-        return Blocks::Fault {
-            number: 2,
-            place: 0,
-        };
-    }
-    let room = end - at;
+    let room = bytes_between(at, end);
     if room < 2 {
         return Blocks::Fault {
             number: 2,
@@ -161,13 +153,7 @@ fn class_block(file: &[u8], f: Format, end: usize, class: usize, at: usize) -> B
             place: 0,
         };
     }
-    if shares_sum(file, at + 2, delay + 1) != 4096 {
-        return Blocks::Fault {
-            number: 3,
-            place: class,
-        };
-    }
-    if u16_at(file, at + 2 + 2 * delay) < 1 {
+    if !shares_keep(file, at, delay) {
         return Blocks::Fault {
             number: 3,
             place: class,
@@ -176,6 +162,27 @@ fn class_block(file: &[u8], f: Format, end: usize, class: usize, at: usize) -> B
     Blocks::End {
         at: at + 4 + 2 * delay,
     }
+}
+
+// The bytes from `at` up to `end`, none where `end` is not past `at`.
+fn bytes_between(at: usize, end: usize) -> usize
+    ensures { λ r. ⌜ r ≡ end - at ⌝ }
+{
+    if end < at {
+        return 0;
+    }
+    end - at
+}
+
+// The shares of the block at `at`, whose maximum delay is `delay`: their sum and the last.
+fn shares_keep(file: &[u8], at: usize, delay: usize) -> bool
+    requires { ⌜ (at + 4 + 2 * delay ≤ length (now file)) × (delay < 65536) × (delay ≡ u16At (now file) at) ⌝ }
+    ensures { λ r. ⌜ r ≡ sharesRule (tableAt (now (file .entry)) at) ⌝ }
+{
+    if shares_sum(file, at + 2, delay + 1) != 4096 {
+        return false;
+    }
+    1 <= u16_at(file, at + 2 + 2 * delay)
 }
 
 // The sum of the `count` shares from `first` on.
@@ -194,10 +201,19 @@ fn shares_sum(file: &[u8], first: usize, count: usize) -> usize
     total
 }
 
-// The sections of rows and of tables join, in either order.
-fn sections_join(rows: Section, tables: Section, end: usize) -> bool
-    ensures { λ r. ⌜ r ≡ sectionsJoin (rows .start) (rows .end) (tables .start) (tables .end) end ⌝ }
+// The sections of rows and of tables join in either order, the tables ending at `at`.
+fn joined(f: Format, head: Head, at: usize, end: usize) -> bool
+    requires { ⌜ (f .width < 65536) × SmallHead head ⌝ }
+    ensures { λ r. ⌜ r ≡ sectionsJoin (head .rowstart) (head .rowstart + f .width * head .rows) (head .tablestart) at end ⌝ }
 {
+    let rows = Section {
+        start: head.rowstart,
+        end: head.rowstart + f.width * head.rows,
+    };
+    let tables = Section {
+        start: head.tablestart,
+        end: at,
+    };
     if in_order(rows, tables, end) {
         return true;
     }

@@ -16,7 +16,9 @@ abbrev μ-loop : tie.MeasureT-loop
 μ-loop file f end start count at₀ class₀ at class = count - class
 
 loop-holds : tie.Need-loop-holds Inv-loop μ-loop
-loop-holds c = let all : c .before .args .count ≡ c .before .args .count - 0 = omega arith in (ap (blocksRead _ _ _ 0 _) all, omega arith)
+loop-holds c =
+    let all : c .before .args .count ≡ c .before .args .count - 0 = omega arith in
+    (ap (blocksRead _ _ _ 0 _) all, omega arith)
 
 class-block-requires : tie.Need-class-block-requires Inv-loop μ-loop
 class-block-requires c κs = omega arith
@@ -29,7 +31,8 @@ enum-known-block c = search needs
 
 returns : tie.Need-returns Inv-loop μ-loop
 returns c =
-    sym (c .before .before .before .before .before .loop .inv .0 ∙ blocks-stop _ _ _ _ _ _ _ _ (omega arith) (sym (c .before .before .before .class-block .ensures) ∙ c .before .block .given .1))
+    let first = sym (c .before .before .before .class-block .ensures) ∙ c .before .block .given .1 in
+    sym (c .before .before .before .before .before .loop .inv .0 ∙ blocks-stop _ _ _ _ _ _ _ _ (omega arith) first)
 
 enum-known-block-2 : tie.Need-enum-known-block-2 Inv-loop μ-loop
 enum-known-block-2 c = search needs
@@ -39,7 +42,8 @@ loop-less c = omega arith
 
 loop-again : tie.Need-loop-again Inv-loop μ-loop
 loop-again c =
-    (c .before .before .before .before .before .loop .inv .0 ∙ blocks-on _ _ _ _ _ _ _ _ (omega arith) (sym (c .before .before .before .class-block .ensures) ∙ c .before .block2 .given .1), omega arith)
+    let first = sym (c .before .before .before .class-block .ensures) ∙ c .before .block2 .given .1 in
+    (c .before .before .before .before .before .loop .inv .0 ∙ blocks-on _ _ _ _ _ _ _ _ (omega arith) first, omega arith)
 
 returns-2 : tie.Need-returns-2 Inv-loop μ-loop
 returns-2 c = sym (c .before .loop .inv .0 ∙ blocks-end _ _ _ _ _ _ (omega arith))

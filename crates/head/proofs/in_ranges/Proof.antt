@@ -1,5 +1,5 @@
 -- `head::in_ranges` meets its contract: each return by the tests that led there. Assumes nothing.
-use mathlib.Core.Path.{_≡_, sym}
+use mathlib.Core.Path.{sym}
 use borrow.Author.Tests.{eq-eqb, ne-eqb, le-leb, lt-leb}
 use Rattle.layout.specs.Check.{headRule}
 use Rattle.head.proofs.in_ranges.Statement.{statement}
@@ -15,23 +15,57 @@ returns-2 c = sym (simp (eq-eqb _ _ (c .before .before .if1 .left), lt-leb _ _ (
 
 returns-3 : tie.Need-returns-3
 unfolding headRule
-returns-3 c = sym (simp (eq-eqb _ _ (c .before .before .before .before .if1 .left), le-leb _ _ (c .before .before .if2 .left), lt-leb _ _ (c .if3 .taken)))
+returns-3 c =
+    sym (simp (
+      eq-eqb _ _ (c .before .before .before .before .if1 .left),
+      le-leb _ _ (c .before .before .if2 .left),
+      lt-leb _ _ (c .if3 .taken),
+    ))
 
 returns-4 : tie.Need-returns-4
 unfolding headRule
-returns-4 c = sym (simp (eq-eqb _ _ (c .before .before .before .before .before .before .if1 .left), le-leb _ _ (c .before .before .before .before .if2 .left), le-leb _ _ (c .before .before .if3 .left), lt-leb _ _ (c .if4 .taken)))
+returns-4 c =
+    sym (simp (
+      eq-eqb _ _ (c .before .before .before .before .before .before .if1 .left),
+      le-leb _ _ (c .before .before .before .before .if2 .left),
+      le-leb _ _ (c .before .before .if3 .left),
+      lt-leb _ _ (c .if4 .taken),
+    ))
 
 returns-5 : tie.Need-returns-5
 unfolding headRule
-returns-5 c = sym (simp (eq-eqb _ _ (c .before .before .before .before .before .before .before .before .if1 .left), le-leb _ _ (c .before .before .before .before .before .before .if2 .left), le-leb _ _ (c .before .before .before .before .if3 .left), le-leb _ _ (c .before .before .if4 .left), lt-leb _ _ (c .if5 .taken)))
+returns-5 c =
+    sym (simp (
+      eq-eqb _ _ (c .before .before .before .before .before .before .before .before .if1 .left),
+      le-leb _ _ (c .before .before .before .before .before .before .if2 .left),
+      le-leb _ _ (c .before .before .before .before .if3 .left),
+      le-leb _ _ (c .before .before .if4 .left),
+      lt-leb _ _ (c .if5 .taken),
+    ))
 
 returns-6 : tie.Need-returns-6
 unfolding headRule
-returns-6 c = sym (simp (eq-eqb _ _ (c .before .before .before .before .before .before .before .before .before .before .if1 .left), le-leb _ _ (c .before .before .before .before .before .before .before .before .if2 .left), le-leb _ _ (c .before .before .before .before .before .before .if3 .left), le-leb _ _ (c .before .before .before .before .if4 .left), le-leb _ _ (c .before .before .if5 .left), lt-leb _ _ (c .if6 .taken)))
+returns-6 c =
+    sym (simp (
+      eq-eqb _ _ (c .before .before .before .before .before .before .before .before .before .before .if1 .left),
+      le-leb _ _ (c .before .before .before .before .before .before .before .before .if2 .left),
+      le-leb _ _ (c .before .before .before .before .before .before .if3 .left),
+      le-leb _ _ (c .before .before .before .before .if4 .left),
+      le-leb _ _ (c .before .before .if5 .left),
+      lt-leb _ _ (c .if6 .taken),
+    ))
 
 returns-7 : tie.Need-returns-7
 unfolding headRule
-returns-7 c = sym (simp (eq-eqb _ _ (c .before .before .before .before .before .before .before .before .before .before .if1 .left), le-leb _ _ (c .before .before .before .before .before .before .before .before .if2 .left), le-leb _ _ (c .before .before .before .before .before .before .if3 .left), le-leb _ _ (c .before .before .before .before .if4 .left), le-leb _ _ (c .before .before .if5 .left), le-leb _ _ (c .if6 .left)))
+returns-7 c =
+    sym (simp (
+      eq-eqb _ _ (c .before .before .before .before .before .before .before .before .before .before .if1 .left),
+      le-leb _ _ (c .before .before .before .before .before .before .before .before .if2 .left),
+      le-leb _ _ (c .before .before .before .before .before .before .if3 .left),
+      le-leb _ _ (c .before .before .before .before .if4 .left),
+      le-leb _ _ (c .before .before .if5 .left),
+      le-leb _ _ (c .if6 .left),
+    ))
 
 pub in-ranges-spec : {M : Type 1} → statement M
 in-ranges-spec =

@@ -37,7 +37,8 @@ loop-less c = omega arith
 
 loop-again : tie.Need-loop-again Inv-loop μ-loop
 loop-again c =
-    omega (arith, sum-on (c .before .before .before .before .args .file .now) (c .before .before .loop .at) (c .before .before .loop .left) (c .before .loop-test .taken))
+    let turn = c .before .before .loop in
+    omega (arith, sum-on (c .before .before .before .before .args .file .now) (turn .at) (turn .left) (c .before .loop-test .taken))
 
 returns : tie.Need-returns Inv-loop μ-loop
 returns c =
