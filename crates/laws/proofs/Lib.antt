@@ -1,3 +1,4 @@
 -- Laws that belong to no one crate: one file for each kind of thing that they are about.
 pub mod Lists
 pub mod Tests
+pub mod Outcomes

@@ -16,3 +16,4 @@ pub mod Pinned
 pub mod CaseW
 pub mod SoundFine
 pub mod Refusals
+pub mod Settled
