@@ -1,0 +1,5 @@
+-- Laws of the check's second step.
+pub mod Back
+pub mod Seen
+pub mod Turn
+pub mod Reading
