@@ -3,3 +3,5 @@ pub mod Back
 pub mod Seen
 pub mod Turn
 pub mod Reading
+pub mod Steps
+pub mod Settled

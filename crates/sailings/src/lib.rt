@@ -6,9 +6,11 @@ ghost use Prim.Native.Nat.{_+_, _*_, _≤_};
 ghost use lib.Dec.{leb};
 ghost use lib.ListN.{length};
 ghost use Rattle.timetable.specs.Rows.{lastOfTrip, follows as followsRow, rowsVerdict};
+ghost use Rattle.layout.specs.Format.{Readable};
 ghost use Rattle.layout.specs.Decode.{rowsFrom};
-ghost use Rattle.layout.specs.Check.{rangesOf, answered};
+ghost use Rattle.layout.specs.Check.{rangesOf, answered, checkedAs, checked};
 ghost use Rattle.sailings.specs.Behind.{rowsBehind, found, RowsInside};
+use head::Headed;
 use layout::Checked;
 use layout::Format;
 use layout::Head;
@@ -20,6 +22,25 @@ use timetable::TRIPS;
 enum Found {
     At(Row),
     Nothing,
+}
+
+// The check of a file of version 1.
+pub fn check(file: &[u8]) -> Checked
+    ensures { λ r. ⌜ r ≡ checked (now (file .entry)) ⌝ }
+{
+    check_as(file, layout::VERSION_ONE)
+}
+
+// The check of a file of a version: the head, then the rows.
+fn check_as(file: &[u8], f: Format) -> Checked
+    requires { ⌜ Readable f ⌝ }
+    ensures { λ r. ⌜ r ≡ checkedAs f (now (file .entry)) ⌝ }
+{
+    let headed = head::head(file, f);
+    match headed {
+        Headed::Bad { number, place } => Checked::Refused { number, place },
+        Headed::Good { head } => check_rows(file, f, head),
+    }
 }
 
 // Row by row, 4 before 5. `seen` has, for each trip, the number of rows up to its last one so far.

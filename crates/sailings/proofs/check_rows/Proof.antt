@@ -11,11 +11,6 @@ use Rattle.layout.specs.Check.{rangesOf, answered}
 use Rattle.sailings.proofs.Reading.{Reading, reading-none, reading-ends, row-inside, hint-inside, breaks-own, breaks-order, reads-on}
 use Rattle.sailings.proofs.check_rows.Statement.{statement}
 use Rattle.sailings.proofs.check_rows.Tie as tie
-use Rattle.sailings.proofs.check_rows.Reads as reads
-use Rattle.sailings.proofs.check_rows.Lts as lts
-use Rattle.layout.proofs.row_at.Reads as row-at-reads
-use Rattle.sailings.proofs.in_order.Reads as in-order-reads
-use Rattle.timetable.proofs.own_rule.Reads as own-rule-reads
 
 abbrev Inv-loop : tie.InvT-loop
 Inv-loop file head ranges width start count seen₀ departure₀ at₀ i₀ seen departure at i =

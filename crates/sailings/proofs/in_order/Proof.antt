@@ -10,10 +10,6 @@ use Rattle.sailings.specs.Behind.{rowsBehind, found}
 use Rattle.sailings.proofs.Back.{none-follows, found-follows}
 use Rattle.sailings.proofs.in_order.Statement.{statement}
 use Rattle.sailings.proofs.in_order.Tie as tie
-use Rattle.sailings.proofs.in_order.Reads as reads
-use Rattle.sailings.proofs.in_order.Lts as lts
-use Rattle.sailings.proofs.look_back.Reads as look-back-reads
-use Rattle.timetable.proofs.follows.Reads as follows-reads
 
 returns : tie.Need-returns
 returns c = simp (lt-leb _ _ (c .if1 .taken))

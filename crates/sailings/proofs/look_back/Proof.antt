@@ -12,9 +12,6 @@ use Rattle.sailings.specs.Behind.{rowsBehind, found}
 use Rattle.sailings.proofs.Back.{one-more, found-here, found-further, found-none}
 use Rattle.sailings.proofs.look_back.Statement.{statement}
 use Rattle.sailings.proofs.look_back.Tie as tie
-use Rattle.sailings.proofs.look_back.Reads as reads
-use Rattle.sailings.proofs.look_back.Lts as lts
-use Rattle.layout.proofs.row_at.Reads as row-at-reads
 
 abbrev Inv-loop : tie.InvT-loop
 Inv-loop file start width count trip left₀ at₀ left at =
