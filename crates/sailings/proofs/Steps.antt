@@ -53,10 +53,10 @@ module _ (f : Format) (s : List ℕ) where
         ∙ ap (λ v. answered (headOf f s) (orElse v (rowsAnswer (headOf f s)))) (good-head .0)
         ∙ ap (λ k. answered k (rowsAnswer k)) (sym (good-head .1))
 
-    pub rows-inside : Readable f → RowsInside f h (length s)
+    pub rows-inside : Readable f → RowsInside (f .width) h (length s)
     rows-inside fit =
         let sound : HeadSound f s = head-gives f s (good-head .0) in
-        subst⁻¹ (λ k. RowsInside f k (length s)) (good-head .1)
+        subst⁻¹ (λ k. RowsInside (f .width) k (length s)) (good-head .1)
         (record {
           width-holds-row = fit .width-holds-row;
           few = sound .in-range .rows-most;

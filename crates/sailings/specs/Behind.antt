@@ -3,7 +3,6 @@ use Prim.Native.Nat.{ℕ, zero, suc, _+_, _*_, _≤_}
 use mathlib.Core.List.{List, [], _∷_}
 use mathlib.Core.Option.{Option, none, some}
 use Rattle.timetable.specs.declared.Row.{Row}
-use Rattle.layout.specs.declared.Format.{Format}
 use Rattle.layout.specs.declared.Head.{Head}
 use Rattle.layout.specs.Format.{mostRows}
 use Rattle.layout.specs.Decode.{rowAt}
@@ -21,7 +20,7 @@ found none = Nothing
 found (some r) = At r
 
 -- what reading the rows needs: they are few, each holds its numbers, and all lie within the file
-pub record RowsInside (f : Format) (h : Head) (end : ℕ) : Type 0 where
-  pub width-holds-row : 12 ≤ f .width
+pub record RowsInside (width : ℕ) (h : Head) (end : ℕ) : Type 0 where
+  pub width-holds-row : 12 ≤ width
   pub few : h .rows ≤ mostRows
-  pub inside : h .rowstart + f .width * h .rows ≤ end
+  pub inside : h .rowstart + width * h .rows ≤ end

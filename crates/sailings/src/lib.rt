@@ -8,7 +8,7 @@ ghost use lib.ListN.{length};
 ghost use Rattle.timetable.specs.Rows.{lastOfTrip, follows as followsRow, rowsVerdict};
 ghost use Rattle.layout.specs.Format.{Readable};
 ghost use Rattle.layout.specs.Decode.{rowsFrom};
-ghost use Rattle.layout.specs.Check.{rangesOf, answered, checkedAs, checked};
+ghost use Rattle.layout.specs.Check.{answered, checkedAs, checked};
 ghost use Rattle.sailings.specs.Behind.{rowsBehind, found, RowsInside};
 use head::Headed;
 use layout::Checked;
@@ -39,21 +39,22 @@ fn check_as(file: &[u8], f: Format) -> Checked
     let headed = head::head(file, f);
     match headed {
         Headed::Bad { number, place } => Checked::Refused { number, place },
-        Headed::Good { head } => check_rows(file, f, head),
+        Headed::Good { head } => {
+            let ranges = Ranges {
+                stops: head.stops,
+                classes: head.classes,
+                latest: f.latest,
+            };
+            check_rows(file, head, f.width, ranges)
+        }
     }
 }
 
 // Row by row, 4 before 5. `seen` has, for each trip, the number of rows up to its last one so far.
-fn check_rows(file: &[u8], f: Format, head: Head) -> Checked
-    requires { ⌜ RowsInside f head (length (now file)) ⌝ }
-    ensures { λ r. ⌜ r ≡ answered head (rowsVerdict (rangesOf f head) [] 0 (rowsFrom (f .width) (now (file .entry)) (head .rowstart) (head .rows))) ⌝ }
+fn check_rows(file: &[u8], head: Head, width: usize, ranges: Ranges) -> Checked
+    requires { ⌜ RowsInside width head (length (now file)) ⌝ }
+    ensures { λ r. ⌜ r ≡ answered head (rowsVerdict ranges [] 0 (rowsFrom width (now (file .entry)) (head .rowstart) (head .rows))) ⌝ }
 {
-    let ranges = Ranges {
-        stops: head.stops,
-        classes: head.classes,
-        latest: f.latest,
-    };
-    let width = f.width;
     let start = head.rowstart;
     let count = head.rows;
     let mut seen = [0u16; TRIPS];

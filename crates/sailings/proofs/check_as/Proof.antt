@@ -1,6 +1,7 @@
 -- `sailings::check_as` meets its contract: a refused head is the answer, and behind a good one the rows decide. Assumes nothing.
 use mathlib.Core.Path.{_≡_, sym, _∙_}
 use borrow.Author.Needs.{needs}
+use Rattle.layout.specs.Check.{rangesOf}
 use Rattle.head.specs.declared.Headed.the-variants.{Good, Bad}
 use Rattle.head.specs.Headed.{headed}
 use Rattle.sailings.proofs.Steps.{refused-head, rows-decide, rows-inside}
@@ -37,6 +38,7 @@ returns c =
     sym (refused-head (a .f) (a .file .now) (refused .0) (refused .1 .0) bad)
 
 returns-2 : tie.Need-returns-2
+unfolding rangesOf
 returns-2 c =
     let a = c .before .before .before .before .before .before .args in
     c .check-rows .ensures

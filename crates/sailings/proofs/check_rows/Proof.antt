@@ -7,54 +7,52 @@ use borrow.Author.Needs.{needs}
 use borrow.Author.Tests.{not-true, not-false}
 use Rattle.timetable.specs.Rows.{trips, ownRule}
 use Rattle.timetable.proofs.RowsSound.{own-gives}
-use Rattle.layout.specs.Check.{rangesOf, answered}
+use Rattle.layout.specs.Check.{answered}
 use Rattle.sailings.proofs.Reading.{Reading, reading-none, reading-ends, row-inside, hint-inside, breaks-own, breaks-order, reads-on}
 use Rattle.sailings.proofs.check_rows.Statement.{statement}
 use Rattle.sailings.proofs.check_rows.Tie as tie
 
 abbrev Inv-loop : tie.InvT-loop
-Inv-loop file head ranges width start count seen₀ departure₀ at₀ i₀ seen departure at i =
+Inv-loop file head width ranges start count seen₀ departure₀ at₀ i₀ seen departure at i =
     Reading ranges width file start count seen departure at i
 
 abbrev μ-loop : tie.MeasureT-loop
-μ-loop file head ranges width start count seen₀ departure₀ at₀ i₀ seen departure at i = count - i
+μ-loop file head width ranges start count seen₀ departure₀ at₀ i₀ seen departure at i = count - i
 
 loop-holds : tie.Need-loop-holds Inv-loop μ-loop
-unfolding rangesOf
 loop-holds c =
     let a = c .before .args in
-    reading-none (rangesOf (a .f) (a .head)) (a .f .width) (a .file .now) (a .head .rowstart) (a .head .rows) _ refl
+    reading-none (a .ranges) (a .width) (a .file .now) (a .head .rowstart) (a .head .rows) _ refl
 
 row-at-requires : tie.Need-row-at-requires Inv-loop μ-loop
 row-at-requires c κs =
     let a = c .before .before .before .args in
-    omega (arith, row-inside (a .f .width) (a .head .rows) (c .before .loop .i) (c .loop-test .taken), c .before .before .before .pre)
+    omega (arith, row-inside (a .width) (a .head .rows) (c .before .loop .i) (c .loop-test .taken), c .before .before .before .pre)
 
 own-rule-requires : tie.Need-own-rule-requires Inv-loop μ-loop
 own-rule-requires c κs = search needs
 
 returns : tie.Need-returns Inv-loop μ-loop
-unfolding rangesOf answered
+unfolding answered
 returns c =
     let a = c .before .before .before .before .before .before .args in
     let l = c .before .before .before .before .loop in
-    let own : ownRule (rangesOf (a .f) (a .head)) (c .before .before .row-at .result) ≡ false =
+    let own : ownRule (a .ranges) (c .before .before .row-at .result) ≡ false =
     sym (c .before .own-rule .ensures) ∙ not-true (c .before .own-rule .result) (c .if1 .taken)
     in
     sym
     (ap (answered (a .head))
-    (breaks-own (rangesOf (a .f) (a .head)) (a .f .width) (a .file .now) (a .head .rowstart) (a .head .rows) (l .seen) (l .departure)
+    (breaks-own (a .ranges) (a .width) (a .file .now) (a .head .rowstart) (a .head .rows) (l .seen) (l .departure)
     (l .at) (l .i) (l .inv) (c .before .before .before .loop-test .taken) (c .before .before .row-at .result) (c .before .before .row-at .ensures .0) own))
 
 -- behind the first test the row keeps the rules about itself
 own-kept : (c : tie.Else1 Inv-loop μ-loop)
-    → ownRule (rangesOf (c .before .before .before .before .before .before .args .f) (c .before .before .before .before .before .before .args .head)) (c .before .before .row-at .result) ≡ true
-unfolding rangesOf
+    → ownRule (c .before .before .before .before .before .before .args .ranges) (c .before .before .row-at .result) ≡ true
 own-kept c = sym (c .before .own-rule .ensures) ∙ not-false (c .before .own-rule .result) (c .if1 .left)
 
 trip-inside : (c : tie.Else1 Inv-loop μ-loop) → c .before .before .row-at .result .trip < trips
 trip-inside c =
-    own-gives (rangesOf (c .before .before .before .before .before .before .args .f) (c .before .before .before .before .before .before .args .head)) (c .before .before .row-at .result) (own-kept c) .trip
+    own-gives (c .before .before .before .before .before .before .args .ranges) (c .before .before .row-at .result) (own-kept c) .trip
 
 mul-in-order : tie.Need-mul-in-order Inv-loop μ-loop
 mul-in-order c = search needs
@@ -68,31 +66,30 @@ cast-in-order c =
     omega (arith, hint .within, c .before .before .before .before .loop .inv .inside, c .before .before .before .before .before .before .pre)
 
 in-order-requires : tie.Need-in-order-requires Inv-loop μ-loop
-unfolding rangesOf
 in-order-requires c κs =
     let a = c .before .before .before .before .before .before .args in
     let l = c .before .before .before .before .loop in
     let hint =
-    hint-inside (rangesOf (a .f) (a .head)) (a .f .width) (a .file .now) (a .head .rowstart) (a .head .rows) (l .seen) (l .departure)
+    hint-inside (a .ranges) (a .width) (a .file .now) (a .head .rowstart) (a .head .rows) (l .seen) (l .departure)
     (l .at) (l .i) (l .inv) (c .before .before .row-at .result .trip) (trip-inside c)
     in
     (c .before .before .before .before .before .before .pre .width-holds-row, omega (arith, hint, c .before .before .before .before .before .before .pre))
 
 returns-2 : tie.Need-returns-2 Inv-loop μ-loop
-unfolding rangesOf answered
+unfolding answered
 returns-2 c =
     let a = c .before .before .before .before .before .before .before .before .args in
     let l = c .before .before .before .before .before .before .loop in
     sym
     (ap (answered (a .head))
-    (breaks-order (rangesOf (a .f) (a .head)) (a .f .width) (a .file .now) (a .head .rowstart) (a .head .rows) (l .seen) (l .departure)
+    (breaks-order (a .ranges) (a .width) (a .file .now) (a .head .rowstart) (a .head .rows) (l .seen) (l .departure)
     (l .at) (l .i) (l .inv) (c .before .before .before .before .before .loop-test .taken) (c .before .before .before .before .row-at .result) (c .before .before .before .before .row-at .ensures .0) (own-kept (c .before .before))
     (sym (c .before .in-order .ensures) ∙ not-true (c .before .in-order .result) (c .if2 .taken))))
 
 add-at : tie.Need-add-at Inv-loop μ-loop
 add-at c =
     let a = c .before .before .before .before .before .before .before .before .args in
-    omega (arith, row-inside (a .f .width) (a .head .rows) (c .before .before .before .before .before .before .loop .i) (c .before .before .before .before .before .loop-test .taken), c .before .before .before .before .before .before .loop .inv .place, c .before .before .before .before .before .before .before .before .pre)
+    omega (arith, row-inside (a .width) (a .head .rows) (c .before .before .before .before .before .before .loop .i) (c .before .before .before .before .before .loop-test .taken), c .before .before .before .before .before .before .loop .inv .place, c .before .before .before .before .before .before .before .before .pre)
 
 add-i : tie.Need-add-i Inv-loop μ-loop
 add-i c = search needs
@@ -110,22 +107,21 @@ loop-less : tie.Need-loop-less Inv-loop μ-loop
 loop-less c = search needs
 
 loop-again : tie.Need-loop-again Inv-loop μ-loop
-unfolding rangesOf
 loop-again c =
     let a = c .before .before .before .before .before .before .before .before .args in
     let l = c .before .before .before .before .before .before .loop in
-    reads-on (rangesOf (a .f) (a .head)) (a .f .width) (a .file .now) (a .head .rowstart) (a .head .rows) (l .seen) (l .departure)
+    reads-on (a .ranges) (a .width) (a .file .now) (a .head .rowstart) (a .head .rows) (l .seen) (l .departure)
     (l .at) (l .i) (l .inv) (c .before .before .before .before .before .loop-test .taken) (c .before .before .before .before .row-at .result) (c .before .before .before .before .row-at .ensures .0) (own-kept (c .before .before))
     (sym (c .before .in-order .ensures) ∙ not-false (c .before .in-order .result) (c .if2 .left))
 
 returns-3 : tie.Need-returns-3 Inv-loop μ-loop
-unfolding rangesOf answered
+unfolding answered
 returns-3 c =
     let a = c .before .before .before .args in
     let l = c .before .loop in
     sym
     (ap (answered (a .head))
-    (reading-ends (rangesOf (a .f) (a .head)) (a .f .width) (a .file .now) (a .head .rowstart) (a .head .rows) (l .seen) (l .departure)
+    (reading-ends (a .ranges) (a .width) (a .file .now) (a .head .rowstart) (a .head .rows) (l .seen) (l .departure)
     (l .at) (l .i) (l .inv) (c .loop-test .left)))
 
 pub check-rows-spec : {M : Type 1} → statement M
