@@ -12,7 +12,7 @@ use Rattle.layout.specs.declared.Checked.the-variants.{Refused}
 use Rattle.layout.specs.Format.{Readable}
 use Rattle.layout.specs.Decode.{headOf, rowsFrom, decode}
 use Rattle.layout.specs.Check.{headVerdict, rangesOf, fileVerdict, answered, checkedAs}
-use Rattle.layout.proofs.Sound.{HeadSound, head-gives}
+use Rattle.layout.proofs.HeadSound.{HeadSound, head-gives}
 use Rattle.head.specs.declared.Headed.the-variants.{Good, Bad}
 use Rattle.head.specs.Headed.{headedBy, headed}
 use Rattle.sailings.specs.Behind.{RowsInside}
