@@ -15,13 +15,13 @@ unfoldable pub departureBefore : List Row → ℕ
 departureBefore [] = 0
 departureBefore (p ∷ back) = p .departure
 
-pub departures-rise : (back : List Row) (r : Row) → departureRule back r ≡ leb (departureBefore back) (r .departure)
+departures-rise : (back : List Row) (r : Row) → departureRule back r ≡ leb (departureBefore back) (r .departure)
 unfolding departureRule departureBefore
 departures-rise [] r = sym (leb·zero (r .departure))
 departures-rise (p ∷ back) r = refl
 
 -- both halves of 5, by the departure before and the row found
-pub rule-five : (back : List Row) (r : Row)
+rule-five : (back : List Row) (r : Row)
     → (departureRule back r && tripRule back r) ≡ (leb (departureBefore back) (r .departure) && follows (lastOfTrip (r .trip) back) r)
 unfolding tripRule
 rule-five back r = ap (λ b. b && follows (lastOfTrip (r .trip) back) r) (departures-rise back r)

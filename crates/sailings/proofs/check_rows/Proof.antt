@@ -1,5 +1,5 @@
 -- `sailings::check_rows` meets its contract: the verdict on all the rows is the verdict on those still to come. Assumes nothing.
-use Prim.Native.Nat.{ℕ, _+_, _-_, _*_, _≤_, _<_}
+use Prim.Native.Nat.{_-_, _<_}
 use mathlib.Core.Bool.{true, false}
 use mathlib.Core.Path.{_≡_, refl, ap, sym, _∙_}
 use native.Mathlib.Omega.{arith}
@@ -27,7 +27,8 @@ loop-holds c =
 row-at-requires : tie.Need-row-at-requires Inv-loop μ-loop
 row-at-requires c κs =
     let a = c .before .before .before .args in
-    omega (arith, row-inside (a .width) (a .head .rows) (c .before .loop .i) (c .loop-test .taken), c .before .before .before .pre)
+    let inside = row-inside (a .width) (a .head .rows) (c .before .loop .i) (c .loop-test .taken) in
+    omega (arith, inside, c .before .before .before .pre)
 
 own-rule-requires : tie.Need-own-rule-requires Inv-loop μ-loop
 own-rule-requires c κs = search needs
@@ -43,7 +44,8 @@ returns c =
     sym
     (ap (answered (a .head))
     (breaks-own (a .ranges) (a .width) (a .file .now) (a .head .rowstart) (a .head .rows) (l .seen) (l .departure)
-    (l .at) (l .i) (l .inv) (c .before .before .before .loop-test .taken) (c .before .before .row-at .result) (c .before .before .row-at .ensures .0) own))
+    (l .at) (l .i) (l .inv) (c .before .before .before .loop-test .taken) (c .before .before .row-at .result)
+    (c .before .before .row-at .ensures .0) own))
 
 -- behind the first test the row keeps the rules about itself
 own-kept : (c : tie.Else1 Inv-loop μ-loop)
@@ -62,8 +64,9 @@ array-read-in-order c = trip-inside c
 
 cast-in-order : tie.Need-cast-in-order Inv-loop μ-loop
 cast-in-order c =
-    let hint = c .before .before .before .before .loop .inv .trips-seen .hints (c .before .before .row-at .result .trip) (trip-inside c) in
-    omega (arith, hint .within, c .before .before .before .before .loop .inv .inside, c .before .before .before .before .before .before .pre)
+    let known = c .before .before .before .before .loop .inv in
+    let hint = known .trips-seen .hints (c .before .before .row-at .result .trip) (trip-inside c) in
+    omega (arith, hint .within, known .inside, c .before .before .before .before .before .before .pre)
 
 in-order-requires : tie.Need-in-order-requires Inv-loop μ-loop
 in-order-requires c κs =
@@ -73,7 +76,8 @@ in-order-requires c κs =
     hint-inside (a .ranges) (a .width) (a .file .now) (a .head .rowstart) (a .head .rows) (l .seen) (l .departure)
     (l .at) (l .i) (l .inv) (c .before .before .row-at .result .trip) (trip-inside c)
     in
-    (c .before .before .before .before .before .before .pre .width-holds-row, omega (arith, hint, c .before .before .before .before .before .before .pre))
+    let lies = c .before .before .before .before .before .before .pre in
+    (lies .width-holds-row, omega (arith, hint, lies))
 
 returns-2 : tie.Need-returns-2 Inv-loop μ-loop
 unfolding answered
@@ -83,13 +87,16 @@ returns-2 c =
     sym
     (ap (answered (a .head))
     (breaks-order (a .ranges) (a .width) (a .file .now) (a .head .rowstart) (a .head .rows) (l .seen) (l .departure)
-    (l .at) (l .i) (l .inv) (c .before .before .before .before .before .loop-test .taken) (c .before .before .before .before .row-at .result) (c .before .before .before .before .row-at .ensures .0) (own-kept (c .before .before))
+    (l .at) (l .i) (l .inv) (c .before .before .before .before .before .loop-test .taken) (c .before .before .before .before .row-at .result)
+    (c .before .before .before .before .row-at .ensures .0) (own-kept (c .before .before))
     (sym (c .before .in-order .ensures) ∙ not-true (c .before .in-order .result) (c .if2 .taken))))
 
 add-at : tie.Need-add-at Inv-loop μ-loop
 add-at c =
     let a = c .before .before .before .before .before .before .before .before .args in
-    omega (arith, row-inside (a .width) (a .head .rows) (c .before .before .before .before .before .before .loop .i) (c .before .before .before .before .before .loop-test .taken), c .before .before .before .before .before .before .loop .inv .place, c .before .before .before .before .before .before .before .before .pre)
+    let l = c .before .before .before .before .before .before .loop in
+    let inside = row-inside (a .width) (a .head .rows) (l .i) (c .before .before .before .before .before .loop-test .taken) in
+    omega (arith, inside, l .inv .place, c .before .before .before .before .before .before .before .before .pre)
 
 add-i : tie.Need-add-i Inv-loop μ-loop
 add-i c = search needs
@@ -111,7 +118,8 @@ loop-again c =
     let a = c .before .before .before .before .before .before .before .before .args in
     let l = c .before .before .before .before .before .before .loop in
     reads-on (a .ranges) (a .width) (a .file .now) (a .head .rowstart) (a .head .rows) (l .seen) (l .departure)
-    (l .at) (l .i) (l .inv) (c .before .before .before .before .before .loop-test .taken) (c .before .before .before .before .row-at .result) (c .before .before .before .before .row-at .ensures .0) (own-kept (c .before .before))
+    (l .at) (l .i) (l .inv) (c .before .before .before .before .before .loop-test .taken) (c .before .before .before .before .row-at .result)
+    (c .before .before .before .before .row-at .ensures .0) (own-kept (c .before .before))
     (sym (c .before .in-order .ensures) ∙ not-false (c .before .in-order .result) (c .if2 .left))
 
 returns-3 : tie.Need-returns-3 Inv-loop μ-loop

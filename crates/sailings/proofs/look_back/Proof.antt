@@ -1,7 +1,7 @@
 -- `sailings::look_back` meets its contract: what is found among all the rows is what is found among those still left. Assumes nothing.
-use Prim.Native.Nat.{suc, _+_, _-_, _*_, _≤_}
+use Prim.Native.Nat.{_+_, _-_, _*_, _≤_}
 use mathlib.Core.Option.{some}
-use mathlib.Core.Path.{_≡_, refl, ap, sym, subst, _∙_}
+use mathlib.Core.Path.{_≡_, refl, ap, sym, _∙_}
 use native.Mathlib.Omega.{arith}
 use borrow.Author.Needs.{needs}
 use lib.ListN.{length}
@@ -78,7 +78,8 @@ loop-again c =
 returns-2 : tie.Need-returns-2 Inv-loop μ-loop
 returns-2 c =
     let a = c .before .before .before .args in
-    ap found (sym (c .before .loop .inv .2 ∙ found-none (a .width) (a .file .now) (a .start) (a .trip) (c .before .loop .left) (omega arith)))
+    let none-left = found-none (a .width) (a .file .now) (a .start) (a .trip) (c .before .loop .left) (omega arith) in
+    ap found (sym (c .before .loop .inv .2 ∙ none-left))
 
 pub look-back-spec : {M : Type 1} → statement M
 look-back-spec =
