@@ -65,7 +65,8 @@ others-apart r (v ∷ vs) {x} m there =
     (λ n. others-apart r vs n there)) refl m
 
 pub others-kept :
-    (r : Ride) (vs : List Valued) {x : Valued} → List·Memᴰ x vs → (x .ride .from ≡ r .from → x .ride .departs ≢ r .departs) → List·Memᴰ x (others r vs)
+    (r : Ride) (vs : List Valued) {x : Valued} → List·Memᴰ x vs → (x .ride .from ≡ r .from → x .ride .departs ≢ r .departs)
+    → List·Memᴰ x (others r vs)
 unfolding others
 others-kept r [] m apart = m
 others-kept r (v ∷ vs) {x} m apart =

@@ -38,7 +38,8 @@ unfolding leads firstAt
 leads-all [] w s below = refl
 leads-all (v ∷ vs) w s below =
     ifb (λ b. eqb (v .ride .from) s ≡ b → leads w (cond b (some v) (firstAt vs s)) ≡ true) (eqb (v .ride .from) s)
-    (λ e _. lt-ltb w (v .worth) (below v (List·Memᴰ·head refl) (eqb-true (v .ride .from) s e))) (λ _ _. leads-all vs w s (λ x m. below x (List·Memᴰ·tail m))) refl
+    (λ e _. lt-ltb w (v .worth) (below v (List·Memᴰ·head refl) (eqb-true (v .ride .from) s e)))
+    (λ _ _. leads-all vs w s (λ x m. below x (List·Memᴰ·tail m))) refl
 
 -- a row that leads is chosen
 choice-takes :
@@ -51,14 +52,16 @@ choice-takes target (added apart lead') elsewhere lead = List·Memᴰ·head refl
 -- a chosen row stays so unless another of its stop and minute replaces it
 choice-keeps :
     (target : ℕ) {best : Option Valued} {old new : List Valued} → Choice target old best new → (v : Valued) → List·Memᴰ v old
-    → ((u : Valued) → best ≡ some u → leads (u .worth) (firstAt old (u .ride .from)) ≡ true → v .ride .from ≡ u .ride .from → v .ride .departs ≢ u .ride .departs)
+    → ((u : Valued) → best ≡ some u → leads (u .worth) (firstAt old (u .ride .from)) ≡ true → v .ride .from ≡ u .ride .from
+    → v .ride .departs ≢ u .ride .departs)
     → List·Memᴰ v new
 choice-keeps target worthless v m alone = m
 choice-keeps target (at-target p) v m alone = m
 choice-keeps target (behind p) v m alone = m
 choice-keeps target {old = old} (added {v = u} apart lead) v m alone = List·Memᴰ·tail (others-kept (u .ride) old m (alone u refl lead))
 
-scan-length : (off : GettingOff) (target : ℕ) (tables : List (List ℕ)) (i : ℕ) (rows : List Row) → length (scan off target tables i rows .weighed) ≡ length rows
+scan-length : (off : GettingOff) (target : ℕ) (tables : List (List ℕ)) (i : ℕ) (rows : List Row)
+    → length (scan off target tables i rows .weighed) ≡ length rows
 unfolding scan
 scan-length off target tables i [] = refl
 scan-length off target tables i (r ∷ rows) = ap suc (scan-length off target tables (suc i) rows)
@@ -71,13 +74,15 @@ module _ (off : GettingOff) (target : ℕ) (t : Timetable) where
       ∙ ap (bestAt off target t) (sym (add-zero i))
   weighed-at (suc k) i past h =
       ap (λ (s : Scan). getD (s .weighed) (suc k) past .best) (scan-row off target t i (let z : i < length (t .rows) = omega arith in z))
-      ∙ weighed-at k (suc i) past (let z : suc i + k < length (t .rows) = omega arith in z) ∙ ap (bestAt off target t) (let z : suc i + k ≡ i + suc k = omega arith in z)
+      ∙ weighed-at k (suc i) past (let z : suc i + k < length (t .rows) = omega arith in z)
+      ∙ ap (bestAt off target t) (let z : suc i + k ≡ i + suc k = omega arith in z)
 
 module _ (t : Timetable) (target bound : ℕ) where
   -- the best ride of a row
   pub best-ride : (i : ℕ) → i < length (t .rows) → bestRide t target bound i ≡ bestInTicks t target bound i
   unfolding bestRide scanned scanFrom
-  best-ride i h = weighed-at (offInTicks target bound) target t i 0 _ (subst (λ k. k < length (t .rows)) (sym (zero-add i)) h) ∙ ap (bestInTicks t target bound) (zero-add i)
+  best-ride i h = weighed-at (offInTicks target bound) target t i 0 _ (subst (λ k. k < length (t .rows)) (sym (zero-add i)) h)
+      ∙ ap (bestInTicks t target bound) (zero-add i)
 
   -- past the last row there is none
   pub best-past : (i : ℕ) → length (t .rows) ≤ i → bestRide t target bound i ≡ none
@@ -100,7 +105,13 @@ module _ (t : Timetable) (target bound : ℕ) where
       let found = worth-is (bestRide t target bound j) h in
       let inside : j < length (t .rows) = lt-of-not-le (λ past. absent (sym (best-past j past) ∙ found .1)) in
       let best = sym (best-ride j inside) ∙ found .1 in
-      record { inside = inside; ride = found .0; best = best; worth = found .2; at = best-boards (offInTicks target bound) target t j inside (found .0) best }
+      record {
+        inside = inside;
+        ride = found .0;
+        best = best;
+        worth = found .2;
+        at = best-boards (offInTicks target bound) target t j inside (found .0) best;
+      }
 
   pub has-worth : (j : ℕ) → j < length (t .rows) → (v : Valued) → bestInTicks t target bound j ≡ some v → HasWorth t target bound j (v .worth)
   has-worth j h v e = ap worthOf (best-ride j h ∙ e) ∙ worth-of v
@@ -119,7 +130,8 @@ module _ (t : Timetable) (target bound : ℕ) where
         (k j : ℕ) → k ≤ j → j < length (t .rows) → (u : Valued) → bestInTicks t target bound j ≡ some u → u .ride .from ≢ target → Finds k u
     row-finds k j a b u e elsewhere =
         found-at-most (Finds k u)
-        (first-least (offInTicks target bound) target t timely k (let z : k ≤ length (t .rows) = omega arith in z) j a b u e elsewhere (u .ride .departs)
+        (first-least (offInTicks target bound) target t timely k (let z : k ≤ length (t .rows) = omega arith in z) j a b u e elsewhere
+        (u .ride .departs)
         (let z : u .ride .departs ≤ u .ride .departs = omega arith in z))
         (λ x q h. let opens = found-boards _ (u .ride .from) (u .ride .departs) q in
         record {
@@ -165,7 +177,8 @@ module _ (t : Timetable) (target bound : ℕ) where
           let then : u .ride .ride .departs ≡ v .ride .departs = u .at .minute ∙ minute ∙ sym (here .minute) in
           let f = row-finds 0 j zero-le (u .inside) (u .ride) (u .best) (λ e. picked .elsewhere (sym same ∙ e)) in
           let g = first-before (chosenInTicks t target bound 0) order (u .ride .ride .from) (u .ride .ride .departs) v member
-          (can-board (v .ride) (u .ride .ride .from) (u .ride .ride .departs) (sym same) (let z : u .ride .ride .departs ≤ v .ride .departs = omega arith in z)) in
+          (can-board (v .ride) (u .ride .ride .from) (u .ride .ride .departs) (sym same)
+          (let z : u .ride .ride .departs ≤ v .ride .departs = omega arith in z)) in
           let one : g .0 ≡ f .first = same-thing (sym (g .1) ∙ f .is-first) in
           ⊎-elim (λ e. let c : v .worth ≡ f .first .worth = ap (λ (x : Valued). x .worth) (sym e ∙ one) in omega (arith, f .cheap, u .worth))
           (λ b. absurd (let c : g .0 .ride .departs < v .ride .departs = b .apart (ap (λ (x : Valued). x .ride .from) one ∙ f .there ∙ same) in
@@ -173,14 +186,16 @@ module _ (t : Timetable) (target bound : ℕ) where
           let z : ⊥ = omega (arith, f .then) in z)) (g .2)
 
       -- the highest row number deciding among equals
-      highest : (j w : ℕ) → HasWorth t target bound j w → rowOf (t .rows) j .board ≡ rowOf (t .rows) (v .ride .board) .board → v .worth ≡ w → j ≤ v .ride .board
+      highest : (j w : ℕ) → HasWorth t target bound j w → rowOf (t .rows) j .board ≡ rowOf (t .rows) (v .ride .board) .board → v .worth ≡ w
+          → j ≤ v .ride .board
       highest j w h stop equal =
           let back : j < suc (v .ride .board) = lt-of-not-le
           (λ later. let u = weighs j w h in
           let same : u .ride .ride .from ≡ v .ride .from = u .at .stop ∙ stop ∙ sym (here .stop) in
           let f = row-finds (suc (v .ride .board)) j later (u .inside) (u .ride) (u .best) (λ e. picked .elsewhere (sym same ∙ e)) in
           let c : v .worth < f .first .worth = leads-each (chosenInTicks t target bound (suc (v .ride .board)))
-          (chosen-ordered (offInTicks target bound) target t timely (suc (v .ride .board)) (picked .inside)) (v .worth) (v .ride .from) (picked .leading) (f .first) (f .member)
+          (chosen-ordered (offInTicks target bound) target t timely (suc (v .ride .board)) (picked .inside)) (v .worth) (v .ride .from)
+          (picked .leading) (f .first) (f .member)
           (f .there ∙ same) in
           let z : ⊥ = omega (arith, f .cheap, u .worth) in z) in
           omega arith
@@ -253,16 +268,23 @@ module _ (t : Timetable) (target bound : ℕ) where
         let u = weighs i w h in
         let here : boards (u .ride .ride) s m ≡ true = ap₂ (λ (a b : ℕ). opens a b s m) (u .at .stop) (u .at .minute) ∙ open' in
         let there : u .ride .ride .from ≡ s = boards-stop (u .ride .ride) s m here in
-        let first = first-least (offInTicks target bound) target t timely 0 zero-le i zero-le (u .inside) (u .ride) (u .best) (λ e. elsewhere (sym there ∙ e)) m
+        let first = first-least (offInTicks target bound) target t timely 0 zero-le i zero-le (u .inside) (u .ride) (u .best)
+        (λ e. elsewhere (sym there ∙ e)) m
         (boards-minute (u .ride .ride) s m here) in
         found-at-most ((v : Valued) × (firstOpen (chosenFor t target bound) s m ≡ some v) × (v .worth ≤ w)) first
-        (λ v e c. (v, ap₂ (λ (l : List Valued) (x : ℕ). firstOpen l x m) (chosen-for t target bound) (sym there) ∙ e, (let z : v .worth ≤ w = omega (arith, u .worth) in z)))
+        (λ v e c. (
+          v,
+          ap₂ (λ (l : List Valued) (x : ℕ). firstOpen l x m) (chosen-for t target bound) (sym there) ∙ e,
+          (let z : v .worth ≤ w = omega (arith, u .worth) in z),
+        ))
 
     pub chosen-in-words :
-        (v : Valued) → List·Memᴰ v (chosenFor t target bound) ↔ (Chosen t target bound (v .ride .board) × (bestRide t target bound (v .ride .board) ≡ some v))
+        (v : Valued) → List·Memᴰ v (chosenFor t target bound) ↔
+        (Chosen t target bound (v .ride .board) × (bestRide t target bound (v .ride .board) ≡ some v))
     chosen-in-words v = (
       λ m. let there = subst (λ (l : List Valued). List·Memᴰ v l) (chosen-for t target bound) m in
           let p = picked v there in (is-chosen v there, best-ride (v .ride .board) (p .inside) ∙ p .best),
       λ w. let inside : v .ride .board < length (t .rows) = lt-of-not-le (λ past. absent (sym (best-past (v .ride .board) past) ∙ w .1)) in
-          subst (λ (l : List Valued). List·Memᴰ v l) (sym (chosen-for t target bound)) (chosen-is v inside (sym (best-ride (v .ride .board) inside) ∙ w .1) (w .0)),
+          subst (λ (l : List Valued). List·Memᴰ v l) (sym (chosen-for t target bound))
+          (chosen-is v inside (sym (best-ride (v .ride .board) inside) ∙ w .1) (w .0)),
     )

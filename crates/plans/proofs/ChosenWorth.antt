@@ -62,7 +62,8 @@ module _ (t : Timetable) (timely : Timely t) where
         (r : Ride) → IsRide t r → (i : ℕ) → i ≤ suc (r .leave) → (s m : ℕ) → r .arrives ≤ m
         → firstOpen (chosenFrom off target t i) s m ≡ firstOpen (chosenFrom off target t (suc (r .leave))) s m
     landing-sees r is i h s m late =
-        rows-passed (r .leave) (is .inside) s m (let z : rowOf (t .rows) (r .leave) .departure < m = omega (arith, leaves-before t timely r is) in z) i h
+        rows-passed (r .leave) (is .inside) s m
+        (let z : rowOf (t .rows) (r .leave) .departure < m = omega (arith, leaves-before t timely r is) in z) i h
 
   module _ (target bound : ℕ) where
     off-boarded : (i : ℕ) (row : Row) (r : Ride) (vs : List Valued) (w : ℕ) → Off target bound r vs w → Off target bound (boardedAt i row r) vs w
@@ -97,7 +98,8 @@ module _ (t : Timetable) (timely : Timely t) where
         landing i h later w (goes-on {u = u} away e) =
             let there = found-member _ _ _ e in
             let p = chosen-picked (offInTicks target bound) target t (suc i) h u there in
-            let a : u .ride .departs < u .ride .arrives = departs-before t timely (u .ride) (best-is-ride (offInTicks target bound) target t (u .ride .board) (p .inside) u (p .best)) in
+            let a : u .ride .departs < u .ride .arrives = departs-before t timely (u .ride)
+            (best-is-ride (offInTicks target bound) target t (u .ride .board) (p .inside) u (p .best)) in
             within-earlier bound _ (latest (u .ride)) (omega (arith, boards-minute (u .ride) _ _ (found-boards _ _ _ e))) (later u there)
 
     -- each chosen ride is worth what those behind it give
@@ -119,9 +121,11 @@ module _ (t : Timetable) (timely : Timely t) where
         ∙ landing-sees off target (v .ride) is (suc i) (omega (arith, is .onward, at .row)) (v .ride .to) m late)
         (sym (off-worth target bound (v .ride) _ (v .worth) landing)) (goes landing)
         (others-own target (v .ride) later
-        (λ x m. subst (λ k. k ≤ x .ride .departs) (sym (at .minute)) (chosen-rising off target t timely i (suc i) (let z : i ≤ suc i = omega arith in z) h x m)) own)
+        (λ x m. subst (λ k. k ≤ x .ride .departs) (sym (at .minute))
+        (chosen-rising off target t timely i (suc i) (let z : i ≤ suc i = omega arith in z) h x m)) own)
       where
-        goes : {w : ℕ} {vs : List Valued} → Off target bound (v .ride) vs w → v .ride .to ≢ target → (safe : Valued) × (firstOpen vs (v .ride .to) (latest (v .ride)) ≡ some safe)
+        goes : {w : ℕ} {vs : List Valued} → Off target bound (v .ride) vs w → v .ride .to ≢ target
+            → (safe : Valued) × (firstOpen vs (v .ride .to) (latest (v .ride)) ≡ some safe)
         goes (arrives q b) away = absurd (away q)
         goes (goes-on {u = u} _ q) away = (u, q)
 

@@ -58,7 +58,8 @@ module _ (target bound : ℕ) where
   pub off-is : (r : Ride) (behind : List Valued) (w : ℕ) → offInTicks target bound r behind ≡ some w → Off r behind w
   unfolding offInTicks whenSafe
   off-is r behind w e =
-      ifb (λ b. eqb (r .to) target ≡ b → cond b (cond (within bound (latest r)) (some (arrivalWorth r)) none) (whenSafe next (changeWorth r behind)) ≡ some w → Off r behind w)
+      ifb (λ b. eqb (r .to) target ≡ b
+      → cond b (cond (within bound (latest r)) (some (arrivalWorth r)) none) (whenSafe next (changeWorth r behind)) ≡ some w → Off r behind w)
       (eqb (r .to) target)
       (λ q _ k. ifb (λ b. within bound (latest r) ≡ b → cond b (some (arrivalWorth r)) none ≡ some w → Off r behind w) (within bound (latest r))
       (λ p _ l. subst (λ x. Off r behind x) (same-thing l) (arrives (eqb-true (r .to) target q) p)) (λ _ _ l. absent l) refl k)

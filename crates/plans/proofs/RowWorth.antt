@@ -65,18 +65,22 @@ module _ (t : Timetable) (timely : Timely t) (target bound : ℕ) where
   way-bounds i h w (off-elsewhere {safe = safe} away m b) =
       let found = finds (chosenFor t target bound) (rideOf t i i .to) (latest (rideOf t i i)) m (T-true b) in
       row-off (offInTicks target bound) target t i _
-      (ticks-elsewhere target bound (rideOf t i i) _ away (found .0) (sym (landing-same i h _ _ (omega arith)) ∙ found .1) ∙ ap some (sym (change-all i h)))
+      (ticks-elsewhere target bound (rideOf t i i) _ away (found .0) (sym (landing-same i h _ _ (omega arith)) ∙ found .1)
+      ∙ ap some (sym (change-all i h)))
   way-bounds i h w (staying-on {next = next} n worth) =
       let found = weighs t target bound next w worth in
       stay-on (offInTicks target bound) target t i next w (let z : i ≤ next = omega (arith, n .later) in z) (n .inside) (sym (n .one-trip))
       (is-at-most (found .best) (le-of-eq (found .worth)))
 
   -- and the worth is that of one of them
-  off-way : (i : ℕ) → i < length (t .rows) → (w : ℕ) → Off target bound (rideOf t i i) (chosenInTicks t target bound (suc i)) w → OpenWay t target bound i w
+  off-way : (i : ℕ) → i < length (t .rows) → (w : ℕ) → Off target bound (rideOf t i i) (chosenInTicks t target bound (suc i)) w
+      → OpenWay t target bound i w
   off-way i h w (arrives e b) = off-at-target e (true-T b)
   off-way i h w (goes-on {u = u} away e) =
-      let all = landing-same i h (rideOf t i i .to) (latest (rideOf t i i)) (let z : rideOf t i i .arrives ≤ latest (rideOf t i i) = omega arith in z) ∙ e in
-      subst (λ x. OpenWay t target bound i x) (change-all i h) (off-elsewhere {safe = u} away (found-member _ _ _ all) (true-T (found-boards _ _ _ all)))
+      let all = landing-same i h (rideOf t i i .to) (latest (rideOf t i i)) (let z : rideOf t i i .arrives ≤ latest (rideOf t i i) = omega arith in z)
+      ∙ e in
+      subst (λ x. OpenWay t target bound i x) (change-all i h)
+      (off-elsewhere {safe = u} away (found-member _ _ _ all) (true-T (found-boards _ _ _ all)))
 
   source-way : (i : ℕ) → i < length (t .rows) → (v : Valued) → Source (offInTicks target bound) target t i v → OpenWay t target bound i (v .worth)
   unfolding offAt
@@ -87,7 +91,8 @@ module _ (t : Timetable) (timely : Timely t) (target bound : ℕ) where
   worth-in-words i h w = (
     λ worth. let found = weighs t target bound i w worth in
         record {
-          reached = subst (λ x. OpenWay t target bound i x) (found .worth) (source-way i h (found .ride) (best-source (offInTicks target bound) target t i h (found .ride) (found .best)));
+          reached = subst (λ x. OpenWay t target bound i x) (found .worth)
+              (source-way i h (found .ride) (best-source (offInTicks target bound) target t i h (found .ride) (found .best)));
           least = λ other way. subst (λ x. x ≤ other) (found .worth) (worth-at-most (way-bounds i h other way) (found .ride) (found .best));
         },
     λ way. found-at-most (HasWorth t target bound i w) (way-bounds i h w (way .reached))
@@ -100,11 +105,13 @@ module _ (t : Timetable) (timely : Timely t) (target bound : ℕ) where
   no-worth i h = (
     λ e w way. found-at-most ⊥ (way-bounds i h w way) (λ v q _. absent {a = v} (sym e ∙ best-ride t target bound i h ∙ q)),
     λ shut. present-or-absent (bestRide t target bound i ≡ none) (bestRide t target bound i) (λ e. e)
-        (λ v e. absurd (shut (v .worth) (source-way i h v (best-source (offInTicks target bound) target t i h v (sym (best-ride t target bound i h) ∙ e))))),
+        (λ v e. absurd (shut (v .worth)
+        (source-way i h v (best-source (offInTicks target bound) target t i h v (sym (best-ride t target bound i h) ∙ e))))),
   )
 
   aboard-by :
-      (i : ℕ) → i < length (t .rows) → ((j : ℕ) → i < j → j < length (t .rows) → (u : Valued) → bestInTicks t target bound j ≡ some u → StaysAboard t target bound u)
+      (i : ℕ) → i < length (t .rows)
+      → ((j : ℕ) → i < j → j < length (t .rows) → (u : Valued) → bestInTicks t target bound j ≡ some u → StaysAboard t target bound u)
       → (v : Valued) → bestInTicks t target bound i ≡ some v → Source (offInTicks target bound) target t i v → StaysAboard t target bound v
   aboard-by i h later v best (off-here {w = w} e dearer) =
       record {
