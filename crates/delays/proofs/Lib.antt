@@ -1,0 +1,3 @@
+-- The house tables obey the rule, every table by rising cumulative shares is accepted, and the answer is settled.
+pub mod Tables
+pub mod Answers

@@ -1,0 +1,47 @@
+-- Document 01, "House delay tables": the rule of a cumulative share, and the eight house pairs.
+use Prim.Native.Nat.{ℕ, suc, _+_, _*_, _-_, _/_}
+use mathlib.Core.Bool.{cond}
+use mathlib.Core.List.{List, [], _∷_}
+use lib.Dec.{leb, eqb}
+use lib.ListN.{getD, length}
+use Rattle.timetable.specs.Classes.{whole}
+
+-- Change time m and parameter d
+pub record Pair : Type 0 where
+  pub change : ℕ
+  pub parameter : ℕ
+
+-- M = m+d
+abbrev pub latest : Pair → ℕ
+latest p = p .change + p .parameter
+
+-- Source 001's distribution in 4,096ths, rounded down: 2x/(6m−3x) for 0 < x ≤ m, (31(x−m)+2d)/(30(x−m)+3d) for m < x < M
+unfoldable pub between : (m d x : ℕ) → ℕ
+between m d x =
+    cond (leb x m) (whole * (2 * x) / (6 * m - 3 * x))
+    (whole * (31 * (x - m) + 2 * d) / (30 * (x - m) + 3 * d))
+
+-- The cumulative share at x: at x = M it is 4,096 always, and so beyond M, where no table asks; at 0, if M > 0, it is 0
+unfoldable pub cumulative : (m d x : ℕ) → ℕ
+cumulative m d x = cond (leb (m + d) x) whole (cond (eqb x 0) 0 (between m d x))
+
+-- The eight house pairs (m,d) are (2,10), (5,30), (5,60), (10,30), (10,60), (10,110), (15,90), (20,100)
+abbrev pub housePairs : List Pair
+housePairs =
+    record { change = 2; parameter = 10 }
+    ∷ record { change = 5; parameter = 30 }
+    ∷ record { change = 5; parameter = 60 }
+    ∷ record { change = 10; parameter = 30 }
+    ∷ record { change = 10; parameter = 60 }
+    ∷ record { change = 10; parameter = 110 }
+    ∷ record { change = 15; parameter = 90 }
+    ∷ record { change = 20; parameter = 100 }
+    ∷ []
+
+-- what stands for a pair past the last
+abbrev pub noPair : Pair
+noPair = record { change = 0; parameter = 0 }
+
+-- the pair of this number, from 0
+abbrev pub pairOf : ℕ → Pair
+pairOf k = getD housePairs k noPair
