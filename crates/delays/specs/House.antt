@@ -15,11 +15,16 @@ pub record Pair : Type 0 where
 abbrev pub latest : Pair → ℕ
 latest p = p .change + p .parameter
 
--- Source 001's distribution in 4,096ths, rounded down: 2x/(6m−3x) for 0 < x ≤ m, (31(x−m)+2d)/(30(x−m)+3d) for m < x < M
+-- 4,096 times source 001's distribution, rounded down: for 0 < x ≤ m, 2x/(6m−3x)
+abbrev pub upToChange : (m x : ℕ) → ℕ
+upToChange m x = whole * (2 * x) / (6 * m - 3 * x)
+
+-- and for m < x < M, with y = x−m, (31y+2d)/(30y+3d)
+abbrev pub pastChange : (d y : ℕ) → ℕ
+pastChange d y = whole * (31 * y + 2 * d) / (30 * y + 3 * d)
+
 unfoldable pub between : (m d x : ℕ) → ℕ
-between m d x =
-    cond (leb x m) (whole * (2 * x) / (6 * m - 3 * x))
-    (whole * (31 * (x - m) + 2 * d) / (30 * (x - m) + 3 * d))
+between m d x = cond (leb x m) (upToChange m x) (pastChange d (x - m))
 
 -- The cumulative share at x: at x = M it is 4,096 always, and so beyond M, where no table asks; at 0, if M > 0, it is 0
 unfoldable pub cumulative : (m d x : ℕ) → ℕ

@@ -1,10 +1,11 @@
 -- Document 01, "House delay tables": a table of shares by its rising cumulative shares.
 use Prim.Native.Nat.{ℕ, zero, suc, _+_, _-_, _<_, _≤_, pred}
 use mathlib.Core.Path.{_≡_}
+use mathlib.Core.Bool.{true}
 use mathlib.Core.List.{List, [], _∷_}
 use lib.ListN.{length, getD}
 use Rattle.timetable.specs.Timetable.{longest}
-use Rattle.timetable.specs.Classes.{whole}
+use Rattle.timetable.specs.Classes.{whole, sharesRule}
 use Rattle.delays.specs.House.{cumulative}
 
 -- cumulative shares of delays 0, 1, .. M that never fall, end at 4,096, and rise with the last step
@@ -29,6 +30,12 @@ runningSums ahead (s ∷ shares) = (ahead + s) ∷ runningSums (ahead + s) share
 
 unfoldable pub cumulativeOfShares : List ℕ → List ℕ
 cumulativeOfShares shares = runningSums 0 shares
+
+-- what a table made of cumulative shares is: accepted by the rule of a class's shares, of M + 1 shares, and its running sums are those it was made of
+pub record MadeOf (cs table : List ℕ) : Type 0 where
+  pub accepted : sharesRule table ≡ true
+  pub one-each : length table ≡ length cs
+  pub sums-back : cumulativeOfShares table ≡ cs
 
 -- the values of f at n numbers from x on
 unfoldable pub valuesFrom : (ℕ → ℕ) → (x n : ℕ) → List ℕ

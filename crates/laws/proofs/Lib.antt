@@ -7,3 +7,4 @@ pub mod Downward
 pub mod Members
 pub mod Alternatives
 pub mod Below
+pub mod Quotients
