@@ -642,22 +642,22 @@ pub enum HouseShare {
     Refused { number: u32, place: u32 },
 }
 
+// Refusal 6, for a pair number or a minute that no house table has.
+const OUTSIDE: HouseShare = HouseShare::Refused {
+    number: 6,
+    place: 0,
+};
+
 // The share, in 4,096ths, of landings at most `minute` late by the house table of this pair.
 pub fn house_share(pair: u32, minute: u32) -> HouseShare
     ensures { λ r. ⌜ r ≡ houseShare pair minute ⌝ }
 {
     if pair > 7 {
-        return HouseShare::Refused {
-            number: 6,
-            place: 0,
-        };
+        return OUTSIDE;
     }
     let house = house_of(pair);
     if minute > house.change + house.parameter {
-        return HouseShare::Refused {
-            number: 6,
-            place: 0,
-        };
+        return OUTSIDE;
     }
     let place = house.start + minute as usize;
     HouseShare::Share {

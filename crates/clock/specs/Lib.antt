@@ -1,0 +1,2 @@
+-- What a clock minute is on the sheet.
+pub mod Clock
