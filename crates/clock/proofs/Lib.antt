@@ -1,2 +1,5 @@
--- The clock's laws, and that its contracts settle every result.
+-- The clock is pinned to document 01's times, its laws, and that its contracts settle every result.
+pub mod Pinned
 pub mod Days
+pub mod Writing
+pub mod Settled

@@ -1,10 +1,20 @@
 // Document 01, "The sheet": a clock minute, and how it prints.
 ghost use mathlib.Core.Path.{_≡_};
+ghost use mathlib.Core.List.{_++_};
+ghost use Prim.Native.Nat.{_<_};
+ghost use lib.ListN.{replicate};
 ghost use Rattle.clock.specs.Clock.{dayOf, dayStart, hourOf, minuteOfHour, roundedUp, sinceMidnight};
+ghost use Rattle.clock.specs.Text.{blank, digitOf, faceText, printed};
 
 // Minutes from local midnight opening day 1.
 pub struct Minute {
     pub minute: u32,
+}
+
+// The text of a time: it stands from `start` to the end of the bytes.
+pub struct TimeText {
+    pub bytes: [u8; 14],
+    pub start: usize,
 }
 
 // A day by its number, from 1, and the minute at which it starts.
@@ -68,4 +78,44 @@ impl Minute {
     {
         self.since_midnight() % 60
     }
+
+    // The time as the sheet prints it.
+    pub fn time_text(self) -> TimeText
+        ensures { λ r. ⌜ r ≡ printed (self .minute) ⌝ }
+    {
+        let mut bytes = self.face();
+        let mut at: usize = 8;
+        let mut left = self.day();
+        while left > 0 {
+            at -= 1;
+            bytes[at] = digit(left % 10);
+            left /= 10;
+        }
+        at -= 1;
+        bytes[at] = b'd';
+        TimeText { bytes, start: at }
+    }
+
+    // Hours and minutes in two digits each, at the end of the bytes.
+    fn face(self) -> [u8; 14]
+        ensures { λ r. ⌜ r ≡ replicate 8 blank ++ faceText (self .minute) ⌝ }
+    {
+        let hour = self.hour();
+        let minute = self.minute_of_hour();
+        let mut bytes = [b' '; 14];
+        bytes[9] = digit(hour / 10);
+        bytes[10] = digit(hour % 10);
+        bytes[11] = b':';
+        bytes[12] = digit(minute / 10);
+        bytes[13] = digit(minute % 10);
+        bytes
+    }
+}
+
+// The character of a digit.
+fn digit(number: u32) -> u8
+    requires { ⌜ number < 10 ⌝ }
+    ensures { λ r. ⌜ r ≡ digitOf number ⌝ }
+{
+    (48 + number) as u8
 }
