@@ -26,4 +26,4 @@ pub minute-of-hour-settled : (κs : _) (args : _) (r₁ r₂ : _) (s₁ s₂ : _
 minute-of-hour-settled κs args r₁ r₂ s₁ s₂ first second = first ∙ sym second
 
 pub time-text-settled : (κs : _) (args : _) (r₁ r₂ : _) (s₁ s₂ : _) → time-text.Post κs args r₁ s₁ → time-text.Post κs args r₂ s₂ → r₁ ≡ r₂
-time-text-settled κs args r₁ r₂ s₁ s₂ first second = first ∙ sym second
+time-text-settled κs args r₁ r₂ s₁ s₂ first second = first .says ∙ sym (second .says)

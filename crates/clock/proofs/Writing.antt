@@ -13,7 +13,7 @@ use borrow.Author.Tests.{ne-eqb, eq-eqb}
 use Rattle.laws.proofs.Tests.{cond-true, cond-false}
 use Rattle.clock.specs.declared.TimeText.{TimeText}
 use Rattle.clock.specs.Clock.{dayOf}
-use Rattle.clock.specs.Text.{digitOf, blank, letterD, digitsOnto, decimal, faceText, timeText, widest, printed}
+use Rattle.clock.specs.Text.{digitOf, blank, letterD, digitsOnto, decimal, faceText, timeText, widest, printed, Printed}
 
 -- more steps than the number has digits change nothing
 digits-enough : (most fewer n : ℕ) (rest : List ℕ) → n ≤ most → n ≤ fewer → digitsOnto most n rest ≡ digitsOnto fewer n rest
@@ -110,15 +110,20 @@ text-ends {day} {left} {face} {rest} text none minute same-day same-face =
 -- no digit left, the letter goes ahead of them
 pub written-end : {day : ℕ} {face bytes : List ℕ} (at : ℕ) {left : ℕ} → Written day face bytes at left → left ≤ 0
     → (minute : ℕ) → day ≡ dayOf minute → face ≡ faceText minute
-    → _≡_ {A = TimeText} (record { bytes = set bytes (at - 1) letterD; start = at - 1 }) (printed minute)
+    → Printed minute (record { bytes = set bytes (at - 1) letterD; start = at - 1 })
 written-end zero w none minute same-day same-face = absurd (let z : ⊥ = omega (arith, w .letter) in z)
 written-end {day} {face} {bytes} (suc k) {left} w none minute same-day same-face =
     let one-less : suc k - 1 ≡ k = omega arith in
+    let wide : length (set bytes k letterD) ≡ widest = length-set bytes k letterD ∙ w .wide in
     rw one-less
-    (ends-printed minute k (set bytes k letterD)
-    (written-bytes k letterD (w .stands)
-    ∙ ap (λ (l : List ℕ). replicate k blank ++ l) (text-ends (w .text) none minute same-day same-face))
-    (length-set bytes k letterD ∙ w .wide))
+    (record {
+      says = ends-printed minute k (set bytes k letterD)
+          (written-bytes k letterD (w .stands)
+          ∙ ap (λ (l : List ℕ). replicate k blank ++ l) (text-ends (w .text) none minute same-day same-face))
+          wide;
+      wide = wide;
+      inside = omega (arith, w .inside);
+    })
 
 -- a day of a minute of 32 bits has at most seven digits
 day-places : (minute : ℕ) → minute < 4294967296 → dropped 7 (dayOf minute) ≡ 0

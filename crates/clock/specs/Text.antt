@@ -1,5 +1,6 @@
 -- Document 01, "The sheet": times print as day, hours, minutes, the last two in two digits, as `d1 10:00`.
-use Prim.Native.Nat.{ℕ, zero, suc, _+_, _-_, _/_, _%_}
+use Prim.Native.Nat.{ℕ, zero, suc, _+_, _-_, _/_, _%_, _<_}
+use mathlib.Core.Path.{_≡_}
 use mathlib.Core.Bool.{cond}
 use mathlib.Core.List.{List, [], _∷_, _++_}
 use lib.Dec.{eqb}
@@ -47,3 +48,9 @@ unfoldable pub printed : ℕ → TimeText
 printed minute =
     let start = widest - length (timeText minute) in
     record { bytes = replicate start blank ++ timeText minute; start = start }
+
+-- what is answered: that text, and that it ends inside the bytes
+pub record Printed (minute : ℕ) (text : TimeText) : Type 0 where
+  pub says : text ≡ printed minute
+  pub wide : length (text .bytes) ≡ widest
+  pub inside : text .start < widest

@@ -4,7 +4,7 @@ ghost use mathlib.Core.List.{_++_};
 ghost use Prim.Native.Nat.{_<_};
 ghost use lib.ListN.{replicate};
 ghost use Rattle.clock.specs.Clock.{dayOf, dayStart, hourOf, minuteOfHour, roundedUp, sinceMidnight};
-ghost use Rattle.clock.specs.Text.{blank, digitOf, faceText, printed};
+ghost use Rattle.clock.specs.Text.{blank, digitOf, faceText, Printed};
 
 // Minutes from local midnight opening day 1.
 pub struct Minute {
@@ -81,7 +81,7 @@ impl Minute {
 
     // The time as the sheet prints it.
     pub fn time_text(self) -> TimeText
-        ensures { λ r. ⌜ r ≡ printed (self .minute) ⌝ }
+        ensures { λ r. ⌜ Printed (self .minute) r ⌝ }
     {
         let mut bytes = self.face();
         let mut at: usize = 8;
