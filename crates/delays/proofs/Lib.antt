@@ -3,6 +3,6 @@ pub mod Pinned
 pub mod Tables
 pub mod Answers
 pub mod RisingTables
-pub mod HouseRule
-pub mod HouseTables
+pub mod Rule
+pub mod RuleTables
 pub mod Settled

@@ -1,4 +1,4 @@
--- A house table has M + 1 shares and is one that the check accepts, for any change time and parameter and so for the eight. Assumes nothing.
+-- A table by the rule has M + 1 shares and is one that the check accepts, for any change time and parameter and so for the eight. Assumes nothing.
 use Prim.Native.Nat.{ℕ, zero, suc, pred, _+_, _<_, _≤_}
 use mathlib.Core.Path.{_≡_, refl, ap, _∙_}
 use native.Mathlib.Omega.{arith}
@@ -7,7 +7,7 @@ use Rattle.timetable.specs.Timetable.{longest}
 use Rattle.delays.specs.House.{latest, pairOf, housePairs, cumulative}
 use Rattle.delays.specs.Rising.{Rising, MadeOf, valuesFrom, houseCumulatives, houseTable}
 use Rattle.delays.proofs.Tables.{house-short}
-use Rattle.delays.proofs.HouseRule.{at-latest, cumulative-below, cumulative-rises}
+use Rattle.delays.proofs.Rule.{at-latest, cumulative-below, cumulative-rises}
 use Rattle.delays.proofs.RisingTables.{rising-table-accepted}
 
 length-values : (f : ℕ → ℕ) (x n : ℕ) → length (valuesFrom f x n) ≡ n
