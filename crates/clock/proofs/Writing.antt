@@ -1,10 +1,8 @@
 -- Writing a day's digits from the last to the first, ahead of a text that stands at the end of the bytes. Assumes nothing.
-use Prim.Native.Nat.{ℕ, zero, suc, pred, _+_, _*_, _-_, _/_, _%_, _<_, _≤_}
+use Prim.Native.Nat.{ℕ, zero, suc, pred, _-_, _/_, _%_, _<_, _≤_}
 use mathlib.Core.Path.{_≡_, refl, ap, sym, subst⁻¹, _∙_}
 use mathlib.Core.Bool.{cond}
-use mathlib.Core.Bool.{cond}
 use mathlib.Core.List.{List, [], _∷_, _++_}
-use lib.Dec.{eqb}
 use lib.Dec.{eqb}
 use native.Mathlib.Omega.{arith}
 use lib.ListN.{length, drop, set, replicate, length-append, length-replicate, length-set}
@@ -15,7 +13,7 @@ use Rattle.clock.specs.declared.TimeText.{TimeText}
 use Rattle.clock.specs.Clock.{dayOf}
 use Rattle.clock.specs.Text.{digitOf, blank, letterD, digitsOnto, decimal, faceText, timeText, widest, printed, Printed}
 
--- more steps than the number has digits change nothing
+-- steps past the last digit change nothing
 digits-enough : (most fewer n : ℕ) (rest : List ℕ) → n ≤ most → n ≤ fewer → digitsOnto most n rest ≡ digitsOnto fewer n rest
 unfolding digitsOnto
 digits-enough zero zero n rest h k = refl
@@ -37,10 +35,6 @@ decimal-on (suc n) rest some =
 abbrev pub dropped : (places n : ℕ) → ℕ
 dropped zero n = n
 dropped (suc places) n = dropped places (n / 10)
-
-dropped-zero : (places : ℕ) → dropped places 0 ≡ 0
-dropped-zero zero = refl
-dropped-zero (suc places) = dropped-zero places
 
 -- a byte in the last blank ahead of a text
 write-ahead : (k a : ℕ) (rest : List ℕ) → set (replicate (suc k) blank ++ rest) k a ≡ replicate k blank ++ (a ∷ rest)

@@ -4,6 +4,7 @@ use mathlib.Core.Path.{_≡_, refl, ap, _∙_}
 use native.Mathlib.Omega.{arith}
 use lib.ListN.{length, getD}
 use Rattle.timetable.specs.Timetable.{longest}
+use Rattle.layout.specs.Format.{versionOne}
 use Rattle.delays.specs.House.{latest, pairOf, housePairs, cumulative}
 use Rattle.delays.specs.Rising.{Rising, MadeOf, valuesFrom, houseCumulatives, houseTable}
 use Rattle.delays.proofs.Tables.{house-short}
@@ -49,7 +50,8 @@ pub house-table-accepted : (m d : ℕ) → MadeOf (houseCumulatives m d) (houseT
 unfolding houseTable
 house-table-accepted m d = rising-table-accepted (houseCumulatives m d) (house-rising m d)
 
--- each of the eight is one the check accepts: M is at most 120, and the shares keep their rule
+-- each of the eight is one the check accepts: M is at most version 1's longest delay, and the shares keep their rule
 pub house-pair-accepted : (k : ℕ) → k < length housePairs
-    → (latest (pairOf k) ≤ 120) × MadeOf (houseCumulatives (pairOf k .change) (pairOf k .parameter)) (houseTable (pairOf k .change) (pairOf k .parameter))
+    → (latest (pairOf k) ≤ versionOne .delay)
+    × MadeOf (houseCumulatives (pairOf k .change) (pairOf k .parameter)) (houseTable (pairOf k .change) (pairOf k .parameter))
 house-pair-accepted k h = (house-short k h, house-table-accepted (pairOf k .change) (pairOf k .parameter))

@@ -1,17 +1,17 @@
 -- The constants of the house tables as lists, and one computed test of each with the law that it gives at every entry. Assumes nothing.
 use Prim.Native.Nat.{ℕ, suc, _+_, _<_, _≤_}
-use mathlib.Core.Path.{_≡_, refl, ap}
-use mathlib.Core.Bool.{Bool, true, _&&_}
+use mathlib.Core.Path.{_≡_, refl}
+use mathlib.Core.Bool.{Bool, true}
 use mathlib.Core.List.{List, [], _∷_}
 use native.Mathlib.Omega.{arith}
-use lib.Dec.{eqb, leb}
+use lib.Dec.{eqb, leb, ltb}
 use lib.ListN.{getD, length}
-use borrow.Author.Tests.{eqb-true, leb-true}
-use Rattle.laws.proofs.Tests.{both-left, both-right}
+use borrow.Author.Tests.{eqb-true, leb-true, ltb-true}
 use Rattle.laws.proofs.Below.{below, below-at}
+use Rattle.layout.specs.Format.{versionOne}
 use Rattle.delays.specs.declared.House.{House}
 use Rattle.delays.specs.House.{latest, pairOf, cumulative, between, housePairs}
-use Rattle.delays.specs.Carried.{startOf, IsHouse}
+use Rattle.delays.specs.Carried.{placesAhead, startOf, entries, IsHouse}
 
 unfoldable pub houses : List House
 houses =
@@ -86,17 +86,26 @@ house-right k h = record {
   start = eqb-true _ _ (below-at startRight (length housePairs) refl k h);
 }
 
--- M is at most 120, and the table of a pair ends inside the carried table
-unfoldable houseFits : ℕ → Bool
-houseFits k = leb (latest (pairOf k)) 120 && leb (suc (startOf k + latest (pairOf k))) 575
+-- the eight tables fill the carried one, with no entry left over
+pub tables-fill : (placesAhead housePairs (length housePairs) ≡ entries) × (length carried ≡ entries)
+unfolding carried
+tables-fill = (refl, refl)
 
-pub house-short : (k : ℕ) → k < length housePairs → latest (pairOf k) ≤ 120
-unfolding houseFits
-house-short k h = leb-true _ _ (both-left _ _ (below-at houseFits (length housePairs) refl k h))
+-- M is at most version 1's longest delay
+unfoldable shortEnough : ℕ → Bool
+shortEnough k = leb (latest (pairOf k)) (versionOne .delay)
 
-pub house-inside : (k : ℕ) → k < length housePairs → startOf k + latest (pairOf k) < 575
-unfolding houseFits
-house-inside k h = leb-true _ _ (both-right (leb (latest (pairOf k)) 120) _ (below-at houseFits (length housePairs) refl k h))
+pub house-short : (k : ℕ) → k < length housePairs → latest (pairOf k) ≤ versionOne .delay
+unfolding shortEnough
+house-short k h = leb-true _ _ (below-at shortEnough (length housePairs) refl k h)
+
+-- the table of a pair ends inside the carried one
+unfoldable endsInside : ℕ → Bool
+endsInside k = ltb (startOf k + latest (pairOf k)) entries
+
+pub house-inside : (k : ℕ) → k < length housePairs → startOf k + latest (pairOf k) < entries
+unfolding endsInside
+house-inside k h = ltb-true _ _ (below-at endsInside (length housePairs) refl k h)
 
 -- the entries of a pair's table are the cumulative shares by the rule
 unfoldable entryRight : ℕ → ℕ → Bool

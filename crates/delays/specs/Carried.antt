@@ -15,6 +15,10 @@ placesAhead (p ∷ pairs) (suc k) = suc (latest p) + placesAhead pairs k
 abbrev pub startOf : ℕ → ℕ
 startOf k = placesAhead housePairs k
 
+-- All 575 cumulative shares are carried
+abbrev pub entries : ℕ
+entries = 575
+
 -- what the table of the houses says of a pair number
 pub record IsHouse (k : ℕ) (house : House) : Type 0 where
   pub change : house .change ≡ pairOf k .change

@@ -1,9 +1,9 @@
 -- Document 01, "House delay tables": the rule of a cumulative share, and the eight house pairs.
-use Prim.Native.Nat.{ℕ, suc, _+_, _*_, _-_, _/_}
+use Prim.Native.Nat.{ℕ, _+_, _*_, _-_, _/_}
 use mathlib.Core.Bool.{cond}
 use mathlib.Core.List.{List, [], _∷_}
 use lib.Dec.{leb, eqb}
-use lib.ListN.{getD, length}
+use lib.ListN.{getD}
 use Rattle.timetable.specs.Classes.{whole}
 
 -- Change time m and parameter d
@@ -23,6 +23,7 @@ upToChange m x = whole * (2 * x) / (6 * m - 3 * x)
 abbrev pub pastChange : (d y : ℕ) → ℕ
 pastChange d y = whole * (31 * y + 2 * d) / (30 * y + 3 * d)
 
+-- the part that x, with 0 < x < M, is in
 unfoldable pub between : (m d x : ℕ) → ℕ
 between m d x = cond (leb x m) (upToChange m x) (pastChange d (x - m))
 

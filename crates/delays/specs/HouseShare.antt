@@ -1,7 +1,7 @@
 -- Document 01, "House delay tables": what is answered to a pair number and a minute.
 use Prim.Native.Nat.{ℕ}
 use mathlib.Core.Bool.{Bool, cond, _&&_}
-use mathlib.Core.List.{List, [], _∷_}
+use mathlib.Core.List.{[], _∷_}
 use lib.Dec.{ltb, leb}
 use lib.ListN.{length}
 use Rattle.layout.specs.Check.{Answer}
