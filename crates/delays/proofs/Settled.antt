@@ -1,7 +1,8 @@
--- Document 01, "What every contract settles": any two answers that a contract of this crate permits coincide. Assumes nothing.
-use mathlib.Core.Path.{_≡_, sym, _∙_}
-use Rattle.delays.proofs.house_share.Reads as house-share
+-- Document 01, "What every contract settles": any two answers about a house table that the contract permits coincide. Assumes nothing.
+use mathlib.Core.Path.{sym, _∙_}
+use Rattle.laws.proofs.Outcomes.{SettlesResult}
+use Rattle.delays.proofs.house_share.Kinds as house-kinds
+use Rattle.delays.proofs.house_share.Reads as house-reads
 
-pub house-share-settled : (κs : _) (args : _) (r₁ r₂ : _) (s₁ s₂ : _)
-    → house-share.Post κs args r₁ s₁ → house-share.Post κs args r₂ s₂ → r₁ ≡ r₂
-house-share-settled κs args r₁ r₂ s₁ s₂ first second = first ∙ sym second
+pub house-share-settled : SettlesResult 0 house-kinds.ps house-kinds.r house-reads.Post
+house-share-settled κs arguments one other ending another first second = first ∙ sym second
