@@ -3,3 +3,5 @@ pub mod Blocks
 pub mod FileRows
 pub mod HeadSound
 pub mod Sound
+pub mod Pinned
+pub mod CaseW
