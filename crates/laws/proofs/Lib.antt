@@ -1,2 +1,3 @@
 -- Laws that belong to no one crate: one file for each kind of thing that they are about.
+pub mod Lists
 pub mod Tests

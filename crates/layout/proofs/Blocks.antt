@@ -30,7 +30,7 @@ pub record ClassSound (f : Format) (s : List ℕ) (end at : ℕ) : Type 0 where
   pub shares-whole : sum (tableAt s at) ≡ whole
   pub last-counts : 1 ≤ lastShare (tableAt s at)
 
-shares-length : (s : List ℕ) (at n : ℕ) → length (sharesFrom s at n) ≡ n
+pub shares-length : (s : List ℕ) (at n : ℕ) → length (sharesFrom s at n) ≡ n
 unfolding sharesFrom
 shares-length s at zero = refl
 shares-length s at (suc n) = ap suc (shares-length s (at + 2) n)

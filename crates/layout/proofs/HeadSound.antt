@@ -98,7 +98,7 @@ unfolding trailerAt
 trailer-ends f s h = omega arith
 
 -- the four tests behind a head's verdict
-head-tests : (f : Format) (s : List ℕ) → headVerdict f s ≡ fine
+pub head-tests : (f : Format) (s : List ℕ) → headVerdict f s ≡ fine
     → (lengthRule f s ≡ true) × (headRule f (headOf f s) ≡ true)
     × (classesVerdict f s (trailerAt f s) 0 (headOf f s .tablestart) (headOf f s .classes) ≡ fine) × (joined f s (headOf f s) ≡ true)
 unfolding headVerdict

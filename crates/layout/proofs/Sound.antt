@@ -60,7 +60,7 @@ unfolding decode
 decoded-stops f s = refl
 
 -- the two verdicts behind a file's
-file-tests : (f : Format) (s : List ℕ) → fileVerdict f s ≡ fine
+pub file-tests : (f : Format) (s : List ℕ) → fileVerdict f s ≡ fine
     → (headVerdict f s ≡ fine) × (rowsVerdict (heldTo f (headOf f s)) [] 0 (decode f s .rows) ≡ fine)
 unfolding fileVerdict rangesOf
 file-tests f s e =

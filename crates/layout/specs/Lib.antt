@@ -5,3 +5,4 @@ pub mod Decode
 pub mod Small
 pub mod Check
 pub mod Encode
+pub mod Writable

@@ -1,7 +1,12 @@
--- What the width of a number in the file bounds: a u16 is below 65,536, a u32 below 4,294,967,296.
-use Prim.Native.Nat.{_<_}
+-- What the width of a number in the file bounds: a byte is below 256, a u16 below 65,536, a u32 below 4,294,967,296.
+use Prim.Native.Nat.{ℕ, _<_}
+use mathlib.Core.List.{List}
+use lib.ListN.{length, getD}
 use Rattle.timetable.specs.declared.Row.{Row}
 use Rattle.layout.specs.declared.Head.{Head}
+
+pub record Bytes (s : List ℕ) : Type 0 where
+  pub byte : (i : ℕ) → i < length s → getD s i 0 < 256
 
 pub record SmallRow (r : Row) : Type 0 where
   pub board : r .board < 65536
