@@ -10,6 +10,10 @@
 //
 // In all 4n + 2,402 cells. Nothing is sized by a class's maximum.
 
+ghost use mathlib.Core.Path.{_≡_};
+ghost use Prim.Native.Nat.{_+_, _≤_, _<_};
+ghost use lib.ListN.{length};
+ghost use Rattle.cells.specs.Cells.{filled};
 // The first cell of each region.
 pub const TRIPS: usize = 0;
 
@@ -28,21 +32,25 @@ pub const MOST_STOPS: usize = 200;
 pub const NONE: u32 = 0xffff_ffff;
 
 // A cell as a number that can be an index.
-// intended: ensures r ≡ cell × r < 4294967296
-pub fn number(cell: u32) -> usize {
+pub fn number(cell: u32) -> usize
+    ensures { λ r. ⌜ (r ≡ cell) × (r < 4294967296) ⌝ }
+{
     cell as usize
 }
 
 // A number as a cell.
-// intended: requires x < 4294967296; ensures r ≡ x
-pub fn cell(x: usize) -> u32 {
+pub fn cell(x: usize) -> u32
+    requires { ⌜ x < 4294967296 ⌝ }
+    ensures { λ r. ⌜ r ≡ x ⌝ }
+{
     x as u32
 }
 
 // `count` cells from `at` on become `value`.
-// intended: requires at + count ≤ length work;
-// ensures work' ≡ take at work ++ replicate count value ++ drop (at + count) work
-pub fn fill(work: &mut [u32], at: usize, count: usize, value: u32) {
+pub fn fill(work: &mut [u32], at: usize, count: usize, value: u32)
+    requires { ⌜ at + count ≤ length (now work) ⌝ }
+    ensures { λ r. ⌜ now (work .exit) ≡ filled (now (work .entry)) at count value ⌝ }
+{
     let mut i = at;
     let end = at + count;
     while i < end {

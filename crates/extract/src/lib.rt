@@ -1,4 +1,12 @@
 // Document 01, "Expected arrival in ticks": the plan, by one pass forward over the wanted rows.
+ghost use mathlib.Core.Path.{_≡_};
+ghost use Prim.Native.Nat.{ℕ, _+_, _*_, _≤_, _<_};
+ghost use lib.ListN.{length, drop};
+ghost use Rattle.plans.specs.Plan.{latestOf};
+ghost use Rattle.cells.specs.Cells.{used};
+ghost use Rattle.reading.specs.Reading.{tablesIn, Stand, TablesHeld};
+ghost use Rattle.scan.specs.Scanned.{scanIn, ScanHeld};
+ghost use Rattle.extract.specs.Extracted.{FirstRide, ridesOf, written, over};
 use cells::PAIRS;
 use cells::SIZES;
 use cells::STOPS;
@@ -6,14 +14,15 @@ use cells::TRIPS;
 use cells::cell;
 use cells::fill;
 use cells::number;
+use landing::Goal;
+use landing::departure_of;
+use landing::first_open;
+use landing::row_of;
 use reading::BLOCK;
 use reading::LONGEST;
-use reading::Rows;
+use reading::Sailings;
 use reading::nth_row;
 use reading::opens;
-use scan::departure_of;
-use scan::first_open;
-use scan::row_of;
 use timetable::Row;
 
 // How many rides a plan has, and the largest a + M of them.
@@ -23,28 +32,37 @@ pub struct Written {
 }
 
 // The rides of the plan whose first row is `head`, by boarding row rising, into the plan slice.
-// intended: requires Held work .., head the row of the source's first entry, 3 * count ≤ length plan;
-// ensures plan' ≡ over (written (ridesFrom q chosen)) plan, r ≡ (length rides, latestOf rides)
 pub fn write_plan(
     file: &[u8],
-    rows: Rows,
+    s: Sailings,
     tables: &[u32],
-    target: usize,
+    goal: Goal,
+    first: usize,
     head: usize,
     end: usize,
     work: &mut [u32],
     plan: &mut [u32],
-) -> Written {
-    fill(work, TRIPS, rows.count, 0);
+) -> Written
+    requires { ⌜ Stand (now file) s × TablesHeld (now tables) (tablesIn (now file) s) × (first ≤ end) × (end ≤ s .rows)
+        × (used (s .rows) ≤ length (now work)) × (3 * s .rows ≤ length (now plan))
+        × ScanHeld (now work) (s .rows) first end (scanIn (now file) s goal first end)
+        × FirstRide (scanIn (now file) s goal first end .chosen) head ⌝ }
+    ensures { λ r. ⌜ ((f : FirstRide (scanIn (now (file .entry)) s goal first end .chosen) head)
+        → (now (plan .exit) ≡ over (written (ridesOf (goal .target) f)) (now (plan .entry)))
+        × (r .rides ≡ length (ridesOf (goal .target) f)) × (r .latest ≡ latestOf (ridesOf (goal .target) f)))
+        × (length (now (work .exit)) ≡ length (now (work .entry)))
+        × (drop (used (s .rows)) (now (work .exit)) ≡ drop (used (s .rows)) (now (work .entry))) ⌝ }
+{
+    fill(work, TRIPS, s.rows, 0);
     work[TRIPS + head] = 1;
-    write_wanted(file, rows, tables, target, head, end, work, plan)
+    write_wanted(file, s, tables, goal.target, head, end, work, plan)
 }
 
 // intended: loop invariant: plan ≡ over (written (rides so far)) plan₀, the rest to write is
 // extract target windows (chosen from row i on) where marks ≡ wanted windows
 fn write_wanted(
     file: &[u8],
-    rows: Rows,
+    s: Sailings,
     tables: &[u32],
     target: usize,
     head: usize,
@@ -57,7 +75,7 @@ fn write_wanted(
     let mut i = head;
     while i < end {
         if work[TRIPS + i] == 1 {
-            let row = nth_row(file, rows, write_ride(i, rides, work, plan));
+            let row = nth_row(file, s, write_ride(i, rides, work, plan));
             let class = BLOCK * row.class;
             let landing = cell(row.arrival) + tables[class + LONGEST];
             if latest < landing {

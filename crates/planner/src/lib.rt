@@ -8,18 +8,18 @@ use cells::fill;
 use cells::number;
 use extract::write_plan;
 use journeys::earliest_arrival;
+use landing::Goal;
+use landing::row_of;
 use layout::Checked;
 use layout::Format;
 use layout::VERSION_ONE;
 use layout::head_at;
 use plans::Query;
-use reading::Rows;
-use reading::read_tables;
+use reading::Sailings;
 use reading::rows_before;
 use sailings::check;
-use scan::Goal;
-use scan::row_of;
 use scan::scan_back;
+use tables::read_tables;
 
 // A plan's ride count, expected ticks, latest minute and bound (0 for none), or a refusal.
 pub enum Planned {
@@ -82,8 +82,8 @@ pub fn plan(file: &[u8], q: Query, work: &mut [u32], plan: &mut [u32]) -> Planne
         Checked::Sound {
             stops,
             rows,
-            classes,
-        } => plan_sound(file, VERSION_ONE, stops, rows, classes, q, work, plan),
+            classes: _,
+        } => plan_sound(file, VERSION_ONE, stops, rows, q, work, plan),
     }
 }
 
@@ -93,7 +93,6 @@ fn plan_sound(
     format: Format,
     stops: usize,
     count: usize,
-    classes: usize,
     q: Query,
     work: &mut [u32],
     plan: &mut [u32],
@@ -110,7 +109,7 @@ fn plan_sound(
     if plan.len() < 3 * count {
         return no_plan(7);
     }
-    let answer = plan_in_room(file, format, classes, q, work, plan);
+    let answer = plan_in_room(file, format, q, work, plan);
     fill(work, 0, work_room(count), 0);
     answer
 }
@@ -124,29 +123,23 @@ fn no_plan(number: u32) -> Planned {
 fn plan_in_room(
     file: &[u8],
     format: Format,
-    classes: usize,
     q: Query,
     work: &mut [u32],
     plan: &mut [u32],
 ) -> Planned {
     let mut tables = [0u32; 4096];
-    let head = head_at(file, file.len() - format.trailer);
-    let rows = Rows {
-        at: head.rowstart,
-        width: format.width,
-        count: head.rows,
-    };
-    read_tables(file, head.tablestart, classes, &mut tables);
-    let first = rows_before(file, rows, number(q.minute));
+    let s = sailings_in(file, format);
+    read_tables(file, s, &mut tables);
+    let first = rows_before(file, s, number(q.minute));
     let source = number(q.source);
     let target = number(q.target);
     let minute = number(q.minute);
-    let end = earliest_arrival(file, rows, &tables, source, target, minute, first, work);
+    let end = earliest_arrival(file, s, &tables, source, target, minute, first, work);
     if end == NONE {
         return no_plan(8);
     }
     let bound = bound_of(q, end);
-    plan_within(file, rows, &tables, q, bound, first, work, plan)
+    plan_within(file, s, &tables, q, bound, first, work, plan)
 }
 
 // T + q(E - T)/4 rounded down; 0 stands for no bound.
@@ -161,7 +154,7 @@ fn bound_of(q: Query, end: u32) -> u32 {
 // intended: ensures ≡ planAnswered (planWithin t q bound (firstOpen ..)) _ plan
 fn plan_within(
     file: &[u8],
-    rows: Rows,
+    s: Sailings,
     tables: &[u32],
     q: Query,
     bound: u32,
@@ -171,12 +164,12 @@ fn plan_within(
 ) -> Planned {
     let target = number(q.target);
     let source = number(q.source);
-    let end = rows_within(file, rows, bound);
+    let end = rows_within(file, s, bound);
     let goal = Goal {
         target,
         bound: number(bound),
     };
-    scan_back(file, rows, tables, goal, first, end, work);
+    scan_back(file, s, tables, goal, first, end, work);
     let size = number(work[SIZES + source]);
     if size == 0 {
         return no_plan(8);
@@ -184,7 +177,7 @@ fn plan_within(
     let top = PAIRS + 2 * (number(work[STOPS + source]) + size - 1);
     let key = work[top];
     let expected = work[top + 1];
-    let written = write_plan(file, rows, tables, target, row_of(key), end, work, plan);
+    let written = write_plan(file, s, tables, goal, first, row_of(key), end, work, plan);
     Planned::Plan {
         rides: cell(written.rides),
         expected,
@@ -195,11 +188,11 @@ fn plan_within(
 
 // A row that departs at or after the bound lands behind it: the rows ahead of such rows.
 // intended: ensures (bound ≡ 0 → r ≡ count) × (0 < bound → Cut rows bound r)
-fn rows_within(file: &[u8], rows: Rows, bound: u32) -> usize {
+fn rows_within(file: &[u8], s: Sailings, bound: u32) -> usize {
     if bound == 0 {
-        return rows.count;
+        return s.rows;
     }
-    rows_before(file, rows, number(bound))
+    rows_before(file, s, number(bound))
 }
 
 // The earliest safe arrival for a sailing file, or a refusal.
@@ -220,8 +213,8 @@ pub fn earliest(file: &[u8], source: u32, target: u32, minute: u32, work: &mut [
         Checked::Sound {
             stops,
             rows,
-            classes,
-        } => earliest_sound(file, VERSION_ONE, stops, rows, classes, q, work),
+            classes: _,
+        } => earliest_sound(file, VERSION_ONE, stops, rows, q, work),
     }
 }
 
@@ -231,7 +224,6 @@ fn earliest_sound(
     format: Format,
     stops: usize,
     count: usize,
-    classes: usize,
     q: Query,
     work: &mut [u32],
 ) -> Earliest {
@@ -241,7 +233,7 @@ fn earliest_sound(
     if work.len() < work_room(count) {
         return no_arrival(7);
     }
-    let end = earliest_in_room(file, format, classes, q, work);
+    let end = earliest_in_room(file, format, q, work);
     fill(work, 0, work_room(count), 0);
     if end == NONE {
         return no_arrival(8);
@@ -254,24 +246,26 @@ fn no_arrival(number: u32) -> Earliest {
 }
 
 // intended: ensures r ≡ E or NONE
-fn earliest_in_room(
-    file: &[u8],
-    format: Format,
-    classes: usize,
-    q: Query,
-    work: &mut [u32],
-) -> u32 {
+fn earliest_in_room(file: &[u8], format: Format, q: Query, work: &mut [u32]) -> u32 {
     let mut tables = [0u32; 4096];
-    let head = head_at(file, file.len() - format.trailer);
-    let rows = Rows {
-        at: head.rowstart,
-        width: format.width,
-        count: head.rows,
-    };
-    read_tables(file, head.tablestart, classes, &mut tables);
-    let first = rows_before(file, rows, number(q.minute));
+    let s = sailings_in(file, format);
+    read_tables(file, s, &mut tables);
+    let minute = number(q.minute);
+    let first = rows_before(file, s, minute);
     let source = number(q.source);
     let target = number(q.target);
-    let minute = number(q.minute);
-    earliest_arrival(file, rows, &tables, source, target, minute, first, work)
+    earliest_arrival(file, s, &tables, source, target, minute, first, work)
+}
+
+// Where a sound file's sections stand.
+// intended: requires trailer ≤ length, 16 ≤ trailer; ensures r ≡ sailingsOf f (headOf f file)
+fn sailings_in(file: &[u8], format: Format) -> Sailings {
+    let head = head_at(file, file.len() - format.trailer);
+    Sailings {
+        rows: head.rows,
+        rowstart: head.rowstart,
+        width: format.width,
+        classes: head.classes,
+        tablestart: head.tablestart,
+    }
 }

@@ -1,14 +1,21 @@
-// A sound file's rows by their numbers, and its delay tables as cumulative shares.
-use cells::cell;
+// A sound file's rows by their numbers, and when one can board.
+ghost use mathlib.Core.Path.{_≡_};
+ghost use Prim.Native.Nat.{_<_};
+ghost use lib.Dec.{leb};
+ghost use Rattle.timetable.specs.Timetable.{rowOf};
+ghost use Rattle.layout.specs.Small.{SmallRow};
+ghost use Rattle.reading.specs.Reading.{rowsIn, Stand, Cut};
 use layout::row_at;
-use layout::u16_at;
 use timetable::Row;
 
-// Where the rows stand: the first one's byte, the bytes of a row, how many there are.
-pub struct Rows {
-    pub at: usize,
+// Where a sound file's sections stand: how many rows, the first one's byte, the bytes of a row; how
+// many classes, the first one's byte.
+pub struct Sailings {
+    pub rows: usize,
+    pub rowstart: usize,
     pub width: usize,
-    pub count: usize,
+    pub classes: usize,
+    pub tablestart: usize,
 }
 
 // A class's block in the lent array of tables: its maximum delay M, its expected delay in ticks,
@@ -22,27 +29,30 @@ pub const EXPECTED: usize = 1;
 pub const SHARES: usize = 2;
 
 // Row number `i`.
-// intended: requires RowsInside file rows (at + width * count ≤ length file, 12 ≤ width) × i < rows .count;
-// ensures r ≡ rowOf (rowsFrom width file at count) i × SmallRow r
-pub fn nth_row(file: &[u8], rows: Rows, i: usize) -> Row {
-    row_at(file, rows.at + rows.width * i)
+pub fn nth_row(file: &[u8], s: Sailings, i: usize) -> Row
+    requires { ⌜ Stand (now file) s × (i < s .rows) ⌝ }
+    ensures { λ r. ⌜ (r ≡ rowOf (rowsIn (now (file .entry)) s) i) × SmallRow r ⌝ }
+{
+    row_at(file, s.rowstart + s.width * i)
 }
 
 // One who stands at the stop at `minute` can board what departs there at `departure`.
-// intended: ensures r ≡ leb minute departure (the half of `opens` that speaks of minutes)
-pub fn opens(departure: usize, minute: usize) -> bool {
+pub fn opens(departure: usize, minute: usize) -> bool
+    ensures { λ r. ⌜ r ≡ leb minute departure ⌝ }
+{
     minute <= departure
 }
 
 // How many rows depart before `minute`: they stand ahead of all others.
-// intended: requires RowsInside; ensures (R) → Cut rows minute R → r ≡ R
-// (Cut: rows below R depart before `minute`, rows from R on do not); r ≤ rows .count
-pub fn rows_before(file: &[u8], rows: Rows, minute: usize) -> usize {
+pub fn rows_before(file: &[u8], s: Sailings, minute: usize) -> usize
+    requires { ⌜ Stand (now file) s ⌝ }
+    ensures { λ r. ⌜ Cut (rowsIn (now (file .entry)) s) minute r ⌝ }
+{
     let mut low = 0;
-    let mut high = rows.count;
+    let mut high = s.rows;
     while low < high {
         let middle = low + (high - low) / 2;
-        let row = nth_row(file, rows, middle);
+        let row = nth_row(file, s, middle);
         if opens(row.departure, minute) {
             high = middle;
         } else {
@@ -50,36 +60,4 @@ pub fn rows_before(file: &[u8], rows: Rows, minute: usize) -> usize {
         }
     }
     low
-}
-
-// The tables of `classes` blocks from byte `at` on.
-// intended: requires TablesInside, classes ≤ 16, length tables ≡ 4096;
-// ensures TablesHeld tables' (tablesFrom file at classes): for k < classes with shares = sharesOf k:
-// cell 256k ≡ longest shares, 256k + 1 ≡ up 16 (weigh shares 0 id), 256k + 2 + v ≡ sum (take (v + 1) shares), v ≤ M
-pub fn read_tables(file: &[u8], at: usize, classes: usize, tables: &mut [u32]) {
-    let mut k = 0;
-    let mut block = at;
-    while k < classes {
-        block = read_table(file, block, BLOCK * k, tables);
-        k += 1;
-    }
-}
-
-// One class block at byte `at`, into the cells from `into` on; the byte where it ends.
-// intended: ensures r ≡ blockEnd file at × the block's cells as above × cells outside unchanged
-fn read_table(file: &[u8], at: usize, into: usize, tables: &mut [u32]) -> usize {
-    let longest = u16_at(file, at);
-    let mut minute = 0;
-    let mut total = 0;
-    let mut late = 0;
-    while minute <= longest {
-        let share = u16_at(file, at + 2 + 2 * minute);
-        total += share;
-        late += share * minute;
-        tables[into + SHARES + minute] = cell(total);
-        minute += 1;
-    }
-    tables[into + LONGEST] = cell(longest);
-    tables[into + EXPECTED] = cell((late + 15) / 16);
-    at + 4 + 2 * longest
 }
