@@ -9,6 +9,8 @@ pub mod Numbers
 pub mod Sizes
 pub mod Written
 pub mod Encode
+pub mod EncodeBytes
 pub mod EncodeCheck
 pub mod ReadAgain
 pub mod Reencode
+pub mod Rewritten
