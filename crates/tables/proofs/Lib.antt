@@ -1,0 +1,2 @@
+-- Laws of running sums.
+pub mod Running
