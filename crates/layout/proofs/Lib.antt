@@ -3,8 +3,6 @@ pub mod Blocks
 pub mod FileRows
 pub mod HeadSound
 pub mod Sound
-pub mod Pinned
-pub mod CaseW
 pub mod Numbers
 pub mod Sizes
 pub mod Written
