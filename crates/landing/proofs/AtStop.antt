@@ -11,6 +11,7 @@ use lib.ListN.{length, getD}
 use Rattle.laws.proofs.Tests.{ifb, both, cond-true, cond-false}
 use Rattle.plans.specs.Rides.{Ride, boards}
 use Rattle.plans.specs.Worth.{Valued, firstOpen, caught, worthOr}
+use Rattle.plans.specs.Chosen.{whenSafe}
 use Rattle.landing.specs.Landing.{atStop}
 
 -- a ride that boards there is one of them
@@ -110,3 +111,15 @@ first-open-none (v ∷ vs) s m d missed =
     cond-false (some v) (firstOpen vs s m)
     (never (eqb (v .ride .from) s) (lt-leb m (v .ride .departs) (missed 0 (omega arith))))
     ∙ first-open-none vs s m d (λ k l. missed (suc k) (omega arith))
+
+-- one that departs late enough makes a landing safe
+pub safe-at : (vs : List Valued) (s m i worth : ℕ) (d : Valued) → i < length vs → getD vs i d .ride .from ≡ s
+    → m ≤ getD vs i d .ride .departs → whenSafe (firstOpen vs s m) worth ≡ some worth
+unfolding firstOpen whenSafe
+safe-at [] s m i worth d h from late = absurd (let z : ⊥ = omega arith in z)
+safe-at (v ∷ vs) s m zero worth d h from late =
+    ap (λ b. whenSafe (cond b (some v) (firstOpen vs s m)) worth)
+    (both (eq-eqb (v .ride .from) s from) (le-leb m (v .ride .departs) late))
+safe-at (v ∷ vs) s m (suc i) worth d h from late =
+    ifb (λ b. whenSafe (cond b (some v) (firstOpen vs s m)) worth ≡ some worth) (boards (v .ride) s m) (λ opened. refl)
+    (λ missed. safe-at vs s m i worth d (omega arith) from late)

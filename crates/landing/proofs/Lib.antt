@@ -3,3 +3,4 @@ pub mod AtStop
 pub mod Stack
 pub mod Runs
 pub mod Turns
+pub mod Landings

@@ -2,7 +2,7 @@
 use Prim.Native.Nat.{ℕ, zero, suc, _+_, _-_, _*_, _≤_, _<_}
 use mathlib.Core.List.{List, [], _∷_, _++_}
 use mathlib.Core.Path.{_≡_, refl, sym, ap, _∙_}
-use native.Mathlib.Nat.{add-zero, zero-add}
+use native.Mathlib.Nat.{add-zero, zero-add, mul-le-mul-left}
 use native.Mathlib.Omega.{arith}
 use lib.ListN.{length, take, drop, take-append-drop, length-drop}
 use lib.Seq.{take-add, take-length, drop-length, drop-drop}
@@ -70,4 +70,13 @@ weigh-end xs a p w f h same =
     let share : (sum (take (length xs) xs) - sum (take p xs)) * w ≡ (sum xs - sum (take p xs)) * w = ap (λ k. (k - sum (take p xs)) * w) whole in
     let none : weigh (drop (length xs) xs) (a + length xs) f ≡ 0 = ap (λ l. weigh l (a + length xs) f) (drop-length xs) in
     let on = weigh-on xs a p (length xs) w f h (omega arith) same in
+    omega arith
+
+-- worths within a bound: their mean is within it
+pub weigh-bound : (xs : List ℕ) (m w : ℕ) (f : ℕ → ℕ) → ((v : ℕ) → v < m + length xs → f v ≤ w) → weigh xs m f ≤ sum xs * w
+unfolding sum weigh
+weigh-bound [] m w f within = omega arith
+weigh-bound (p ∷ xs) m w f within =
+    let here = mul-le-mul-left p (within m (omega arith)) in
+    let later = weigh-bound xs (suc m) w f (λ v h. within v (omega arith)) in
     omega arith
