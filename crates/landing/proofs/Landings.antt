@@ -45,19 +45,21 @@ module _ {row : Row} {tables work shares : List ℕ} {chosen : List Valued} (rea
   departs : (down place : ℕ) → down + suc place ≡ stackSize work (row .land)
       → departureAt work (stackStart work (row .land)) place ≡ getD (atStop (row .land) chosen) down noRide .ride .departs
   departs down place e =
-      departure-at work (stackStart work (row .land)) (stackSize work (row .land)) (atStop (row .land) chosen) (ready .stack-holds) down place noRide e
-      (fits down place e)
+      departure-at work (stackStart work (row .land)) (stackSize work (row .land)) (atStop (row .land) chosen) (ready .stack-holds) down
+      place noRide e (fits down place e)
 
   worths : (down place : ℕ) → down + suc place ≡ stackSize work (row .land)
       → worthAt work (stackStart work (row .land)) place ≡ getD (atStop (row .land) chosen) down noRide .worth
   worths down place e =
-      worth-at work (stackStart work (row .land)) (stackSize work (row .land)) (atStop (row .land) chosen) (ready .stack-holds) down place noRide e
+      worth-at work (stackStart work (row .land)) (stackSize work (row .land)) (atStop (row .land) chosen) (ready .stack-holds) down
+      place noRide e
 
   falls : (k l : ℕ) → k < l → l < stackSize work (row .land)
       → departureAt work (stackStart work (row .land)) l < departureAt work (stackStart work (row .land)) k
   falls k l h below =
       let size = stackSize work (row .land) in
-      omega (arith, departs (size - suc k) k (omega arith), departs (size - suc l) l (omega arith), ready .climbing .climbs (size - suc l) (size - suc k) noRide (omega arith) (omega (arith, size-is)))
+      let rises = ready .climbing .climbs (size - suc l) (size - suc k) noRide (omega arith) (omega (arith, size-is)) in
+      omega (arith, departs (size - suc k) k (omega arith), departs (size - suc l) l (omega arith))
 
   pub falling : (minute : ℕ) → 0 < stackSize work (row .land) → minute ≤ departureAt work (stackStart work (row .land)) 0
       → Falling work (stackStart work (row .land)) (stackSize work (row .land)) minute
@@ -91,8 +93,8 @@ module _ {row : Row} {tables work shares : List ℕ} {chosen : List Valued} (rea
       let last : size - 1 + 1 ≡ size = omega arith in
       let inside : size - 1 < length (atStop (row .land) chosen) = omega (arith, size-is) in
       ap (λ o. whenSafe o worth) (first-open-at-stop chosen (row .land) minute)
-      ∙ safe-at (atStop (row .land) chosen) (row .land) minute (size - 1) worth noRide inside (at-stop-from (row .land) chosen (size - 1) noRide inside)
-      (omega (arith, departs (size - 1) 0 last))
+      ∙ safe-at (atStop (row .land) chosen) (row .land) minute (size - 1) worth noRide inside
+      (at-stop-from (row .land) chosen (size - 1) noRide inside) (omega (arith, departs (size - 1) 0 last))
 
   module _ (at : ℕ) (found : FirstOpenAt work (stackStart work (row .land)) (stackSize work (row .land)) (row .arrival) at) where
     -- rides above one have left at a minute from the landing on, if those down to the first one have

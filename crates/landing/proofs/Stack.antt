@@ -54,4 +54,6 @@ module _ (work : List ℕ) (start size : ℕ) (vs : List Valued) (holds : stackA
   pub departure-at : (down place : ℕ) (d : Valued) → down + suc place ≡ size → EntryFits (getD vs down d)
       → departureAt work start place ≡ getD vs down d .ride .departs
   departure-at down place d e fits =
-      ap (λ (x : Entry). x .key / 2048) (entry-at down place d e) ∙ (let z : (2048 * getD vs down d .ride .departs + getD vs down d .ride .board) / 2048 ≡ getD vs down d .ride .departs = omega (arith, fits .row) in z)
+      let ride = getD vs down d .ride in
+      let whole : (2048 * ride .departs + ride .board) / 2048 ≡ ride .departs = omega (arith, fits .row) in
+      ap (λ (x : Entry). x .key / 2048) (entry-at down place d e) ∙ whole

@@ -40,11 +40,13 @@ pub record Room (work tables : List ℕ) (arrival landing cell entry departure d
   pub share-grows : departure < landing → done ≤ getD tables (cell + (departure - arrival)) 0
   pub share-whole : departure < landing → getD tables (cell + (departure - arrival)) 0 ≤ 4096
 
-module _ {work tables : List ℕ} {start first arrival landing cell : ℕ} {shares : List ℕ} {caught : ℕ → ℕ} (b : Boarding work tables start first arrival landing cell shares caught) where
+module _ {work tables : List ℕ} {start first arrival landing cell : ℕ} {shares : List ℕ} {caught : ℕ → ℕ}
+    (b : Boarding work tables start first arrival landing cell shares caught) where
   pub begins : (at departure : ℕ) → at ≡ start + 2 * first → departure ≡ departureAt work start first
       → Turn work start first arrival shares caught at departure 0 0
   unfolding sum
   begins at departure stands departs =
+      let none : weigh shares (arrival + 0) caught ≡ 0 + weigh shares (arrival + 0) caught = omega arith in
       record {
         place = first;
         passed = 0;
@@ -55,7 +57,7 @@ module _ {work tables : List ℕ} {start first arrival landing cell : ℕ} {shar
         counted = refl;
         missed = λ l h k. absurd (let z : ⊥ = omega arith in z);
         onward = omega (arith, b .opens);
-        so-far = ap (λ m. weigh shares m caught) (sym (add-zero arrival)) ∙ (let z : weigh shares (arrival + 0) caught ≡ 0 + weigh shares (arrival + 0) caught = omega arith in z);
+        so-far = ap (λ m. weigh shares m caught) (sym (add-zero arrival)) ∙ none;
         small = omega arith;
       }
 
@@ -85,7 +87,9 @@ module _ {work tables : List ℕ} {start first arrival landing cell : ℕ} {shar
           after = omega (arith, t .onward);
           lower = λ early. omega (arith, t .stands, lower-place early);
           share-inside = λ early. omega (arith, b .room, delay-inside early);
-          share-grows = λ early. omega (arith, share-is early, t .counted, sum-take-grows (t .passed) (suc (departure - arrival)) shares (omega (arith, t .onward)));
+          share-grows = λ early.
+              let grows = sum-take-grows (t .passed) (suc (departure - arrival)) shares (omega (arith, t .onward)) in
+              omega (arith, share-is early, t .counted);
           share-whole = λ early. omega (arith, share-is early, sum-rest (suc (departure - arrival)) shares, b .shares-fit .shares-whole);
         }
 
