@@ -29,16 +29,19 @@ pub record Turn (work : List ℕ) (start first arrival : ℕ) (shares : List ℕ
   pub small : total ≤ done * 16777216
 
 -- what a turn's cells and numbers keep to
-pub record Room (work tables : List ℕ) (arrival landing cell entry departure done total : ℕ) : Type 0 where
+pub record Room (work : List ℕ) (arrival entry departure done total : ℕ) : Type 0 where
   pub inside : entry + 1 < length work
   pub within-whole : done ≤ 4096
   pub small : total ≤ done * 16777216
   pub worth-fits : getD work (entry + 1) 0 ≤ 16777216
   pub after : arrival ≤ departure
-  pub lower : departure < landing → 2 ≤ entry
-  pub share-inside : departure < landing → cell + (departure - arrival) < length tables
-  pub share-grows : departure < landing → done ≤ getD tables (cell + (departure - arrival)) 0
-  pub share-whole : departure < landing → getD tables (cell + (departure - arrival)) 0 ≤ 4096
+
+-- and, where this entry departs too early to be safe, the cells of its share and of the entry below
+pub record MoreRoom (tables : List ℕ) (arrival cell entry departure done : ℕ) : Type 0 where
+  pub lower : 2 ≤ entry
+  pub share-inside : cell + (departure - arrival) < length tables
+  pub share-grows : done ≤ getD tables (cell + (departure - arrival)) 0
+  pub share-whole : getD tables (cell + (departure - arrival)) 0 ≤ 4096
 
 module _ {work tables : List ℕ} {start first arrival landing cell : ℕ} {shares : List ℕ} {caught : ℕ → ℕ}
     (b : Boarding work tables start first arrival landing cell shares caught) where
@@ -77,7 +80,7 @@ module _ {work tables : List ℕ} {start first arrival landing cell : ℕ} {shar
         let departs : departure ≡ departureAt work start 0 = t .departs ∙ ap (departureAt work start) bottom in
         absurd (let z : ⊥ = omega (arith, b .safe) in z))
 
-    pub room : Room work tables arrival landing cell entry departure done total
+    pub room : Room work arrival entry departure done total
     room =
         record {
           inside = omega (arith, b .inside, t .stands, t .below);
@@ -85,12 +88,16 @@ module _ {work tables : List ℕ} {start first arrival landing cell : ℕ} {shar
           small = t .small;
           worth-fits = subst (λ e. getD work (e + 1) 0 ≤ 16777216) (sym (t .stands)) (b .worth-fits (t .place) (t .below));
           after = omega (arith, t .onward);
-          lower = λ early. omega (arith, t .stands, lower-place early);
-          share-inside = λ early. omega (arith, b .room, delay-inside early);
-          share-grows = λ early.
-              let grows = sum-take-grows (t .passed) (suc (departure - arrival)) shares (omega (arith, t .onward)) in
-              omega (arith, share-is early, t .counted);
-          share-whole = λ early. omega (arith, share-is early, sum-rest (suc (departure - arrival)) shares, b .shares-fit .shares-whole);
+        }
+
+    pub more-room : departure < landing → MoreRoom tables arrival cell entry departure done
+    more-room early =
+        let grows = sum-take-grows (t .passed) (suc (departure - arrival)) shares (omega (arith, t .onward)) in
+        record {
+          lower = omega (arith, t .stands, lower-place early);
+          share-inside = omega (arith, b .room, delay-inside early);
+          share-grows = omega (arith, share-is early, t .counted);
+          share-whole = omega (arith, share-is early, sum-rest (suc (departure - arrival)) shares, b .shares-fit .shares-whole);
         }
 
     -- delays from the counted ones up to this departure catch this entry
@@ -126,7 +133,7 @@ module _ {work tables : List ℕ} {start first arrival landing cell : ℕ} {shar
           missed = λ l h k. missed-on l h k;
           onward = omega (arith, t .onward, t .departs, b .falls (t .place - 1) (t .place) (omega arith) (t .below));
           so-far = omega (arith, t .so-far);
-          small = omega (arith, t .small, room .share-grows early, held, mul-le-mul-left (share - done) (room .worth-fits));
+          small = omega (arith, t .small, more-room early .share-grows, held, mul-le-mul-left (share - done) (room .worth-fits));
         }
       where
         missed-on : (l : ℕ) → t .place - 1 < l → l ≤ first → departureAt work start l < arrival + suc (departure - arrival)

@@ -9,7 +9,7 @@ use lib.ListN.{getD}
 use Rattle.timetable.specs.Classes.{whole}
 use Rattle.plans.specs.Worth.{up}
 use Rattle.landing.specs.Boarding.{Boarding}
-use Rattle.landing.proofs.Turns.{Turn, Room, begins, room, turns, ends}
+use Rattle.landing.proofs.Turns.{Turn, Room, MoreRoom, begins, room, more-room, turns, ends}
 use Rattle.landing.proofs.changing.Statement.{statement}
 use Rattle.landing.proofs.changing.Tie as tie
 
@@ -45,13 +45,19 @@ turn-at c =
 
 room-at : (c : tie.At-loop Inv-loop μ-loop) →
     let a = begun c .args in
-    Room (a .work .now) (a .tables .now) (a .arrival) (a .landing) (a .shares) (c .loop .entry) (c .loop .departure) (c .loop .done) (c .loop .sum)
+    Room (a .work .now) (a .arrival) (c .loop .entry) (c .loop .departure) (c .loop .done) (c .loop .sum)
 room-at c = room (begun c .pre .boarding) (turn-at c)
 
 early : (c : tie.Then1 Inv-loop μ-loop) → turning c .loop .departure < begun (turning c) .args .landing
 early c =
     leb-false (begun (turning c) .args .landing) (turning c .loop .departure)
     (sym (c .before .opens .ensures) ∙ not-true (c .before .opens .result) (c .if1 .taken))
+
+more-at : (c : tie.Then1 Inv-loop μ-loop) →
+    let l = turning c in
+    let a = begun l .args in
+    MoreRoom (a .tables .now) (a .arrival) (a .shares) (l .loop .entry) (l .loop .departure) (l .loop .done)
+more-at c = more-room (begun (turning c) .pre .boarding) (turn-at (turning c)) (early c)
 
 late : (c : tie.Else1 Inv-loop μ-loop) → begun (leaving c) .args .landing ≤ leaving c .loop .departure
 late c =
@@ -100,111 +106,69 @@ opens-requires : tie.Need-opens-requires Inv-loop μ-loop
 opens-requires c κs = tt
 
 sub-long : tie.Need-sub-long Inv-loop μ-loop
-sub-long c =
-    let t = c in
-    let r = room-at (turning t) in
-    let e = early t in
-    omega (arith, r .after)
+sub-long c = omega (arith, room-at (turning c) .after)
 
 add-long : tie.Need-add-long Inv-loop μ-loop
-add-long c =
-    let t = c in
-    let r = room-at (turning t) in
-    let e = early t in
-    omega (arith, r .share-inside e, begun (turning t) .good)
+add-long c = omega (arith, more-at c .share-inside, begun (turning c) .good)
 
 mul-long : tie.Need-mul-long Inv-loop μ-loop
-mul-long c =
-    let t = c in
-    let r = room-at (turning t) in
-    let e = early t in
-    omega (arith, r .share-inside e, begun (turning t) .good)
+mul-long c = omega (arith, more-at c .share-inside, begun (turning c) .good)
 
 shared-slice-read-long : tie.Need-shared-slice-read-long Inv-loop μ-loop
-shared-slice-read-long c =
-    let t = c .before in
-    let r = room-at (turning t) in
-    let e = early t in
-    r .share-inside e
+shared-slice-read-long c = more-at (c .before) .share-inside
 
 long-requires : tie.Need-long-requires Inv-loop μ-loop
 long-requires c κs = tt
 
 sub-sum : tie.Need-sub-sum Inv-loop μ-loop
-sub-sum c =
-    let t = sharing c in
-    let r = room-at (turning t) in
-    let e = early t in
-    omega (arith, c .long .ensures .0, r .share-grows e)
+sub-sum c = omega (arith, c .long .ensures .0, more-at (sharing c) .share-grows)
 
 add-long-2 : tie.Need-add-long-2 Inv-loop μ-loop
 add-long-2 c =
     let t = sharing c in
     let r = room-at (turning t) in
-    let e = early t in
     omega (arith, r .inside, begun (turning t) .good)
 
 mul-long-2 : tie.Need-mul-long-2 Inv-loop μ-loop
 mul-long-2 c =
     let t = sharing c in
     let r = room-at (turning t) in
-    let e = early t in
     omega (arith, r .inside, begun (turning t) .good)
 
 shared-slice-read-long-2 : tie.Need-shared-slice-read-long-2 Inv-loop μ-loop
-shared-slice-read-long-2 c =
-    let t = sharing (c .before) in
-    let r = room-at (turning t) in
-    let e = early t in
-    r .inside
+shared-slice-read-long-2 c = room-at (turning (sharing (c .before))) .inside
 
 long-requires-2 : tie.Need-long-requires-2 Inv-loop μ-loop
 long-requires-2 c κs = tt
 
 mul-sum : tie.Need-mul-sum Inv-loop μ-loop
 mul-sum c =
-    let t = sharing (c .before .before) in
-    let r = room-at (turning t) in
-    let e = early t in
-    omega (arith, added c, c .before .before .long .ensures .0, r .share-whole e)
+    omega (arith, added c, c .before .before .long .ensures .0, more-at (sharing (c .before .before)) .share-whole)
 
 add-sum : tie.Need-add-sum Inv-loop μ-loop
 add-sum c =
     let t = sharing (c .before .before) in
+    let m = more-at t in
     let r = room-at (turning t) in
-    let e = early t in
-    omega (arith, added c, c .before .before .long .ensures .0, r .share-whole e, r .small, r .within-whole)
+    omega (arith, added c, c .before .before .long .ensures .0, m .share-whole, r .small, r .within-whole)
 
 sub-entry : tie.Need-sub-entry Inv-loop μ-loop
-sub-entry c =
-    let t = sharing (c .before .before) in
-    let r = room-at (turning t) in
-    let e = early t in
-    omega (arith, r .lower e)
+sub-entry c = omega (arith, more-at (sharing (c .before .before)) .lower)
 
 mul-departure-of-2 : tie.Need-mul-departure-of-2 Inv-loop μ-loop
 mul-departure-of-2 c =
     let t = sharing (c .before .before) in
     let r = room-at (turning t) in
-    let e = early t in
     omega (arith, r .inside, begun (turning t) .good)
 
 shared-slice-read-departure-of-2 : tie.Need-shared-slice-read-departure-of-2 Inv-loop μ-loop
-shared-slice-read-departure-of-2 c =
-    let t = sharing (c .before .before .before) in
-    let r = room-at (turning t) in
-    let e = early t in
-    omega (arith, r .inside)
+shared-slice-read-departure-of-2 c = omega (arith, room-at (turning (sharing (c .before .before .before))) .inside)
 
 departure-of-requires-2 : tie.Need-departure-of-requires-2 Inv-loop μ-loop
 departure-of-requires-2 c κs = tt
 
 loop-less : tie.Need-loop-less Inv-loop μ-loop
-loop-less c =
-    let t = sharing (c .before .before .before .before) in
-    let r = room-at (turning t) in
-    let e = early t in
-    omega (arith, r .lower e)
+loop-less c = omega (arith, more-at (sharing (c .before .before .before .before)) .lower)
 
 loop-again : tie.Need-loop-again Inv-loop μ-loop
 loop-again c =
