@@ -15,6 +15,7 @@ use Rattle.layout.specs.Format.{versionOne}
 use Rattle.plans.specs.declared.Query.{Query}
 use Rattle.plans.specs.Plan.{Plan, planned, earliest}
 use Rattle.plans.specs.Worth.{Valued}
+use Rattle.extract.specs.Extracted.{written, over}
 use Rattle.planner.specs.declared.Planned.{Planned}
 use Rattle.planner.specs.declared.Earliest.{Earliest}
 use Rattle.planner.specs.declared.Planned.the-variants.{Plan as AsPlan, Refused as NoPlan}
@@ -39,15 +40,6 @@ planRoom rows = 3 * rows
 -- the first 4n + 2,500 work numbers are 0 and the rest unchanged
 unfoldable pub cleared : ℕ → List ℕ → List ℕ
 cleared room work = replicate room 0 ++ drop room work
-
--- three numbers a ride: boarding row, leaving row, worth
-unfoldable pub written : List Valued → List ℕ
-written [] = []
-written (v ∷ rides) = v .ride .board ∷ v .ride .leave ∷ v .worth ∷ written rides
-
--- in its first 3 × rides numbers, and unchanged beyond
-unfoldable pub over : List ℕ → List ℕ → List ℕ
-over front slice = front ++ drop (length front) slice
 
 -- the answer, and the two slices afterwards
 pub record PlanOutcome : Type 0 where

@@ -1,0 +1,2 @@
+-- Laws of the lent cells.
+pub mod Filled

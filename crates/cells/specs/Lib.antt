@@ -1,0 +1,2 @@
+-- The work slice: its regions, and what a stop's stack of chosen rows holds.
+pub mod Cells

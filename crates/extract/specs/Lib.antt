@@ -1,0 +1,2 @@
+-- The plan as three numbers a ride.
+pub mod Extracted

@@ -1,0 +1,2 @@
+-- The query that the scan forward answers.
+pub mod Query

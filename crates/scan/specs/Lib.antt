@@ -1,0 +1,2 @@
+-- What the lent cells hold after the scan backward.
+pub mod Scanned
