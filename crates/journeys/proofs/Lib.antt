@@ -7,3 +7,4 @@ pub mod Returns
 pub mod InFile
 pub mod Start
 pub mod Answer
+pub mod Settled
