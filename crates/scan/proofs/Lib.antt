@@ -2,3 +2,9 @@
 pub mod Paired
 pub mod Regions
 pub mod Chosen
+pub mod ByStop
+pub mod Rising
+pub mod Worths
+pub mod TimetableTo
+pub mod PairsHeld
+pub mod StackHeld
