@@ -8,3 +8,5 @@ pub mod Worths
 pub mod TimetableTo
 pub mod PairsHeld
 pub mod StackHeld
+pub mod Stored
+pub mod Choosing
