@@ -10,3 +10,5 @@ pub mod PairsHeld
 pub mod StackHeld
 pub mod Stored
 pub mod Choosing
+pub mod Step
+pub mod Bounds

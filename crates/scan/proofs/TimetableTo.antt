@@ -129,7 +129,7 @@ module _ (file : List ℕ) (s : Sailings) (goal : Goal) (end : ℕ) (stand : Sta
           (chosenFrom (offFor goal) (goal .target) (timetableTo file s end) (suc j)) 65535 (to-shares j (to-inside j inside')) (lands-by j (to-inside j inside')) each w q)
       (λ j k a b t u q p. p) i (omega (arith, to-length)) v e
 
-  chosen-fits : (i : ℕ) → i ≤ end → (v : Valued) → List·Memᴰ v (scanIn file s goal i end .chosen) → EntryFits v
+  pub chosen-fits : (i : ℕ) → i ≤ end → (v : Valued) → List·Memᴰ v (scanIn file s goal i end .chosen) → EntryFits v
   chosen-fits i h v m =
       let p = chosen-picked (offFor goal) (goal .target) (timetableTo file s end) i (omega (arith, to-length)) v (subst (λ (l : List Valued). List·Memᴰ v l) (chosen-to i) m) in
       let row : v .ride .board < end = to-inside (v .ride .board) (p .inside) in
