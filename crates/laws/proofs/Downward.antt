@@ -3,7 +3,7 @@ use Prim.Native.Nat.{ℕ, zero, suc, _+_, _-_, _≤_, _<_}
 use native.Mathlib.Nat.{eq-or-lt-of-le}
 use native.Mathlib.Omega.{arith}
 use mathlib.Core.Logic.{_⊎_, inl, inr}
-use mathlib.Core.Path.{_≡_, refl, sym, subst}
+use mathlib.Core.Path.{_≡_, subst}
 
 pub downward {ℓ} : (P : ℕ → Type ℓ) (n : ℕ) → P n → ((i : ℕ) → i < n → P (suc i) → P i) → (i : ℕ) → i ≤ n → P i
 downward P n last back i h = go (n - i) i (omega arith)
@@ -18,6 +18,7 @@ from-greater P n back i h = downward All n (λ j a b. absurd (let z : ⊥ = omeg
   where
     All : ℕ → Type ℓ
     All i = (j : ℕ) → i ≤ j → j < n → P j
+
     further : (i : ℕ) → i < n → All (suc i) → All i
     further i h all j a b = step (eq-or-lt-of-le a)
       where

@@ -1,6 +1,6 @@
 -- Laws on members of a list: a member is the head or stands later, and what a mapped list holds. Assumes nothing.
-use mathlib.Core.List.{List, [], _∷_, _++_, map, List·Memᴰ, List·Memᴰ·head, List·Memᴰ·tail, List·Memᴰ·not-nil}
-use mathlib.Core.Path.{_≡_, refl, sym, ap, _∙_}
+use mathlib.Core.List.{List, [], _∷_, map, List·Memᴰ, List·Memᴰ·head, List·Memᴰ·tail, List·Memᴰ·not-nil}
+use mathlib.Core.Path.{_≡_, refl, ap}
 
 pub head-or-later {ℓ κ} : {A : Type ℓ} (P : Type κ) {a b : A} {l : List A} → List·Memᴰ a (b ∷ l) → (a ≡ b → P) → (List·Memᴰ a l → P) → P
 head-or-later P (List·Memᴰ·head e) here later = here e

@@ -35,11 +35,12 @@ unfolding headAt
 head-here s at =
     cc (u16-here s at, u16-from s at 2, u16-from s at 4, u16-from s at 6, u32-from s at 8, u32-from s at 12)
 
--- no table offset of a file that can be written needs more than four bytes
+-- a table offset, and that it never needs more than four bytes
+pub rows-end : (f : Format) (t : Timetable) → Writable f t → f .width * length (t .rows) ≡ 12 * length (t .rows)
+rows-end f t w = ap (λ (n : ℕ). n * length (t .rows)) (w .plain .width)
+
 reach : (f : Format) (t : Timetable) → Writable f t → f .width * length (t .rows) < 4294967296
-reach f t w =
-    let twelve : f .width * length (t .rows) ≡ 12 * length (t .rows) = ap (λ (n : ℕ). n * length (t .rows)) (w .plain .width) in
-    omega (arith, w .rows)
+reach f t w = omega (arith, rows-end f t w, w .rows)
 
 trailer-read : (f : Format) (t : Timetable) → Writable f t → headAt (trailerBytes f t) 0 ≡ headFor f t
 unfolding headAt u16At u32At trailerBytes u16Bytes u32Bytes headFor
@@ -90,7 +91,7 @@ rows-encode f t w =
 -- the class blocks stand where the rows end
 pub tables-start : (f : Format) (t : Timetable) → Writable f t
     → drop (f .width * length (t .rows)) (encode f t) ≡ tablesBytes (t .tables) ++ trailerBytes f t
-tables-start f t w = ap (λ (width : ℕ). drop (width * length (t .rows)) (encode f t)) (w .plain .width) ∙ tables-here f t
+tables-start f t w = ap (λ (n : ℕ). drop n (encode f t)) (rows-end f t w) ∙ tables-here f t
 
 pub tables-encode : (f : Format) (t : Timetable) → Writable f t
     → tablesFrom (encode f t) (f .width * length (t .rows)) (length (t .tables)) ≡ t .tables

@@ -26,7 +26,7 @@ use Rattle.layout.specs.Writable.{Writable, WritableTable, WithinLimits,
 use Rattle.layout.proofs.Sound.{sound-checked}
 use Rattle.layout.proofs.Sizes.{length-encode}
 use Rattle.layout.proofs.Written.{BlockAt, first-block, tables-end}
-use Rattle.layout.proofs.Encode.{trailer-at, head-encode, tables-start, decode-encode}
+use Rattle.layout.proofs.Encode.{rows-end, trailer-at, head-encode, tables-start, decode-encode}
 
 -- a class block that ends by `end` and keeps its rules is fine
 class-fine : (f : Format) (s : List ℕ) (end k at : ℕ) (shares rest : List ℕ)
@@ -104,19 +104,17 @@ unfolding joined headFor
 join-fine f t w =
     let start = f .width * length (t .rows) in
     let ends = tables-end (t .tables) (encode f t) start (trailerBytes f t) (w .each-table) (tables-start f t w) in
-    let twelve : start ≡ 12 * length (t .rows) = ap (λ (n : ℕ). n * length (t .rows)) (w .plain .width) in
     rows-first
     (0 + start)
     start
     (tablesEnd (encode f t) start (length (t .tables)))
     (trailerAt f (encode f t))
     (omega arith)
-    (omega (arith, ends, twelve, trailer-at f t w))
+    (omega (arith, ends, rows-end f t w, trailer-at f t w))
 
 tables-fine : (f : Format) (t : Timetable) → Writable f t → WithinLimits f t
     → classesVerdict f (encode f t) (trailerAt f (encode f t)) 0 (f .width * length (t .rows)) (length (t .tables)) ≡ fine
 tables-fine f t w r =
-    let twelve : f .width * length (t .rows) ≡ 12 * length (t .rows) = ap (λ (n : ℕ). n * length (t .rows)) (w .plain .width) in
     classes-fine
     (t .tables)
     f
@@ -128,7 +126,7 @@ tables-fine f t w r =
     (w .each-table)
     (r .delays)
     (r .shares)
-    (omega (arith, twelve, trailer-at f t w))
+    (omega (arith, rows-end f t w, trailer-at f t w))
     (tables-start f t w)
 
 -- a head whose every rule is kept is fine

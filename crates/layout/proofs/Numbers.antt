@@ -5,9 +5,11 @@ use mathlib.Core.Path.{_≡_, refl, sym, ap, _∙_}
 use native.Mathlib.Nat.{add-zero, add-assoc, add-mul-mod-self-left, add-mul-div-left, mod-eq-of-lt}
 use native.Mathlib.Numerals.{add-one, add-two}
 use native.Mathlib.Omega.{arith}
-use lib.Dec.{lit<}
-use lib.ListN.{length, getD, drop}
+use lib.Dec.{lit<, ltb}
+use lib.ListN.{length, getD, drop, List·getD-eq-default}
 use lib.Seq.{getD-drop, drop-cons}
+use borrow.Author.Tests.{ltb-true, ltb-false}
+use Rattle.laws.proofs.Tests.{ifb}
 use Rattle.layout.specs.Small.{Bytes}
 use Rattle.layout.specs.Numbers.{u16At, u32At, u16Bytes, u32Bytes}
 
@@ -65,9 +67,18 @@ u16-again s at next {tail} b e h behind =
     ∙ ap (λ (l : List ℕ). getD s at 0 ∷ getD s (at + 1) 0 ∷ l) (behind ∙ ap (λ (n : ℕ). drop n s) e)
     ∙ sym (two-off s at (omega arith))
 
-pub u16-small : (s : List ℕ) (at : ℕ) → Bytes s → at + 1 < length s → u16At s at < 65536
+-- what stands for a byte past the end is small too
+byte-small : (s : List ℕ) (i : ℕ) → Bytes s → getD s i 0 < 256
+byte-small s i b =
+    ifb
+    (λ t. getD s i 0 < 256)
+    (ltb i (length s))
+    (λ inside. b .byte i (ltb-true i (length s) inside))
+    (λ past. omega (arith, List·getD-eq-default s 0 (ltb-false i (length s) past)))
+
+pub u16-small : (s : List ℕ) (at : ℕ) → Bytes s → u16At s at < 65536
 unfolding u16At
-u16-small s at b h = omega (arith, b .byte at (omega arith), b .byte (at + 1) h)
+u16-small s at b = omega (arith, byte-small s at b, byte-small s (at + 1) b)
 
 u32-bytes : (a b : ℕ) → a < 65536 → b < 65536 → u32Bytes (a + 65536 * b) ≡ u16Bytes a ++ u16Bytes b
 unfolding u32Bytes
@@ -82,6 +93,6 @@ unfolding u32At
 u32-again s at next {tail} b e h behind =
     ap
     (λ (l : List ℕ). l ++ tail)
-    (u32-bytes (u16At s at) (u16At s (at + 2)) (u16-small s at b (omega arith)) (u16-small s (at + 2) b (omega arith)))
+    (u32-bytes (u16At s at) (u16At s (at + 2)) (u16-small s at b) (u16-small s (at + 2) b))
     ∙ append-assoc (u16Bytes (u16At s at)) (u16Bytes (u16At s (at + 2))) tail
     ∙ u16-again s at (at + 2) b refl (omega arith) (u16-again s (at + 2) next b (omega arith) h behind)

@@ -111,18 +111,11 @@ encode-decode-as f s stops rows classes p readable b sound start =
     let head = file-tests f s (sound-checked f s stops rows classes sound .0) .0 in
     first-again f s p b (rows-first f s p readable head start)
 
+pub version-one-plain : Plain versionOne
+version-one-plain = record { trailer = refl; width = refl }
+
 pub encode-decode : (s : List ℕ) (stops rows classes : ℕ) → Bytes s → checked s ≡ Sound stops rows classes
     → headOf versionOne s .rowstart ≡ 0 → encode versionOne (decode versionOne s) ≡ s
 unfolding checked
 encode-decode s stops rows classes b sound start =
-    encode-decode-as
-    versionOne
-    s
-    stops
-    rows
-    classes
-    (record { trailer = refl; width = refl })
-    version-one-readable
-    b
-    sound
-    start
+    encode-decode-as versionOne s stops rows classes version-one-plain version-one-readable b sound start

@@ -1,8 +1,7 @@
 -- There is a ride, and its worth is at most w. Assumes nothing.
 use Prim.Native.Nat.{ℕ, _≤_, _<_}
-use native.Mathlib.Nat.{le-refl}
 use native.Mathlib.Omega.{arith}
-use mathlib.Core.Bool.{Bool, true, false, cond}
+use mathlib.Core.Bool.{cond}
 use mathlib.Core.Logic.{_⊎_, inl, inr}
 use mathlib.Core.Option.{Option, none, some}
 use mathlib.Core.Path.{_≡_, refl, sym, subst, _∙_}
@@ -43,10 +42,20 @@ least-right (some off) (at-most {v = on} {w} h) =
     ifb (λ b. AtMost (cond b (some off) (some on)) w) (ltb (off .worth) (on .worth))
     (λ e. at-most (let g : off .worth < on .worth = ltb-true (off .worth) (on .worth) e in omega arith)) (λ _. at-most h)
 
-pub least-either : (off on : Option Valued) {v : Valued} → least off on ≡ some v → (off ≡ some v) ⊎ (on ≡ some v)
+-- getting off only where staying on is dearer
+pub least-either :
+    (off on : Option Valued) {v : Valued} → least off on ≡ some v
+    → ((off ≡ some v) × ((u : Valued) → on ≡ some u → v .worth < u .worth)) ⊎ (on ≡ some v)
 unfolding least
 least-either none on e = inr e
-least-either (some off) none e = inl e
+least-either (some off) none e = inl (e, λ u q. absent q)
 least-either (some off) (some on) {v} e =
-    ifb (λ b. cond b (some off) (some on) ≡ some v → (some off ≡ some v) ⊎ (some on ≡ some v)) (ltb (off .worth) (on .worth)) (λ _ h. inl h)
-    (λ _ h. inr h) e
+    ifb (λ b. ltb (off .worth) (on .worth) ≡ b → cond b (some off) (some on) ≡ some v → Either) (ltb (off .worth) (on .worth))
+    (λ b _ h. inl (
+      h,
+      λ u q. subst (λ (x : Valued). v .worth < x .worth) (same-thing q)
+          (subst (λ (x : Valued). x .worth < on .worth) (same-thing h) (ltb-true (off .worth) (on .worth) b)),
+    )) (λ _ _ h. inr h) refl e
+  where
+    Either : Type 0
+    Either = ((some off ≡ some v) × ((u : Valued) → some on ≡ some u → v .worth < u .worth)) ⊎ (some on ≡ some v)

@@ -1,17 +1,16 @@
 -- The scan of the rows from row i on, row by row. Assumes nothing.
-use Prim.Native.Nat.{ℕ, suc, _≤_, _<_}
+use Prim.Native.Nat.{ℕ, suc, _<_}
 use native.Mathlib.Nat.{le-refl}
-use mathlib.Core.Bool.{Bool, true, false, cond}
+use mathlib.Core.Bool.{cond}
 use mathlib.Core.List.{List, [], _∷_}
-use mathlib.Core.Option.{Option, none, some}
-use mathlib.Core.Path.{_≡_, refl, sym, ap, subst, _∙_}
+use mathlib.Core.Option.{Option, none}
+use mathlib.Core.Path.{_≡_, refl, ap}
 use lib.Dec.{eqb}
-use lib.ListN.{length, getD, drop, drop-of-length-le}
+use lib.ListN.{length, drop, drop-of-length-le}
 use lib.Seq.{drop-cons}
 use Rattle.timetable.specs.Timetable.{Timetable, rowOf, noRow}
-use Rattle.plans.specs.Rides.{Ride}
 use Rattle.plans.specs.Worth.{Valued}
-use Rattle.plans.specs.Chosen.{GettingOff, Weighed, Scan, scan, scanned, bestOf, choose, nextOf, least, getOff, stayOn, rowRide, boardedAt}
+use Rattle.plans.specs.Chosen.{GettingOff, Scan, scan, scanned, bestOf, choose, nextOf, least, getOff, stayOn, rowRide}
 
 module _ (off : GettingOff) (target : ℕ) (t : Timetable) where
   unfoldable pub scanFrom : ℕ → Scan
@@ -34,7 +33,11 @@ module _ (off : GettingOff) (target : ℕ) (t : Timetable) where
   offAt i = off (rowRide (t .tables) i (rowOf (t .rows) i)) (chosenFrom (suc i))
 
   pub scan-row : (i : ℕ) → i < length (t .rows) → scanFrom i
-      ≡ record { weighed = record { trip = rowOf (t .rows) i .trip; best = bestAt i } ∷ scanFrom (suc i) .weighed; chosen = choose target (bestAt i) (chosenFrom (suc i)) }
+      ≡ record {
+        weighed = record { trip = rowOf (t .rows) i .trip; best = bestAt i } ∷ scanFrom (suc i) .weighed;
+        chosen = choose target (bestAt i)
+            (chosenFrom (suc i));
+      }
   unfolding scanFrom chosenFrom bestAt scan
   scan-row i h = ap (scan off target (t .tables) i) (drop-cons (t .rows) i noRow h)
 
@@ -65,6 +68,7 @@ module _ (off : GettingOff) (target : ℕ) (t : Timetable) where
 
   pub best-row :
       (i : ℕ) → bestAt i
-      ≡ least (getOff (rowRide (t .tables) i (rowOf (t .rows) i)) (offAt i)) (stayOn i (rowOf (t .rows) i) (nextFrom (suc i) (rowOf (t .rows) i .trip)))
+      ≡ least (getOff (rowRide (t .tables) i (rowOf (t .rows) i)) (offAt i))
+      (stayOn i (rowOf (t .rows) i) (nextFrom (suc i) (rowOf (t .rows) i .trip)))
   unfolding bestAt bestOf offAt nextFrom chosenFrom
   best-row i = refl

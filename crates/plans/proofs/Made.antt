@@ -1,10 +1,8 @@
 -- What a plan is made of: its bound, its first ride and its list of rides. Assumes nothing.
 use Prim.Native.Nat.{ℕ}
-use mathlib.Core.Bool.{Bool, true, false}
-use mathlib.Core.List.{List}
 use mathlib.Core.Option.{Option, none, some}
-use mathlib.Core.Path.{_≡_, refl, sym, ap, subst, _∙_}
-use Rattle.laws.proofs.Options.{absent, same-thing, present-or-absent}
+use mathlib.Core.Path.{_≡_, refl, sym, ap, subst}
+use Rattle.laws.proofs.Options.{absent, same-thing}
 use Rattle.timetable.specs.Timetable.{Timetable}
 use Rattle.plans.specs.declared.Query.{Query}
 use Rattle.plans.specs.Journeys.{boundOf}
@@ -25,16 +23,18 @@ pub record Made (t : Timetable) (q : Query) (p : Plan) : Type 0 where
   pub begins : firstOpen (chosenFor t (q .target) (p .bound)) (q .source) (q .minute) ≡ some first
   pub worth : p .expected ≡ first .worth
   pub holds : p .rides ≡ ridesFrom q (chosenFor t (q .target) (p .bound))
+  pub ends : p .last ≡ latestOf (p .rides)
 
 module _ (t : Timetable) (q : Query) where
   made-within :
-      (e : ℕ) → earliest t q ≡ some e → (first : Option Valued) → firstOpen (chosenFor t (q .target) (boundOf q e)) (q .source) (q .minute) ≡ first → (p : Plan)
+      (e : ℕ) → earliest t q ≡ some e → (first : Option Valued) → firstOpen (chosenFor t (q .target) (boundOf q e)) (q .source) (q .minute) ≡ first
+      → (p : Plan)
       → planWithin t q (boundOf q e) first ≡ some p → Made t q p
   unfolding planWithin
   made-within e reached none begins p h = absent h
   made-within e reached (some first) begins p h =
       subst (λ (x : Plan). Made t q x) (same-thing h)
-      (record { end = e; reached = reached; bounded = refl; first = first; begins = begins; worth = refl; holds = refl })
+      (record { end = e; reached = reached; bounded = refl; first = first; begins = begins; worth = refl; holds = refl; ends = refl })
 
   pub plan-made : (p : Plan) → planned t q ≡ some p → Made t q p
   unfolding planned planBefore
@@ -55,10 +55,12 @@ module _ (t : Timetable) (q : Query) where
   unfolding planned planBefore planWithin
   no-plan {P} h never unopened = before (earliest t q) refl h
     where
-      within : (e : ℕ) → earliest t q ≡ some e → (first : Option Valued) → firstOpen (chosenFor t (q .target) (boundOf q e)) (q .source) (q .minute) ≡ first
+      within : (e : ℕ) → earliest t q ≡ some e → (first : Option Valued)
+          → firstOpen (chosenFor t (q .target) (boundOf q e)) (q .source) (q .minute) ≡ first
           → planWithin t q (boundOf q e) first ≡ none → P
       within e reached none begins k = unopened e reached begins
       within e reached (some first) begins k = absent (sym k)
+
       before : (e : Option ℕ) → earliest t q ≡ e → planBefore t q e ≡ none → P
       before none reached k = never reached
       before (some e) reached k = within e reached _ refl k

@@ -1,14 +1,13 @@
 -- Laws on the first ride of a list that one who stands at a stop can board. Assumes nothing.
 use Prim.Native.Nat.{ℕ, _≤_, _<_}
 use native.Mathlib.Omega.{arith}
-use mathlib.Core.Bool.{Bool, true, false, cond, _&&_, _||_, false≢true}
+use mathlib.Core.Bool.{Bool, true, false, _&&_, false≢true}
 use mathlib.Core.List.{List, [], _∷_, List·Memᴰ, List·Memᴰ·head, List·Memᴰ·tail, List·Memᴰ·not-nil}
-use mathlib.Core.Logic.{_⊎_, inl, inr}
-use mathlib.Core.Option.{Option, none, some}
-use mathlib.Core.Path.{_≡_, refl, sym, ap, subst, _∙_}
-use lib.Dec.{T, leb, eqb}
-use borrow.Author.Tests.{eqb-true, leb-true, leb-false, eqb-false, eq-eqb, le-leb, lt-leb}
-use Rattle.laws.proofs.Tests.{ifb, both, both-left, both-right, T-true, true-T, cond-true, cond-false}
+use mathlib.Core.Option.{some}
+use mathlib.Core.Path.{_≡_, refl, sym, subst, _∙_}
+use lib.Dec.{leb, eqb}
+use borrow.Author.Tests.{eqb-true, leb-true, eq-eqb, le-leb, lt-leb}
+use Rattle.laws.proofs.Tests.{ifb, both, both-left, both-right, cond-true, cond-false}
 use Rattle.laws.proofs.Options.{absent, same-thing}
 use Rattle.laws.proofs.Members.{head-or-later}
 use Rattle.plans.specs.Rides.{Ride, boards}
@@ -74,5 +73,5 @@ finds [] s m k b = absurd (List·Memᴰ·not-nil k)
 finds (x ∷ vs) s m {v} k b =
     on-head ((u : Valued) × (firstOpen (x ∷ vs) s m ≡ some u)) x vs s m (λ _ h. (x, h))
     (λ c h. head-or-later ((u : Valued) × (firstOpen (x ∷ vs) s m ≡ some u)) k
-        (λ q. absurd (false≢true (sym c ∙ subst (λ (u : Valued). boards (u .ride) s m ≡ true) q b)))
-        (λ n. let found = finds vs s m n b in (found .0, h ∙ found .1)))
+    (λ q. absurd (false≢true (sym c ∙ subst (λ (u : Valued). boards (u .ride) s m ≡ true) q b)))
+    (λ n. let found = finds vs s m n b in (found .0, h ∙ found .1)))

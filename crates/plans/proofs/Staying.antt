@@ -2,10 +2,10 @@
 use Prim.Native.Nat.{ℕ, suc, _≤_, _<_}
 use native.Mathlib.Nat.{eq-or-lt-of-le}
 use native.Mathlib.Omega.{arith}
-use mathlib.Core.Bool.{Bool, true, false, cond}
+use mathlib.Core.Bool.{cond}
 use mathlib.Core.List.{List}
 use mathlib.Core.Logic.{_⊎_, inl, inr}
-use mathlib.Core.Option.{Option, none, some}
+use mathlib.Core.Option.{Option, some}
 use mathlib.Core.Path.{_≡_, refl, sym, ap, subst, _∙_}
 use lib.Dec.{eqb}
 use lib.ListN.{length}
@@ -16,8 +16,8 @@ use Rattle.timetable.specs.Timetable.{Timetable, rowOf}
 use Rattle.timetable.specs.declared.Row.{Row}
 use Rattle.plans.specs.Rides.{Ride, IsRide}
 use Rattle.plans.specs.Worth.{Valued}
-use Rattle.plans.specs.Chosen.{GettingOff, getOff, stayOn, rowRide, boardedAt, least}
-use Rattle.plans.proofs.AtMost.{AtMost, at-most, is-at-most, least-left, least-right}
+use Rattle.plans.specs.Chosen.{GettingOff, getOff, stayOn, rowRide, boardedAt}
+use Rattle.plans.proofs.AtMost.{AtMost, at-most, least-left, least-right}
 use Rattle.plans.proofs.FromRow.{chosenFrom, bestAt, nextFrom, offAt, next-row, best-row}
 
 stay-at-most : (i : ℕ) (r : Row) {o : Option Valued} {w : ℕ} → AtMost o w → AtMost (stayOn i r o) w
@@ -48,17 +48,20 @@ module _ (off : GettingOff) (target : ℕ) (t : Timetable) where
   next-at-most j w inside a =
       downward (λ i. i ≤ j → AtMost (nextFrom off target t i trip) w) (length (t .rows)) (λ k. absurd (let z : ⊥ = omega arith in z))
       (λ i h later k. subst (λ (o : Option Valued). AtMost o w) (sym (next-row off target t i trip h))
-          (ifb (λ b. eqb (rowOf (t .rows) i .trip) trip ≡ b → AtMost (cond b (bestAt off target t i) (nextFrom off target t (suc i) trip)) w) (eqb (rowOf (t .rows) i .trip) trip)
-              (λ e _. one-trip i (eqb-true (rowOf (t .rows) i .trip) trip e) later (eq-or-lt-of-le k))
-              (λ e _. later (another i (eqb-false (rowOf (t .rows) i .trip) trip e) (eq-or-lt-of-le k))) refl))
+      (ifb (λ b. eqb (rowOf (t .rows) i .trip) trip ≡ b → AtMost (cond b (bestAt off target t i) (nextFrom off target t (suc i) trip)) w)
+      (eqb (rowOf (t .rows) i .trip) trip)
+      (λ e _. one-trip i (eqb-true (rowOf (t .rows) i .trip) trip e) later (eq-or-lt-of-le k))
+      (λ e _. later (another i (eqb-false (rowOf (t .rows) i .trip) trip e) (eq-or-lt-of-le k))) refl))
     where
       trip : ℕ
       trip = rowOf (t .rows) j .trip
+
       one-trip :
           (i : ℕ) → rowOf (t .rows) i .trip ≡ trip → (suc i ≤ j → AtMost (nextFrom off target t (suc i) trip) w) → (i ≡ j) ⊎ (i < j)
           → AtMost (bestAt off target t i) w
       one-trip i same later (inl e) = subst (λ k. AtMost (bestAt off target t k) w) (sym e) a
       one-trip i same later (inr b) = row-on i w (subst (λ k. AtMost (nextFrom off target t (suc i) k) w) (sym same) (later b))
+
       another : (i : ℕ) → (rowOf (t .rows) i .trip ≡ trip → ⊥) → (i ≡ j) ⊎ (i < j) → suc i ≤ j
       another i other (inl e) = absurd (other (ap (λ k. rowOf (t .rows) k .trip) e))
       another i other (inr b) = b
@@ -72,15 +75,18 @@ module _ (off : GettingOff) (target : ℕ) (t : Timetable) where
       step (inl e) = subst (λ k. AtMost (bestAt off target t k) w) (sym e) best
       step (inr b) =
           row-on i w (subst (λ k. AtMost (nextFrom off target t (suc i) k) w) (sym same)
-              (next-at-most j w inside best (suc i) (let z : suc i ≤ length (t .rows) = omega arith in z) b))
+          (next-at-most j w inside best (suc i) (let z : suc i ≤ length (t .rows) = omega arith in z) b))
 
   -- getting off after a ride is getting off where its last row lands
   pub ride-off : AsLanded off → (r : Ride) → IsRide t r → offAt off target t (r .leave) ≡ off r (chosenFrom off target t (suc (r .leave)))
   unfolding offAt
   ride-off landed r is =
       sym (ap (λ (x : Ride). off x (chosenFrom off target t (suc (r .leave)))) (is .as-timed)
-          ∙ landed (r .board) (rowOf (t .rows) (r .board)) (rowRide (t .tables) (r .leave) (rowOf (t .rows) (r .leave))) (chosenFrom off target t (suc (r .leave))))
+      ∙ landed (r .board) (rowOf (t .rows) (r .board)) (rowRide (t .tables) (r .leave) (rowOf (t .rows) (r .leave)))
+      (chosenFrom off target t (suc (r .leave))))
 
   -- what getting off after a ride is worth bounds what its boarding row is worth
-  pub ride-at-most : (r : Ride) → IsRide t r → AsLanded off → (w : ℕ) → off r (chosenFrom off target t (suc (r .leave))) ≡ some w → AtMost (bestAt off target t (r .board)) w
-  ride-at-most r is landed w e = stay-on (r .board) (r .leave) w (is .onward) (is .inside) (is .one-trip) (row-off (r .leave) w (ride-off landed r is ∙ e))
+  pub ride-at-most : (r : Ride) → IsRide t r → AsLanded off → (w : ℕ) → off r (chosenFrom off target t (suc (r .leave))) ≡ some w
+      → AtMost (bestAt off target t (r .board)) w
+  ride-at-most r is landed w e = stay-on (r .board) (r .leave) w (is .onward) (is .inside) (is .one-trip)
+      (row-off (r .leave) w (ride-off landed r is ∙ e))

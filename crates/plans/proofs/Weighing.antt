@@ -1,11 +1,10 @@
 -- Laws on sums over delays: equal or lesser worths of what is caught give an equal or lesser sum. Assumes nothing.
-use Prim.Native.Nat.{ℕ, suc, pred, _+_, _*_, _/_, _≤_, _<_}
-use native.Mathlib.Nat.{mul-le-mul-left, div-le-of-le-mul, le-div-iff-mul-le, le-trans, div-mul-le-self}
+use Prim.Native.Nat.{ℕ, suc, _+_, _*_, _≤_, _<_}
+use native.Mathlib.Nat.{mul-le-mul-left}
 use native.Mathlib.Omega.{arith}
-use mathlib.Core.Bool.{Bool, true, false, cond}
+use mathlib.Core.Bool.{cond}
 use mathlib.Core.List.{List, [], _∷_}
-use mathlib.Core.Path.{_≡_, refl, sym, ap, ap₂, subst, _∙_}
-use mathlib.Core.Option.{Option, none, some}
+use mathlib.Core.Path.{_≡_, refl, ap, ap₂}
 use lib.Dec.{eqb}
 use lib.ListN.{length}
 use Rattle.timetable.specs.Timetable.{longest}
@@ -37,7 +36,11 @@ pub change-less :
     (r : Ride) (vs us : List Valued) → length (r .shares) ≡ suc (longest (r .shares))
     → ((m : ℕ) → r .arrives ≤ m → m ≤ latest r → caught vs (r .to) m ≤ caught us (r .to) m) → changeWorth r vs ≤ changeWorth r us
 unfolding changeWorth
-change-less r vs us stand less = omega (arith, weigh-less (r .shares) (r .arrives) (λ m. caught vs (r .to) m) (λ m. caught us (r .to) m) (λ m h k. less m h (let z : m ≤ latest r = omega arith in z)))
+change-less r vs us stand less = omega (
+  arith,
+  weigh-less (r .shares) (r .arrives) (λ m. caught vs (r .to) m) (λ m. caught us (r .to) m)
+      (λ m h k. less m h (let z : m ≤ latest r = omega arith in z)),
+)
 
 pub land-same :
     (target : ℕ) (r : Ride) (vs us : List Valued) → length (r .shares) ≡ suc (longest (r .shares))

@@ -8,4 +8,6 @@ pub mod Plan
 pub mod SafePlan
 pub mod Walk
 pub mod Words
+pub mod Passenger
+pub mod RowWords
 pub mod Cases

@@ -1,8 +1,11 @@
 // A sound file's delay tables, as cumulative shares in lent cells.
 ghost use mathlib.Core.Path.{_≡_};
-ghost use Prim.Native.Nat.{_+_, _*_, _≤_, _<_};
+ghost use Prim.Native.Nat.{suc, _+_, _<_};
 ghost use lib.ListN.{length};
-ghost use Rattle.reading.specs.Reading.{tablesIn, BlocksStand, TablesHeld};
+ghost use Rattle.layout.specs.Decode.{sharesFrom, tableAt, blockEnd};
+ghost use Rattle.plans.specs.Worth.{weigh};
+ghost use Rattle.reading.specs.Reading.{tablesIn, BlocksStand, BlockHeld, TablesHeld};
+ghost use Rattle.tables.specs.Summed.{BlockStands, SharesStand, SameOutside, Summed};
 use cells::cell;
 use layout::u16_at;
 use reading::BLOCK;
@@ -19,26 +22,41 @@ pub fn read_tables(file: &[u8], s: Sailings, tables: &mut [u32])
     let mut k = 0;
     let mut block = s.tablestart;
     while k < s.classes {
-        block = read_table(file, block, BLOCK * k, tables);
+        block = read_table(file, block, k, tables);
         k += 1;
     }
 }
 
-// One class block at byte `at`, into the cells from `into` on; the byte where it ends.
-// intended: ensures r ≡ blockEnd file at × the block's cells as above × cells outside unchanged
-fn read_table(file: &[u8], at: usize, into: usize, tables: &mut [u32]) -> usize {
+// One class block at byte `at`, into the cells of class `k`; the byte where it ends.
+fn read_table(file: &[u8], at: usize, k: usize, tables: &mut [u32]) -> usize
+    requires { ⌜ BlockStands (now file) at × (k < 16) × (length (now tables) ≡ 4096) ⌝ }
+    ensures { λ r. ⌜ (r ≡ blockEnd (now (file .entry)) at) × BlockHeld (now (tables .exit)) k (tableAt (now (file .entry)) at)
+        × SameOutside (now (tables .entry)) (now (tables .exit)) k ⌝ }
+{
     let longest = u16_at(file, at);
+    let into = BLOCK * k;
+    let late = read_shares(file, at + 2, longest, into + SHARES, tables);
+    tables[into + LONGEST] = cell(longest);
+    tables[into + EXPECTED] = cell((late + 15) / 16);
+    at + 4 + 2 * longest
+}
+
+// The cumulative shares of delays 0 to `longest`, from byte `at` on, into the cells from `into` on; the
+// sum of delay x share.
+fn read_shares(file: &[u8], at: usize, longest: usize, into: usize, tables: &mut [u32]) -> usize
+    requires { ⌜ SharesStand (now file) at longest × (into + longest < length (now tables)) ⌝ }
+    ensures { λ r. ⌜ (r ≡ weigh (sharesFrom (now (file .entry)) at (suc longest)) 0 (λ v. v))
+        × Summed (now (tables .entry)) (now (tables .exit)) into (sharesFrom (now (file .entry)) at (suc longest)) (suc longest) ⌝ }
+{
     let mut minute = 0;
     let mut total = 0;
     let mut late = 0;
     while minute <= longest {
-        let share = u16_at(file, at + 2 + 2 * minute);
+        let share = u16_at(file, at + 2 * minute);
         total += share;
         late += share * minute;
-        tables[into + SHARES + minute] = cell(total);
+        tables[into + minute] = cell(total);
         minute += 1;
     }
-    tables[into + LONGEST] = cell(longest);
-    tables[into + EXPECTED] = cell((late + 15) / 16);
-    at + 4 + 2 * longest
+    late
 }

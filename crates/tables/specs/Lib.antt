@@ -1,0 +1,2 @@
+-- What the lent cells hold of one class.
+pub mod Summed
