@@ -2,14 +2,14 @@
 use Prim.Native.Nat.{ℕ, zero, suc, _≤_, _<_}
 use mathlib.Core.Bool.{Bool, true, false, cond, _&&_}
 use mathlib.Core.List.{List, [], _∷_, List·Memᴰ, List·Memᴰ·head, List·Memᴰ·tail}
-use mathlib.Core.Option.{Option, none, some}
+use mathlib.Core.Option.{none, some}
 use mathlib.Core.Path.{_≡_, refl, sym, ap, _∙_}
 use native.Mathlib.Omega.{arith}
 use borrow.Author.Tests.{eq-eqb, ne-eqb, eqb-true, le-leb, lt-leb}
 use lib.Dec.{eqb, leb}
 use lib.ListN.{length, getD}
 use Rattle.laws.proofs.Tests.{ifb, both, cond-true, cond-false}
-use Rattle.plans.specs.Rides.{Ride, boards}
+use Rattle.plans.specs.Rides.{boards}
 use Rattle.plans.specs.Worth.{Valued, firstOpen, caught, worthOr}
 use Rattle.plans.specs.Chosen.{whenSafe}
 use Rattle.landing.specs.Landing.{atStop}

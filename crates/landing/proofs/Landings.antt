@@ -1,28 +1,27 @@
 -- Getting off a row whose landing stop's stack is ready: what the stack answers, and what each way out is worth. Assumes nothing.
-use Prim.Native.Nat.{ℕ, zero, suc, _+_, _-_, _*_, _/_, _≤_, _<_}
-use mathlib.Core.Bool.{Bool, true, false}
+use Prim.Native.Nat.{ℕ, suc, _+_, _-_, _*_, _≤_, _<_}
+use mathlib.Core.Bool.{true, false}
 use mathlib.Core.List.{List, []}
-use mathlib.Core.Option.{Option, none, some}
-use mathlib.Core.Path.{_≡_, refl, sym, ap, subst, _∙_}
-use native.Mathlib.Nat.{le-trans, lt-of-lt-of-le}
+use mathlib.Core.Option.{none, some}
+use mathlib.Core.Path.{_≡_, sym, ap, subst, _∙_}
+use native.Mathlib.Nat.{lt-of-lt-of-le}
 use native.Mathlib.Omega.{arith}
 use borrow.Author.Tests.{eq-eqb, ne-eqb, leb-true, leb-false}
-use lib.Dec.{leb, eqb}
+use lib.Dec.{leb}
 use lib.ListN.{length, getD}
 use Rattle.laws.proofs.Tests.{ifb, cond-true, cond-false}
-use Rattle.laws.proofs.Members.{member-at}
-use Rattle.timetable.specs.Classes.{whole, sum}
+use Rattle.laws.proofs.Places.{member-at}
+use Rattle.timetable.specs.Classes.{whole}
 use Rattle.timetable.specs.Timetable.{longest}
 use Rattle.timetable.specs.declared.Row.{Row}
 use Rattle.cells.specs.Cells.{cellOf, missing, stackStart, stackSize}
 use Rattle.plans.specs.Journeys.{within}
-use Rattle.plans.specs.Rides.{latest}
 use Rattle.plans.specs.Worth.{Valued, firstOpen, caught, worthOr, weigh, up, arrivalWorth, changeWorth}
 use Rattle.plans.specs.Chosen.{offInTicks, whenSafe}
 use Rattle.landing.specs.Landing.{Ready, EntryFits, Falling, FirstOpenAt, atStop, departureAt, rideOff}
 use Rattle.landing.specs.Boarding.{Boarding, worthAt}
 use Rattle.landing.proofs.AtStop.{first-open-at-stop, caught-at-stop, at-stop-from, first-open-at, first-open-none, safe-at}
-use Rattle.landing.proofs.Runs.{longest-on, weigh-bound}
+use Rattle.landing.proofs.Runs.{weigh-bound}
 use Rattle.landing.proofs.Stack.{stack-size, worth-at, departure-at, falls-behind}
 
 -- stands for a ride where there is none

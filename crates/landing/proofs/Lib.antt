@@ -4,3 +4,4 @@ pub mod Stack
 pub mod Runs
 pub mod Turns
 pub mod Landings
+pub mod Settled

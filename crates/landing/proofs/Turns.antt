@@ -1,5 +1,5 @@
 -- Changing boats, one ride caught at a time: what is known at each turn, and that a turn keeps it. Assumes nothing.
-use Prim.Native.Nat.{ℕ, zero, suc, _+_, _-_, _*_, _/_, _≤_, _<_}
+use Prim.Native.Nat.{ℕ, suc, _+_, _-_, _*_, _/_, _≤_, _<_}
 use mathlib.Core.List.{List}
 use mathlib.Core.Path.{_≡_, refl, sym, ap, subst, _∙_}
 use native.Mathlib.Nat.{add-zero, mul-le-mul-left, le-trans}
@@ -8,11 +8,10 @@ use borrow.Author.Tests.{ltb-true, ltb-false}
 use lib.Dec.{ltb}
 use lib.ListN.{length, getD, take, drop}
 use Rattle.laws.proofs.Tests.{ifb}
-use Rattle.timetable.specs.Timetable.{longest}
-use Rattle.timetable.specs.Classes.{sum, whole}
+use Rattle.timetable.specs.Classes.{sum}
 use Rattle.plans.specs.Worth.{weigh}
 use Rattle.landing.specs.Landing.{departureAt}
-use Rattle.landing.specs.Boarding.{Boarding, worthAt}
+use Rattle.landing.specs.Boarding.{Boarding}
 use Rattle.landing.proofs.Runs.{longest-on, sum-rest, sum-take-grows, weigh-on, weigh-end}
 
 -- `entry` is the cell of the entry at `place`; `passed` delays are counted, which catch the entries above it

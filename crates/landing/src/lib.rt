@@ -1,7 +1,7 @@
 // Document 01, "Expected arrival in ticks": what getting off a row is worth, by its stop's stack of chosen rows.
 ghost use mathlib.Core.Path.{_≡_};
 ghost use mathlib.Core.List.{List};
-ghost use Prim.Native.Nat.{ℕ, _+_, _*_, _/_, _%_, _≤_, _<_};
+ghost use Prim.Native.Nat.{ℕ, _+_, _*_, _/_, _%_, _<_};
 ghost use Rattle.timetable.specs.Classes.{whole};
 ghost use Rattle.plans.specs.Journeys.{within};
 ghost use Rattle.plans.specs.Worth.{Valued, up, weigh};

@@ -7,10 +7,15 @@ use Rattle.landing.proofs.bounded.Statement.{statement}
 use Rattle.landing.proofs.bounded.Tie as tie
 
 returns : tie.Need-returns
-returns c = eq-eqb (c .before .args .bound) 0 (c .if1 .taken) ∙ ap (λ b. b || leb (c .before .args .minute) (c .before .args .bound)) (sym (eq-eqb (c .before .args .bound) 0 (c .if1 .taken)))
+returns c =
+    let a = c .before .args in
+    let unbounded = eq-eqb (a .bound) 0 (c .if1 .taken) in
+    unbounded ∙ ap (λ b. b || leb (a .minute) (a .bound)) (sym unbounded)
 
 returns-2 : tie.Need-returns-2
-returns-2 c = ap (λ b. b || leb (c .before .args .minute) (c .before .args .bound)) (sym (ne-eqb (c .before .args .bound) 0 (c .if1 .left)))
+returns-2 c =
+    let a = c .before .args in
+    ap (λ b. b || leb (a .minute) (a .bound)) (sym (ne-eqb (a .bound) 0 (c .if1 .left)))
 
 pub bounded-spec : {M : Type 1} → statement M
 bounded-spec = tie.close (tie.spec returns returns-2)

@@ -5,7 +5,7 @@ use mathlib.Core.Path.{_≡_, sym, ap, subst, _∙_}
 use native.Mathlib.Nat.{mul-le-mul-left}
 use native.Mathlib.Omega.{arith}
 use borrow.Author.Tests.{leb-true, leb-false, not-true, not-false}
-use lib.ListN.{length, getD}
+use lib.ListN.{getD}
 use Rattle.timetable.specs.Classes.{whole}
 use Rattle.plans.specs.Worth.{up}
 use Rattle.landing.specs.Boarding.{Boarding}
