@@ -12,3 +12,4 @@ pub mod Stored
 pub mod Choosing
 pub mod Step
 pub mod Bounds
+pub mod Turn
