@@ -13,3 +13,4 @@ pub mod Choosing
 pub mod Step
 pub mod Bounds
 pub mod Turn
+pub mod Laid
