@@ -1,24 +1,21 @@
 -- The scan's first and last cells: what parting the stacks leaves begins it, and what it holds at its first row is the scan.
-use Prim.Native.Nat.{ℕ, suc, _+_, _*_, _≤_, _<_}
-use mathlib.Core.List.{List, [], _∷_, map}
-use mathlib.Core.Option.{Option, none, some}
-use mathlib.Core.Path.{_≡_, refl, sym, ap, ap₂, subst, _∙_}
+use Prim.Native.Nat.{ℕ, suc, _+_, _≤_, _<_}
+use mathlib.Core.List.{List, []}
+use mathlib.Core.Path.{_≡_, sym, ap, subst, _∙_}
 use native.Mathlib.Omega.{arith}
-use lib.ListN.{length, getD}
+use lib.ListN.{getD}
 use lib.Seq.{slice, slice-empty, length-slice}
-use Rattle.timetable.specs.declared.Row.{Row}
-use Rattle.plans.specs.Worth.{Valued}
-use Rattle.plans.specs.Chosen.{Weighed, Scan, scan, nextOf}
-use Rattle.cells.specs.Cells.{trips, pairs, used, missing, stackAt, stackStart, stackSize}
+use Rattle.plans.specs.Chosen.{Scan, scan, nextOf}
+use Rattle.cells.specs.Cells.{trips, missing, stackAt, stackStart}
 use Rattle.reading.specs.declared.Sailings.{Sailings}
 use Rattle.reading.specs.Reading.{rowsIn, tablesIn, Stand}
 use Rattle.landing.specs.declared.Goal.{Goal}
-use Rattle.landing.specs.Landing.{atStop, entryOf, StackHolds}
+use Rattle.landing.specs.Landing.{atStop}
 use Rattle.scan.specs.Stores.{pairCell, startOf, sizeOf, worthAt}
 use Rattle.scan.specs.Regions.{countAt, below}
-use Rattle.scan.specs.Scanned.{scanIn, PairHolds, ScanHeld}
-use Rattle.scan.specs.Held.{NextHolds, PairsHeld, StackHeld, Held}
-use Rattle.scan.proofs.Regions.{below-same, below-count, below-later}
+use Rattle.scan.specs.Scanned.{scanIn, ScanHeld}
+use Rattle.scan.specs.Held.{PairsHeld, StackHeld, Held}
+use Rattle.scan.proofs.Regions.{below-count, below-later}
 use Rattle.scan.proofs.TimetableTo.{climbing}
 
 abbrev nothing : Scan

@@ -1,12 +1,12 @@
 -- The chosen rides of one stop: what choosing one more row does to them. Assumes nothing.
 use Prim.Native.Nat.{ℕ, _≤_, _<_}
-use mathlib.Core.Bool.{Bool, true, false, cond, not, _&&_, false≢true}
+use mathlib.Core.Bool.{true, false, cond, not, _&&_}
 use mathlib.Core.List.{List, [], _∷_, List·Memᴰ, List·Memᴰ·head, List·Memᴰ·tail, List·Memᴰ·not-nil}
 use mathlib.Core.Logic.{_≢_}
 use mathlib.Core.Option.{Option, none, some}
 use mathlib.Core.Path.{_≡_, refl, sym, ap, subst, _∙_}
 use native.Mathlib.Omega.{arith}
-use lib.Dec.{eqb, ltb}
+use lib.Dec.{eqb}
 use borrow.Author.Tests.{eqb-true, eqb-false, eq-eqb, ne-eqb, lt-ltb, le-ltb}
 use Rattle.laws.proofs.Members.{head-or-later}
 use Rattle.laws.proofs.Tests.{ifb, both-left, both-right, cond-true, cond-false}
@@ -15,33 +15,25 @@ use Rattle.plans.specs.Worth.{Valued}
 use Rattle.plans.specs.Chosen.{firstAt, leads, others, choose}
 use Rattle.plans.proofs.Choice.{Choice, worthless, at-target, behind, added, choice, same-minute}
 use Rattle.landing.specs.Landing.{atStop}
-
-pub at-here : (s : ℕ) (v : Valued) (vs : List Valued) → v .ride .from ≡ s → atStop s (v ∷ vs) ≡ v ∷ atStop s vs
-unfolding atStop
-at-here s v vs e = cond-true (v ∷ atStop s vs) (atStop s vs) (eq-eqb (v .ride .from) s e)
-
-pub at-elsewhere : (s : ℕ) (v : Valued) (vs : List Valued) → v .ride .from ≢ s → atStop s (v ∷ vs) ≡ atStop s vs
-unfolding atStop
-at-elsewhere s v vs ne = cond-false (v ∷ atStop s vs) (atStop s vs) (ne-eqb (v .ride .from) s ne)
+use Rattle.landing.proofs.AtStop.{at-stop-here, at-stop-elsewhere}
 
 -- at the stop or elsewhere
 pub at-head {ℓ} : (P : Type ℓ) (s : ℕ) (v : Valued) (vs : List Valued) → (v .ride .from ≡ s → atStop s (v ∷ vs) ≡ v ∷ atStop s vs → P)
     → (v .ride .from ≢ s → atStop s (v ∷ vs) ≡ atStop s vs → P) → P
 at-head P s v vs here elsewhere =
     ifb (λ b. eqb (v .ride .from) s ≡ b → P) (eqb (v .ride .from) s)
-    (λ e _. here (eqb-true (v .ride .from) s e) (at-here s v vs (eqb-true (v .ride .from) s e)))
-    (λ e _. elsewhere (eqb-false (v .ride .from) s e) (at-elsewhere s v vs (eqb-false (v .ride .from) s e))) refl
+    (λ e _. here (eqb-true (v .ride .from) s e) (at-stop-here s v vs (eqb-true (v .ride .from) s e)))
+    (λ e _. elsewhere (eqb-false (v .ride .from) s e) (at-stop-elsewhere s v vs (eqb-false (v .ride .from) s e))) refl
 
--- a member of the stop's list is a chosen ride that boards there
-pub at-member : (s : ℕ) (vs : List Valued) {x : Valued} → List·Memᴰ x (atStop s vs) → List·Memᴰ x vs × (x .ride .from ≡ s)
+-- a member of the stop's list boards there
+pub at-from : (s : ℕ) (vs : List Valued) {x : Valued} → List·Memᴰ x (atStop s vs) → x .ride .from ≡ s
 unfolding atStop
-at-member s [] m = absurd (List·Memᴰ·not-nil m)
-at-member s (v ∷ vs) {x} m =
-    at-head (List·Memᴰ x (v ∷ vs) × (x .ride .from ≡ s)) s v vs
-    (λ here e. head-or-later (List·Memᴰ x (v ∷ vs) × (x .ride .from ≡ s)) (subst (λ (l : List Valued). List·Memᴰ x l) e m)
-        (λ q. (List·Memᴰ·head q, ap (λ (u : Valued). u .ride .from) q ∙ here))
-        (λ n. let found = at-member s vs n in (List·Memᴰ·tail (found .0), found .1)))
-    (λ _ e. let found = at-member s vs (subst (λ (l : List Valued). List·Memᴰ x l) e m) in (List·Memᴰ·tail (found .0), found .1))
+at-from s [] m = absurd (List·Memᴰ·not-nil m)
+at-from s (v ∷ vs) {x} m =
+    at-head (x .ride .from ≡ s) s v vs
+    (λ here e. head-or-later (x .ride .from ≡ s) (subst (λ (l : List Valued). List·Memᴰ x l) e m)
+    (λ q. ap (λ (u : Valued). u .ride .from) q ∙ here) (λ n. at-from s vs n))
+    (λ _ e. at-from s vs (subst (λ (l : List Valued). List·Memᴰ x l) e m))
 
 others-gone : (r : Ride) (v : Valued) (vs : List Valued) → same-minute (v .ride) r ≡ true → others r (v ∷ vs) ≡ others r vs
 unfolding others
@@ -65,13 +57,13 @@ at-others r [] s = ap (atStop s) (none-gone r) ∙ nobody-at s ∙ sym (none-gon
 at-others r (v ∷ vs) s =
     ifb (λ b. same-minute (v .ride) r ≡ b → atStop s (others r (v ∷ vs)) ≡ others r (atStop s (v ∷ vs))) (same-minute (v .ride) r)
     (λ e _. ap (atStop s) (others-gone r v vs e) ∙ at-others r vs s
-        ∙ at-head (others r (atStop s vs) ≡ others r (atStop s (v ∷ vs))) s v vs
-        (λ _ h. sym (ap (others r) h ∙ others-gone r v (atStop s vs) e)) (λ _ h. sym (ap (others r) h)))
+    ∙ at-head (others r (atStop s vs) ≡ others r (atStop s (v ∷ vs))) s v vs
+    (λ _ h. sym (ap (others r) h ∙ others-gone r v (atStop s vs) e)) (λ _ h. sym (ap (others r) h)))
     (λ e _. ap (atStop s) (others-stay r v vs e)
-        ∙ at-head (atStop s (v ∷ others r vs) ≡ others r (atStop s (v ∷ vs))) s v vs
-        (λ here h. at-here s v (others r vs) here ∙ ap (λ (l : List Valued). v ∷ l) (at-others r vs s)
-            ∙ sym (ap (others r) h ∙ others-stay r v (atStop s vs) e))
-        (λ away h. at-elsewhere s v (others r vs) away ∙ at-others r vs s ∙ sym (ap (others r) h))) refl
+    ∙ at-head (atStop s (v ∷ others r vs) ≡ others r (atStop s (v ∷ vs))) s v vs
+    (λ here h. at-stop-here s v (others r vs) here ∙ ap (λ (l : List Valued). v ∷ l) (at-others r vs s)
+    ∙ sym (ap (others r) h ∙ others-stay r v (atStop s vs) e))
+    (λ away h. at-stop-elsewhere s v (others r vs) away ∙ at-others r vs s ∙ sym (ap (others r) h))) refl
 
 others-absent :
     (r : Ride) (vs : List Valued) → ((x : Valued) → List·Memᴰ x vs → x .ride .from ≡ r .from → x .ride .departs ≢ r .departs) → others r vs ≡ vs
@@ -79,8 +71,8 @@ others-absent r [] apart = none-gone r
 others-absent r (v ∷ vs) apart =
     ifb (λ b. same-minute (v .ride) r ≡ b → others r (v ∷ vs) ≡ v ∷ vs) (same-minute (v .ride) r)
     (λ e _. absurd (apart v (List·Memᴰ·head refl)
-        (eqb-true (v .ride .from) (r .from) (both-left (eqb (v .ride .from) (r .from)) (eqb (v .ride .departs) (r .departs)) e))
-        (eqb-true (v .ride .departs) (r .departs) (both-right (eqb (v .ride .from) (r .from)) (eqb (v .ride .departs) (r .departs)) e))))
+    (eqb-true (v .ride .from) (r .from) (both-left (eqb (v .ride .from) (r .from)) (eqb (v .ride .departs) (r .departs)) e))
+    (eqb-true (v .ride .departs) (r .departs) (both-right (eqb (v .ride .from) (r .from)) (eqb (v .ride .departs) (r .departs)) e))))
     (λ e _. others-stay r v vs e ∙ ap (λ (l : List Valued). v ∷ l) (others-absent r vs (λ x m. apart x (List·Memᴰ·tail m)))) refl
 
 abbrev headOf : List Valued → Option Valued
@@ -102,8 +94,8 @@ elsewhere-by target s worthless away = refl
 elsewhere-by target s (at-target p) away = refl
 elsewhere-by target s (behind p) away = refl
 elsewhere-by target s {chosen = chosen} (added {v = v} apart lead) away =
-    at-elsewhere s v (others (v .ride) chosen) (away v refl) ∙ at-others (v .ride) chosen s
-    ∙ others-absent (v .ride) (atStop s chosen) (λ x m there. absurd (away v refl (sym there ∙ at-member s chosen m .1)))
+    at-stop-elsewhere s v (others (v .ride) chosen) (away v refl) ∙ at-others (v .ride) chosen s
+    ∙ others-absent (v .ride) (atStop s chosen) (λ x m there. absurd (away v refl (sym there ∙ at-from s chosen m)))
 
 -- other stops keep their chosen rides
 pub choose-elsewhere :
@@ -147,7 +139,7 @@ module _ (target : ℕ) (chosen : List Valued) (v : Valued) (away : v .ride .fro
       → atStop (v .ride .from) (choose target (some v) chosen) ≡ v ∷ others (v .ride) l
   joined l e lead =
       ap (atStop (v .ride .from)) (leading (subst (λ (k : List Valued). leads (v .worth) (headOf k) ≡ true) (sym e) lead))
-      ∙ at-here (v .ride .from) v (others (v .ride) chosen) refl
+      ∙ at-stop-here (v .ride .from) v (others (v .ride) chosen) refl
       ∙ ap (λ (k : List Valued). v ∷ k) (at-others (v .ride) chosen (v .ride .from) ∙ ap (others (v .ride)) e)
 
   -- the stop has no chosen ride yet
@@ -177,13 +169,13 @@ module _ (target : ℕ) (chosen : List Valued) (v : Valued) (away : v .ride .fro
       own-replaces there then =
           own-joined
           ∙ ap (λ (k : List Valued). v ∷ k) (others-gone (v .ride) u rest
-              (ap (λ b. b && eqb (u .ride .departs) (v .ride .departs)) (eq-eqb (u .ride .from) (v .ride .from) there) ∙ eq-eqb (u .ride .departs) (v .ride .departs) then)
-              ∙ rest-stays)
+          (ap (λ b. b && eqb (u .ride .departs) (v .ride .departs)) (eq-eqb (u .ride .from) (v .ride .from) there) ∙ eq-eqb (u .ride .departs) (v .ride .departs) then)
+          ∙ rest-stays)
 
       pub own-ahead : u .ride .departs ≢ v .ride .departs → atStop (v .ride .from) (choose target (some v) chosen) ≡ v ∷ (u ∷ rest)
       own-ahead then =
           own-joined
           ∙ ap (λ (k : List Valued). v ∷ k) (others-absent (v .ride) (u ∷ rest)
-              (λ x m _. head-or-later (x .ride .departs ≢ v .ride .departs) m
-                  (λ q d. then (ap (λ (y : Valued). y .ride .departs) (sym q) ∙ d))
-                  (λ n d. let behind' : u .ride .departs < x .ride .departs = later x n in omega arith)))
+          (λ x m _. head-or-later (x .ride .departs ≢ v .ride .departs) m
+          (λ q d. then (ap (λ (y : Valued). y .ride .departs) (sym q) ∙ d))
+          (λ n d. let behind' : u .ride .departs < x .ride .departs = later x n in omega arith)))

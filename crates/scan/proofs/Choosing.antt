@@ -1,33 +1,33 @@
 -- Choosing one more row: each stop's stack holds the stop's chosen rides again. Assumes nothing.
-use Prim.Native.Nat.{ℕ, zero, suc, _+_, _-_, _*_, _/_, _≤_, _<_}
-use mathlib.Core.Bool.{Bool, true, false}
-use mathlib.Core.List.{List, [], _∷_, map, List·Memᴰ, List·Memᴰ·head, List·Memᴰ·tail}
+use Prim.Native.Nat.{ℕ, suc, _+_, _*_, _/_, _≤_, _<_}
+use mathlib.Core.List.{List, [], _∷_, map, List·Memᴰ, List·Memᴰ·head}
 use mathlib.Core.Logic.{_≢_, _⊎_, inl, inr}
 use mathlib.Core.Option.{Option, none, some}
 use mathlib.Core.Path.{_≡_, refl, sym, ap, ap₂, subst, _∙_}
 use native.Mathlib.Nat.{mul-add-div, div-eq-of-lt}
 use native.Mathlib.Omega.{arith}
 use lib.Dec.{eqb, ltb}
-use lib.ListN.{length, getD, set, drop}
+use lib.ListN.{length, getD}
 use borrow.Author.Tests.{eqb-true, eqb-false, ltb-true, ltb-false}
 use Rattle.laws.proofs.Tests.{ifb}
 use Rattle.timetable.specs.declared.Row.{Row}
 use Rattle.plans.specs.Worth.{Valued}
 use Rattle.plans.specs.Chosen.{choose}
 use Rattle.plans.proofs.Order.{Ordered}
-use Rattle.cells.specs.Cells.{Entry, pairs, sizes, missing, keyOf, stackAt, stackStart, stackOf, stackSize}
-use Rattle.landing.specs.Landing.{atStop, entryOf, StackHolds, EntryFits}
-use Rattle.scan.specs.Stores.{pairCell, startOf, sizeOf, worthAt, pushed, Chose, worthless, alone, not-below, replaces, ahead}
+use Rattle.cells.specs.Cells.{Entry, missing, keyOf, stackAt, stackStart, stackSize}
+use Rattle.landing.specs.Landing.{atStop, entryOf, EntryFits}
+use Rattle.landing.proofs.AtStop.{at-stop-member}
+use Rattle.scan.specs.Stores.{pairCell, startOf, sizeOf, worthAt, Chose, worthless, alone, not-below, replaces, ahead}
 use Rattle.scan.specs.Regions.{countAt, below}
 use Rattle.scan.specs.Scanned.{PairHolds}
 use Rattle.scan.specs.Held.{StackHeld}
 use Rattle.scan.proofs.Paired.{entry}
 use Rattle.scan.proofs.Regions.{count-here, count-more, below-later}
-use Rattle.scan.proofs.ByStop.{at-member, choose-elsewhere, choose-none, own-alone, own-kept, own-replaces, own-ahead}
+use Rattle.scan.proofs.ByStop.{at-from, choose-elsewhere, choose-none, own-alone, own-kept, own-replaces, own-ahead}
 use Rattle.scan.proofs.Rising.{at-ordered, departs-later}
 use Rattle.scan.proofs.PairsHeld.{Holds, pair-holds}
 use Rattle.scan.proofs.StackHeld.{stack-kept, stack-none, Top, stack-top}
-use Rattle.scan.proofs.Stored.{stored, stored-start, stored-size, stored-other, stored-stack, stored-own-size, pushed-stored, length-stored, drop-stored}
+use Rattle.scan.proofs.Stored.{stored, stored-start, stored-size, stored-other, stored-stack, stored-own-size, pushed-stored}
 
 -- what is known of a row that has been weighed, and of the rides chosen behind it
 pub record Choosable (row : Row) (i target : ℕ) (best : Option Valued) (chosen : List Valued) : Type 0 where
@@ -89,12 +89,12 @@ module _ (row : Row) (i target : ℕ) (best : Option Valued) (chosen : List Valu
       let all' = suffix stop in
       ifb (λ b. ltb stop (row .board) ≡ b → Beside k j) (ltb stop (row .board))
       (λ e _. let before : below (λ s. countAt s all) stop + countAt stop all ≤ below (λ s. countAt s all) (row .board) =
-              below-later (λ s. countAt s all) stop (row .board) (ltb-true stop (row .board) e) in
-          ((λ q. omega arith), (λ q. omega arith)))
+      below-later (λ s. countAt s all) stop (row .board) (ltb-true stop (row .board) e) in
+      ((λ q. omega arith), (λ q. omega arith)))
       (λ e _. let not-before : row .board ≤ stop = ltb-false stop (row .board) e in
-          let before : below (λ s. countAt s all) (row .board) + countAt (row .board) all ≤ below (λ s. countAt s all) stop =
-              below-later (λ s. countAt s all) (row .board) stop (omega arith) in
-          ((λ q. omega arith), (λ q. omega arith))) refl
+      let before : below (λ s. countAt s all) (row .board) + countAt (row .board) all ≤ below (λ s. countAt s all) stop =
+      below-later (λ s. countAt s all) (row .board) stop (omega arith) in
+      ((λ q. omega arith), (λ q. omega arith))) refl
 
   elsewhere : (v : Valued) (stop : ℕ) → (row .board ≡ stop → ⊥) → best ≡ some v → v .ride .from ≢ stop
   elsewhere v stop ne e q = ne (sym (c .stop v e) ∙ q)
@@ -109,8 +109,8 @@ module _ (row : Row) (i target : ℕ) (best : Option Valued) (chosen : List Valu
         room = (let few = old .room in let more = count-more stop row rest in omega arith);
         holds = old .holds ∙ ap (map entryOf)
             (ifb (λ b. eqb (row .board) stop ≡ b → atStop stop chosen ≡ atStop stop (choose target best chosen)) (eqb (row .board) stop)
-                (λ e _. subst (λ k. atStop k chosen ≡ atStop k (choose target best chosen)) (eqb-true (row .board) stop e) (sym same))
-                (λ e _. sym (choose-elsewhere target best chosen stop (λ v. elsewhere v stop (eqb-false (row .board) stop e)))) refl);
+            (λ e _. subst (λ k. atStop k chosen ≡ atStop k (choose target best chosen)) (eqb-true (row .board) stop e) (sym same))
+            (λ e _. sym (choose-elsewhere target best chosen stop (λ v. elsewhere v stop (eqb-false (row .board) stop e)))) refl);
       }
 
   -- the row's entry was stored k pairs behind the start
@@ -121,31 +121,31 @@ module _ (row : Row) (i target : ℕ) (best : Option Valued) (chosen : List Valu
   put k low now stop h =
       ifb (λ b. eqb (row .board) stop ≡ b → StackHeld (stored row i k w) from all (row ∷ rest) (choose target best chosen) stop) (eqb (row .board) stop)
       (λ e _. subst (λ x. StackHeld (stored row i k w) from all (row ∷ rest) (choose target best chosen) x) (eqb-true (row .board) stop e)
-          (record {
-            start = stored-start row i k w (c .board) (row .board) (c .board) ∙ own .start;
-            room = (let size = stored-own-size row i k w (c .board) (stored-inside k low) in
-                let few = own .room in
-                let here = count-here (row .board) row rest refl in omega arith);
-            holds = stored-stack row i k w (c .board) (stored-inside k low) ∙ now;
-          }))
+      (record {
+        start = stored-start row i k w (c .board) (row .board) (c .board) ∙ own .start;
+        room = (let size = stored-own-size row i k w (c .board) (stored-inside k low) in
+            let few = own .room in
+            let here = count-here (row .board) row rest refl in omega arith);
+        holds = stored-stack row i k w (c .board) (stored-inside k low) ∙ now;
+      }))
       (λ e _. let ne : row .board ≡ stop → ⊥ = eqb-false (row .board) stop e in
-          let old = held stop h in
-          record {
-            start = stored-start row i k w (c .board) stop h ∙ old .start;
-            room = (let size = stored-size row i k w (c .board) stop h ne in
-                let few = old .room in
-                let more = count-more stop row rest in omega arith);
-            holds = stack-kept w (stored row i k w) stop (stored-start row i k w (c .board) stop h) (stored-size row i k w (c .board) stop h ne)
-                (λ j a b. let beside = apart k low stop h ne j a b in stored-other row i k w (c .board) j (λ q. omega arith) (beside .0) (beside .1))
-                ∙ old .holds ∙ ap (map entryOf) (sym (choose-elsewhere target best chosen stop (λ v. elsewhere v stop ne)));
-          }) refl
+      let old = held stop h in
+      record {
+        start = stored-start row i k w (c .board) stop h ∙ old .start;
+        room = (let size = stored-size row i k w (c .board) stop h ne in
+            let few = old .room in
+            let more = count-more stop row rest in omega arith);
+        holds = stack-kept w (stored row i k w) stop (stored-start row i k w (c .board) stop h) (stored-size row i k w (c .board) stop h ne)
+            (λ j a b. let beside = apart k low stop h ne j a b in stored-other row i k w (c .board) j (λ q. omega arith) (beside .0) (beside .1))
+            ∙ old .holds ∙ ap (map entryOf) (sym (choose-elsewhere target best chosen stop (λ v. elsewhere v stop ne)));
+      }) refl
 
   module _ (holds : PairHolds w i best) where
     -- the row has no worth
     none-chosen : worthAt w i ≡ missing → atStop (row .board) (choose target best chosen) ≡ atStop (row .board) chosen
     none-chosen e =
         ap (atStop (row .board)) (ap (λ (o : Option Valued). choose target o chosen)
-            (worth-none best (getD w (pairCell i) 0) (getD w (pairCell i + 1) 0) (pair-holds w i best holds) e) ∙ choose-none target chosen)
+        (worth-none best (getD w (pairCell i) 0) (getD w (pairCell i + 1) 0) (pair-holds w i best holds) e) ∙ choose-none target chosen)
 
     module _ (v : Valued) (is : best ≡ some v) (worth : worthAt w i ≡ v .worth) where
       own-away : v .ride .from ≢ target
@@ -170,7 +170,7 @@ module _ (row : Row) (i target : ℕ) (best : Option Valued) (chosen : List Valu
       first-put : sizeOf w (row .board) ≡ 0 → (stop : ℕ) → stop < 200 → StackHeld (stored row i 0 w) from all (row ∷ rest) (choose target best chosen) stop
       first-put size =
           let stack : stackAt w (stackStart w (row .board)) 0 ≡ map entryOf (atStop (row .board) chosen) =
-              subst (λ n. stackAt w (stackStart w (row .board)) n ≡ map entryOf (atStop (row .board) chosen)) size (own .holds) in
+          subst (λ n. stackAt w (stackStart w (row .board)) n ≡ map entryOf (atStop (row .board) chosen)) size (own .holds) in
           let none' : atStop (row .board) chosen ≡ [] = stack-none w (stackStart w (row .board)) (atStop (row .board) chosen) stack in
           put 0 (omega arith) (topped 0 [] (stack ∙ ap (map entryOf) none') (own-alone target chosen v own-away (at-own [] none')))
 
@@ -188,7 +188,9 @@ module _ (row : Row) (i target : ℕ) (best : Option Valued) (chosen : List Valu
         top-worth = ap (λ x. getD w (x + 1) 0) top-at ∙ top .worth
 
         top-member : (x : Valued) → List·Memᴰ x (top .first ∷ top .rest) → List·Memᴰ x chosen × (x .ride .from ≡ row .board)
-        top-member x m = at-member (row .board) chosen (subst (λ (l : List Valued). List·Memᴰ x l) (sym (top .all)) m)
+        top-member x m =
+            let there : List·Memᴰ x (atStop (row .board) chosen) = subst (λ (l : List Valued). List·Memᴰ x l) (sym (top .all)) m in
+            (at-stop-member (row .board) chosen x there, at-from (row .board) chosen there)
 
         first-member : List·Memᴰ (top .first) chosen × (top .first .ride .from ≡ row .board)
         first-member = top-member (top .first) (List·Memᴰ·head refl)
@@ -222,16 +224,16 @@ module _ (row : Row) (i target : ℕ) (best : Option Valued) (chosen : List Valu
           replace-put same =
               put k (omega arith)
               (topped k (top .rest) (top .below)
-                  (own-replaces target chosen v own-away (top .first) (top .rest) (at-own (top .first ∷ top .rest) (top .all)) below-first later rises
-                      (first-member .1 ∙ sym (c .stop v is)) (sym top-departs ∙ same ∙ sym (c .minute v is))))
+              (own-replaces target chosen v own-away (top .first) (top .rest) (at-own (top .first ∷ top .rest) (top .all)) below-first later rises
+              (first-member .1 ∙ sym (c .stop v is)) (sym top-departs ∙ same ∙ sym (c .minute v is))))
 
           ahead-put : (getD w (pairCell (startOf w (row .board) + k)) 0 / 2048 ≡ row .departure → ⊥)
               → (stop : ℕ) → stop < 200 → StackHeld (stored row i (suc k) w) from all (row ∷ rest) (choose target best chosen) stop
           ahead-put other =
               put (suc k) (omega arith)
               (topped (suc k) (top .first ∷ top .rest) (stack ∙ ap (map entryOf) (top .all))
-                  (own-ahead target chosen v own-away (top .first) (top .rest) (at-own (top .first ∷ top .rest) (top .all)) below-first later rises
-                      (λ q. other (top-departs ∙ q ∙ c .minute v is))))
+              (own-ahead target chosen v own-away (top .first) (top .rest) (at-own (top .first ∷ top .rest) (top .all)) below-first later rises
+              (λ q. other (top-departs ∙ q ∙ c .minute v is))))
 
     -- the worth that the row has
     found : (worthAt w i ≡ missing → ⊥) → (v : Valued) × (best ≡ some v) × (worthAt w i ≡ v .worth)

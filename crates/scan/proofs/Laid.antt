@@ -1,21 +1,20 @@
 -- The lent cells as they are laid out before the first row is weighed: no next rows, rows counted, stacks parted.
-use Prim.Native.Nat.{ℕ, suc, _+_, _-_, _*_, _≤_, _<_}
+use Prim.Native.Nat.{ℕ, suc, _+_, _-_, _≤_, _<_}
 use mathlib.Core.List.{List, _++_, append-assoc}
-use mathlib.Core.Path.{_≡_, refl, sym, ap, ap₂, subst, _∙_}
+use mathlib.Core.Path.{_≡_, sym, ap, ap₂, subst, _∙_}
 use native.Mathlib.Omega.{arith}
 use lib.ListN.{length, getD, set, take, drop, replicate, length-set, length-append, length-replicate}
 use lib.Seq.{slice, length-slice, length-take-le, drop-drop, drop-at, drop-set-lt, getD-set-same, getD-set-other}
-use Rattle.timetable.specs.declared.Row.{Row}
 use Rattle.cells.specs.Cells.{trips, stops, sizes, pairs, used, missing, filled}
 use Rattle.cells.proofs.Filled.{length-filled, filled-ahead, filled-inside}
 use Rattle.reading.specs.declared.Sailings.{Sailings}
 use Rattle.reading.specs.Reading.{rowsIn, Stand}
 use Rattle.landing.specs.declared.Goal.{Goal}
-use Rattle.scan.specs.Stores.{pairCell, startOf, sizeOf, worthAt}
+use Rattle.scan.specs.Stores.{pairCell, startOf, sizeOf}
 use Rattle.scan.specs.Regions.{countAt, below, Apart, Counted, Parted}
 use Rattle.scan.specs.Held.{Held, Inside}
 use Rattle.scan.proofs.Regions.{below-same, below-count}
-use Rattle.scan.proofs.Step.{inside-then}
+use Rattle.scan.proofs.Inside.{inside-then}
 use Rattle.scan.proofs.Bounds.{held-begins}
 
 -- what is the same from one place on is the same from a later place on
@@ -89,19 +88,19 @@ module _ (file : List ℕ) (s : Sailings) (goal : Goal) (first end : ℕ) (stand
     laid-stays =
         inside-then (s .rows) (apart-stays (s .rows) (counted .apart))
         (inside-then (s .rows) (apart-stays (s .rows) (parted .apart))
-            (record {
-              same-length = length-set w₄ (pairCell (s .rows)) missing;
-              rest-kept = drop-set-lt (used (s .rows)) w₄ (pairCell (s .rows)) missing (omega arith);
-            }))
+        (record {
+          same-length = length-set w₄ (pairCell (s .rows)) missing;
+          rest-kept = drop-set-lt (used (s .rows)) w₄ (pairCell (s .rows)) missing (omega arith);
+        }))
 
     pub laid-held : Held file s goal first end end closed
     laid-held =
         held-begins file s goal first end stand inside closed
         (λ trip h. beside (trips + trip) (omega arith) ∙ parted .apart .ahead (trips + trip) (omega arith)
-            ∙ counted .apart .ahead (trips + trip) (omega arith) ∙ no-next trip h)
+        ∙ counted .apart .ahead (trips + trip) (omega arith) ∙ no-next trip h)
         (getD-set-same w₄ (pairCell (s .rows)) missing 0 (omega (arith, room₄)))
         (λ stop h. let same = below-counts stop (omega arith) in
-            let start : startOf w₄ stop ≡ s .rows + 1 + below (sizeOf w₃) stop = parted .starts stop h in
-            beside (stops + stop) (omega arith)
-            ∙ (let z : startOf w₄ stop ≡ suc (s .rows) + below (λ k. countAt k (slice first end (rowsIn file s))) stop = omega arith in z))
+        let start : startOf w₄ stop ≡ s .rows + 1 + below (sizeOf w₃) stop = parted .starts stop h in
+        beside (stops + stop) (omega arith)
+        ∙ (let z : startOf w₄ stop ≡ suc (s .rows) + below (λ k. countAt k (slice first end (rowsIn file s))) stop = omega arith in z))
         (λ stop h. beside (sizes + stop) (omega arith) ∙ parted .empty stop h)

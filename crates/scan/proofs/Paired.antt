@@ -1,11 +1,11 @@
 -- Cells after a pair was stored, and a stack that has a new top. Assumes nothing.
 use Prim.Native.Nat.{ℕ, zero, suc, _+_, _*_, _≤_, _<_}
-use mathlib.Core.List.{List, [], _∷_}
-use mathlib.Core.Path.{_≡_, refl, sym, ap, ap₂, subst, _∙_}
+use mathlib.Core.List.{List, _∷_}
+use mathlib.Core.Path.{_≡_, refl, ap, ap₂, _∙_}
 use native.Mathlib.Omega.{arith}
 use lib.ListN.{length, getD, set, drop, length-set}
 use lib.Seq.{getD-set-same, getD-set-other, drop-set-lt}
-use Rattle.cells.specs.Cells.{pairs, Entry, entryAt, stackAt}
+use Rattle.cells.specs.Cells.{Entry, entryAt, stackAt}
 use Rattle.scan.specs.Stores.{pairCell, paired}
 
 pub length-paired : (w : List ℕ) (p a b : ℕ) → length (paired w p a b) ≡ length w

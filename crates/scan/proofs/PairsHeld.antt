@@ -1,11 +1,11 @@
 -- Worths, leaving rows and next rows: what weighing one more row leaves of them. Assumes nothing.
-use Prim.Native.Nat.{ℕ, zero, suc, _+_, _-_, _*_, _≤_, _<_}
-use mathlib.Core.Bool.{Bool, true, false, cond}
-use mathlib.Core.List.{List, [], _∷_}
+use Prim.Native.Nat.{ℕ, suc, _+_, _-_, _≤_, _<_}
+use mathlib.Core.Bool.{cond}
+use mathlib.Core.List.{List, _∷_}
 use mathlib.Core.Option.{Option, none, some}
 use mathlib.Core.Path.{_≡_, refl, sym, ap, subst, _∙_}
 use native.Mathlib.Omega.{arith}
-use lib.Dec.{eqb, ltb}
+use lib.Dec.{eqb}
 use lib.ListN.{length, getD, set, length-set}
 use lib.Seq.{getD-set-same, getD-set-other}
 use borrow.Author.Tests.{eqb-true, eqb-false, eq-eqb, ne-eqb, lt-ltb, le-ltb}
@@ -13,12 +13,12 @@ use Rattle.laws.proofs.Tests.{ifb, cond-true, cond-false}
 use Rattle.timetable.specs.declared.Row.{Row}
 use Rattle.plans.specs.Rides.{Ride}
 use Rattle.plans.specs.Worth.{Valued}
-use Rattle.plans.specs.Chosen.{Weighed, Scan, least, getOff, stayOn, nextOf, boardedAt}
-use Rattle.cells.specs.Cells.{trips, stops, pairs, used, missing, cellOf}
-use Rattle.scan.specs.Stores.{pairCell, paired, entered, nextPair, worthAt, Weighs, gets-off, stays-on}
+use Rattle.plans.specs.Chosen.{Scan, least, getOff, stayOn, nextOf, boardedAt}
+use Rattle.cells.specs.Cells.{pairs, trips, stops, used, missing, cellOf}
+use Rattle.scan.specs.Stores.{pairCell, paired, entered, nextPair, Weighs, gets-off, stays-on}
 use Rattle.scan.specs.Scanned.{bestIn, PairHolds}
 use Rattle.scan.specs.Held.{NextHolds, PairsHeld}
-use Rattle.scan.proofs.Paired.{paired-front, paired-behind, paired-other, length-paired}
+use Rattle.scan.proofs.Paired.{paired-front, paired-behind, paired-other}
 
 -- two cells hold a best ride
 abbrev pub Holds : (worth leave : ℕ) → Option Valued → Type 0
@@ -95,15 +95,15 @@ module _ (w : List ℕ) (n i end : ℕ) (row : Row) (trip : row .trip < 2000) (b
     here-or-later j low high =
         ifb (λ t. eqb i j ≡ t → PairHolds (paired (entered w (row .trip) i) i a b) j (bestIn (inFront row best later chosen) i j)) (eqb i j)
         (λ e _. let same : i ≡ j = eqb-true i j e in
-            let first : 0 ≡ j - i = omega arith in
-            subst (λ k. PairHolds (paired (entered w (row .trip) i) i a b) j
-                (getD (inFront row best later chosen .weighed) k (record { trip = 0; best = none }) .best)) first
-            (subst (λ k. PairHolds (paired (entered w (row .trip) i) i a b) k best) same (own-pair a b best own)))
+        let first : 0 ≡ j - i = omega arith in
+        subst (λ k. PairHolds (paired (entered w (row .trip) i) i a b) j
+        (getD (inFront row best later chosen .weighed) k (record { trip = 0; best = none }) .best)) first
+        (subst (λ k. PairHolds (paired (entered w (row .trip) i) i a b) k best) same (own-pair a b best own)))
         (λ e _. let apart : i ≡ j → ⊥ = eqb-false i j e in
-            let place : suc (j - suc i) ≡ j - i = omega arith in
-            subst (λ k. PairHolds (paired (entered w (row .trip) i) i a b) j
-                (getD (inFront row best later chosen .weighed) k (record { trip = 0; best = none }) .best)) place
-            (later-pair a b j (bestIn later (suc i) j) (omega arith) (held .weighed j (omega arith) high))) refl
+        let place : suc (j - suc i) ≡ j - i = omega arith in
+        subst (λ k. PairHolds (paired (entered w (row .trip) i) i a b) j
+        (getD (inFront row best later chosen .weighed) k (record { trip = 0; best = none }) .best)) place
+        (later-pair a b j (bestIn later (suc i) j) (omega arith) (held .weighed j (omega arith) high))) refl
 
     next-here : NextHolds (paired (entered w (row .trip) i) i a b) n i (row .trip) (nextOf (inFront row best later chosen .weighed) (row .trip))
     unfolding nextOf
@@ -113,7 +113,7 @@ module _ (w : List ℕ) (n i end : ℕ) (row : Row) (trip : row .trip < 2000) (b
           inside = (let e = entered-cell a b in omega arith);
           holds = subst (λ k. PairHolds (paired (entered w (row .trip) i) i a b) k (nextOf (inFront row best later chosen .weighed) (row .trip))) (sym (entered-cell a b))
               (subst (λ (o : Option Valued). PairHolds (paired (entered w (row .trip) i) i a b) i o)
-                  (sym (cond-true best (nextOf (later .weighed) (row .trip)) (eq-eqb (row .trip) (row .trip) refl))) (own-pair a b best own));
+              (sym (cond-true best (nextOf (later .weighed) (row .trip)) (eq-eqb (row .trip) (row .trip) refl))) (own-pair a b best own));
         }
 
     next-elsewhere :
@@ -122,7 +122,7 @@ module _ (w : List ℕ) (n i end : ℕ) (row : Row) (trip : row .trip < 2000) (b
     unfolding nextOf
     next-elsewhere t small apart =
         let kept : getD (paired (entered w (row .trip) i) i a b) (trips + t) 0 ≡ getD w (trips + t) 0 =
-            other-cell a b (trips + t) (λ e. apart (omega arith)) (λ e. omega arith) (λ e. omega arith) in
+        other-cell a b (trips + t) (λ e. apart (omega arith)) (λ e. omega arith) (λ e. omega arith) in
         let old = held .next t small in
         let low = old .later in
         let high = old .inside in
@@ -131,8 +131,8 @@ module _ (w : List ℕ) (n i end : ℕ) (row : Row) (trip : row .trip < 2000) (b
           inside = omega arith;
           holds = subst (λ k. PairHolds (paired (entered w (row .trip) i) i a b) k (nextOf (inFront row best later chosen .weighed) t)) (sym kept)
               (subst (λ (o : Option Valued). PairHolds (paired (entered w (row .trip) i) i a b) (getD w (trips + t) 0) o)
-                  (sym (cond-false best (nextOf (later .weighed) t) (ne-eqb (row .trip) t apart)))
-                  (later-pair a b (getD w (trips + t) 0) (nextOf (later .weighed) t) low (old .holds)));
+              (sym (cond-false best (nextOf (later .weighed) t) (ne-eqb (row .trip) t apart)))
+              (later-pair a b (getD w (trips + t) 0) (nextOf (later .weighed) t) low (old .holds)));
         }
 
     stored : PairsHeld (paired (entered w (row .trip) i) i a b) n i end (inFront row best later chosen)
@@ -144,7 +144,7 @@ module _ (w : List ℕ) (n i end : ℕ) (row : Row) (trip : row .trip < 2000) (b
               ifb (λ b'. eqb (row .trip) t ≡ b' → NextHolds (paired (entered w (row .trip) i) i a b) n i t (nextOf (inFront row best later chosen .weighed) t))
               (eqb (row .trip) t)
               (λ e _. subst (λ k. NextHolds (paired (entered w (row .trip) i) i a b) n i k (nextOf (inFront row best later chosen .weighed) k))
-                  (eqb-true (row .trip) t e) next-here)
+              (eqb-true (row .trip) t e) next-here)
               (λ e _. next-elsewhere t small (eqb-false (row .trip) t e)) refl;
         }
 
@@ -165,8 +165,8 @@ module _ (w : List ℕ) (n i end : ℕ) (row : Row) (trip : row .trip < 2000) (b
       let best = least (getOff r o) (stayOn i row (nextOf (later .weighed) (row .trip))) in
       subst (λ (l : List ℕ). PairsHeld l n i end (inFront row best later chosen)) (sym e)
       (stored later held best chosen (cellOf o) i
-          (least-off i row r at-row o (nextOf (later .weighed) (row .trip)) (getD w (nextPair w (row .trip)) 0) (getD w (nextPair w (row .trip) + 1) 0) fits
-              (pair-holds w (getD w (trips + row .trip) 0) (nextOf (later .weighed) (row .trip)) (next .holds)) less))
+      (least-off i row r at-row o (nextOf (later .weighed) (row .trip)) (getD w (nextPair w (row .trip)) 0) (getD w (nextPair w (row .trip) + 1) 0) fits
+      (pair-holds w (getD w (trips + row .trip) 0) (nextOf (later .weighed) (row .trip)) (next .holds)) less))
   pairs-weighed w' r o later chosen at-row fits held (stays-on less e) =
       let next = held .next (row .trip) trip in
       let best = least (getOff r o) (stayOn i row (nextOf (later .weighed) (row .trip))) in
@@ -174,8 +174,8 @@ module _ (w : List ℕ) (n i end : ℕ) (row : Row) (trip : row .trip < 2000) (b
       subst (λ (l : List ℕ). PairsHeld l n i end (inFront row best later chosen))
       (sym (e ∙ ap (λ leave. paired (entered w (row .trip) i) i on leave) (leave-read on (next .later))))
       (stored later held best chosen on (getD w (nextPair w (row .trip) + 1) 0)
-          (least-on i row r at-row o (nextOf (later .weighed) (row .trip)) on (getD w (nextPair w (row .trip) + 1) 0) fits
-              (pair-holds w (getD w (trips + row .trip) 0) (nextOf (later .weighed) (row .trip)) (next .holds)) less))
+      (least-on i row r at-row o (nextOf (later .weighed) (row .trip)) on (getD w (nextPair w (row .trip) + 1) 0) fits
+      (pair-holds w (getD w (trips + row .trip) 0) (nextOf (later .weighed) (row .trip)) (next .holds)) less))
 
   pub weighs-other :
       (w' : List ℕ) (off k : ℕ) → Weighs row i off w w' → stops ≤ k → (k ≡ pairCell i → ⊥) → (k ≡ pairCell i + 1 → ⊥) → getD w' k 0 ≡ getD w k 0
@@ -184,3 +184,25 @@ module _ (w : List ℕ) (n i end : ℕ) (row : Row) (trip : row .trip < 2000) (b
       ap (λ (l : List ℕ). getD l k 0) e
       ∙ other-cell (getD w (nextPair w (row .trip)) 0)
       (getD (set (entered w (row .trip) i) (pairCell i) (getD w (nextPair w (row .trip)) 0)) (nextPair w (row .trip) + 1) 0) k (λ z. omega arith) p q
+
+-- pairs up to pair n and the trips' cells are as they were
+pub pairs-kept :
+    (w w' : List ℕ) (n i end : ℕ) (sc : Scan) → end ≤ n → PairsHeld w n i end sc → ((k : ℕ) → k < stops → getD w' k 0 ≡ getD w k 0)
+    → ((k : ℕ) → pairs ≤ k → k < pairCell (suc n) → getD w' k 0 ≡ getD w k 0) → PairsHeld w' n i end sc
+pairs-kept w w' n i end sc inside held ahead behind =
+    record {
+      weighed = λ j low high. at j (bestIn sc i j) (omega arith) (held .weighed j low high);
+      last = behind (pairCell n) (omega arith) (omega arith) ∙ held .last;
+      next = λ trip small.
+          let old = held .next trip small in
+          let kept : getD w' (trips + trip) 0 ≡ getD w (trips + trip) 0 = ahead (trips + trip) (omega arith) in
+          record {
+            later = (let low = old .later in omega arith);
+            inside = (let high = old .inside in omega arith);
+            holds = subst (λ k. PairHolds w' k (nextOf (sc .weighed) trip)) (sym kept)
+                (at (getD w (trips + trip) 0) (nextOf (sc .weighed) trip) (old .inside) (old .holds));
+          };
+    }
+  where
+    at : (j : ℕ) (best : Option Valued) → j ≤ n → PairHolds w j best → PairHolds w' j best
+    at j best h = pair-same w w' j best (behind (pairCell j) (omega arith) (omega arith)) (behind (pairCell j + 1) (omega arith) (omega arith))

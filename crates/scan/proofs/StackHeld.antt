@@ -1,14 +1,14 @@
 -- A stop's stack in the lent cells: what leaves it as it is, and what choosing one more row makes of it. Assumes nothing.
-use Prim.Native.Nat.{ℕ, zero, suc, _+_, _-_, _*_, _/_, _≤_, _<_}
-use mathlib.Core.List.{List, [], _∷_, map, List·Memᴰ}
-use mathlib.Core.Path.{_≡_, refl, sym, ap, ap₂, subst, _∙_}
+use Prim.Native.Nat.{ℕ, suc, _+_, _*_, _≤_, _<_}
+use mathlib.Core.List.{List, [], _∷_, map}
+use mathlib.Core.Path.{_≡_, refl, ap, ap₂, _∙_}
 use native.Mathlib.Omega.{arith}
-use lib.ListN.{length, getD, set}
+use lib.ListN.{getD}
 use Rattle.plans.specs.Worth.{Valued}
 use Rattle.cells.specs.Cells.{Entry, pairs, entryAt, stackAt, stackStart, stackSize, stackOf}
-use Rattle.landing.specs.Landing.{atStop, entryOf, StackHolds}
-use Rattle.scan.specs.Stores.{startOf, sizeOf, pairCell}
-use Rattle.scan.proofs.Paired.{entry, stack-same}
+use Rattle.landing.specs.Landing.{entryOf}
+use Rattle.scan.specs.Stores.{startOf, sizeOf}
+use Rattle.scan.proofs.Paired.{stack-same}
 
 -- the cells of the stack are as they were
 pub stack-kept :

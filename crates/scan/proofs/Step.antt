@@ -1,70 +1,33 @@
 -- One turn of the scan: a row is weighed, then chosen or not, and the cells hold what the scan says from that row on.
-use Prim.Native.Nat.{ℕ, zero, suc, pred, _+_, _-_, _*_, _≤_, _<_}
-use mathlib.Core.List.{List, [], _∷_, map, List·Memᴰ}
+use Prim.Native.Nat.{ℕ, suc, _+_, _-_, _*_, _≤_, _<_}
+use mathlib.Core.List.{List, _∷_, map}
 use mathlib.Core.Logic.{_≢_, _⊎_, inl, inr}
 use mathlib.Core.Option.{Option, none, some}
-use mathlib.Core.Path.{_≡_, refl, sym, ap, ap₂, subst, _∙_}
+use mathlib.Core.Path.{_≡_, refl, sym, ap, subst, _∙_}
 use native.Mathlib.Nat.{suc-pred-eq-of-pos}
 use native.Mathlib.Omega.{arith}
-use lib.ListN.{length, getD, set, take, drop, length-set}
-use lib.Seq.{slice, slice-cons, length-slice, drop-drop, drop-set-lt}
-use Rattle.timetable.specs.Timetable.{rowOf, noRow, sharesOf, longest}
+use lib.ListN.{length, getD, drop}
+use lib.Seq.{slice, slice-cons, length-slice}
+use Rattle.timetable.specs.Timetable.{rowOf, noRow, sharesOf}
 use Rattle.timetable.specs.declared.Row.{Row}
 use Rattle.plans.specs.Worth.{Valued, arrivalWorth, changeWorth}
-use Rattle.plans.specs.Chosen.{Weighed, Scan, choose, nextOf, least, getOff, stayOn, offInTicks}
-use Rattle.cells.specs.Cells.{trips, stops, sizes, pairs, used, missing, cellOf, keyOf, stackStart, stackSize}
+use Rattle.plans.specs.Chosen.{Scan, choose, offInTicks}
+use Rattle.cells.specs.Cells.{stops, sizes, used, cellOf, stackStart, stackSize}
 use Rattle.reading.specs.declared.Sailings.{Sailings}
-use Rattle.reading.specs.Reading.{rowsIn, tablesIn, Stand, TablesHeld, RowFits, SharesFit}
+use Rattle.reading.specs.Reading.{rowsIn, tablesIn, Stand, TablesHeld, RowFits}
 use Rattle.landing.specs.declared.Goal.{Goal}
-use Rattle.landing.specs.Landing.{entryOf, atStop, Ready, SomeReady, rideOff}
-use Rattle.scan.specs.Stores.{pairCell, paired, entered, nextPair, startOf, sizeOf, worthAt, Weighs, gets-off, stays-on, Chose, Weighable, Pushable}
+use Rattle.landing.specs.Landing.{entryOf, atStop, Ready, rideOff}
+use Rattle.scan.specs.Stores.{pairCell, startOf, sizeOf, Weighs, Chose, Weighable, Pushable}
 use Rattle.scan.specs.Regions.{countAt, below}
 use Rattle.scan.specs.Scanned.{scanIn, bestIn, PairHolds}
-use Rattle.scan.specs.Held.{NextHolds, PairsHeld, StackHeld, Held, Inside}
-use Rattle.scan.proofs.Paired.{length-paired, drop-paired}
-use Rattle.scan.proofs.Regions.{count-few, count-here, count-more, below-count, below-later}
+use Rattle.scan.specs.Held.{PairsHeld, StackHeld, Held, Inside}
+use Rattle.scan.proofs.Regions.{count-slice, count-few, count-here, count-more, below-count, below-later}
 use Rattle.scan.proofs.ByStop.{choose-target}
-use Rattle.scan.proofs.PairsHeld.{inFront, pair-same, pairs-weighed, weighs-other}
+use Rattle.scan.proofs.PairsHeld.{inFront, pairs-kept, pairs-weighed, weighs-other}
 use Rattle.scan.proofs.StackHeld.{stack-kept}
 use Rattle.scan.proofs.Stored.{stored, stored-other, length-stored, drop-stored}
-use Rattle.scan.proofs.Choosing.{Choosable, stored-inside, stacks-chosen, chose-or-stored}
+use Rattle.scan.proofs.Choosing.{Choosable, stacks-chosen, chose-or-stored}
 use Rattle.scan.proofs.TimetableTo.{bestRow, ownRide, offFor, scan-step, best-step, BoardsRow, best-boards-row, scan-ordered, climbing, chosen-fits, rising-behind, off-fits}
-
--- rows that come later are counted no oftener
-count-drop : (stop k : ℕ) (rows : List Row) → countAt stop (drop k rows) ≤ countAt stop rows
-count-drop stop zero rows = let z : countAt stop rows ≤ countAt stop rows = omega arith in z
-count-drop stop (suc k) [] = let z : countAt stop [] ≤ countAt stop [] = omega arith in z
-count-drop stop (suc k) (r ∷ rows) =
-    let fewer : countAt stop (drop k rows) ≤ countAt stop rows = count-drop stop k rows in
-    let more = count-more stop r rows in omega arith
-
-count-slice : (stop first i end : ℕ) (rows : List Row) → first ≤ i → countAt stop (slice i end rows) ≤ countAt stop (slice first end rows)
-count-slice stop first i end rows h =
-    let place : first + (i - first) ≡ i = omega arith in
-    subst (λ (l : List Row). countAt stop l ≤ countAt stop (slice first end rows))
-    (drop-drop (i - first) first (take end rows) ∙ ap (λ k. drop k (take end rows)) place) (count-drop stop (i - first) (slice first end rows))
-
--- pairs up to pair n and the trips' cells are as they were
-pub pairs-kept :
-    (w w' : List ℕ) (n i end : ℕ) (sc : Scan) → end ≤ n → PairsHeld w n i end sc → ((k : ℕ) → k < stops → getD w' k 0 ≡ getD w k 0)
-    → ((k : ℕ) → pairs ≤ k → k < pairCell (suc n) → getD w' k 0 ≡ getD w k 0) → PairsHeld w' n i end sc
-pairs-kept w w' n i end sc inside held ahead behind =
-    record {
-      weighed = λ j low high. at j (bestIn sc i j) (omega arith) (held .weighed j low high);
-      last = behind (pairCell n) (omega arith) (omega arith) ∙ held .last;
-      next = λ trip small.
-          let old = held .next trip small in
-          let kept : getD w' (trips + trip) 0 ≡ getD w (trips + trip) 0 = ahead (trips + trip) (omega arith) in
-          record {
-            later = (let low = old .later in omega arith);
-            inside = (let high = old .inside in omega arith);
-            holds = subst (λ k. PairHolds w' k (nextOf (sc .weighed) trip)) (sym kept)
-                (at (getD w (trips + trip) 0) (nextOf (sc .weighed) trip) (old .inside) (old .holds));
-          };
-    }
-  where
-    at : (j : ℕ) (best : Option Valued) → j ≤ n → PairHolds w j best → PairHolds w' j best
-    at j best h = pair-same w w' j best (behind (pairCell j) (omega arith) (omega arith)) (behind (pairCell j + 1) (omega arith) (omega arith))
 
 -- a part of a scan with one row in front
 module _ (file : List ℕ) (s : Sailings) (goal : Goal) (first end : ℕ) (stand : Stand file s) (inside : end ≤ s .rows) where
@@ -147,11 +110,11 @@ module _ (file : List ℕ) (s : Sailings) (goal : Goal) (first end : ℕ) (stand
       pairs-after =
           subst (λ (sc : Scan). PairsHeld w' (s .rows) i end sc) (sym (scan-step file s goal end stand inside i high))
           (subst (λ (o : Option Valued). PairsHeld w' (s .rows) i end (inFront (rowAt i) o (after (suc i)) (choose (goal .target) (bestRow file s goal end i) (after (suc i) .chosen))))
-              (sym (best-step file s goal end stand inside i high))
-              (pairs-weighed w (s .rows) i end (rowAt i) (fits .trip) high inside room w' (ownRide file s i)
-                  (offFor goal (ownRide file s i) (after (suc i) .chosen)) (after (suc i))
-                  (choose (goal .target) (bestRow file s goal end i) (after (suc i) .chosen)) refl
-                  (λ x e. off-fits file s goal end stand inside i high x e) (held .pairs-held) weighs))
+          (sym (best-step file s goal end stand inside i high))
+          (pairs-weighed w (s .rows) i end (rowAt i) (fits .trip) high inside room w' (ownRide file s i)
+          (offFor goal (ownRide file s i) (after (suc i) .chosen)) (after (suc i))
+          (choose (goal .target) (bestRow file s goal end i) (after (suc i) .chosen)) refl
+          (λ x e. off-fits file s goal end stand inside i high x e) (held .pairs-held) weighs))
 
       same-behind : (k : ℕ) → stops ≤ k → (k ≡ pairCell i → ⊥) → (k ≡ pairCell i + 1 → ⊥) → getD w' k 0 ≡ getD w k 0
       same-behind k =
@@ -181,8 +144,8 @@ module _ (file : List ℕ) (s : Sailings) (goal : Goal) (first end : ℕ) (stand
         → Held file s goal first end i w
     held-unchosen there pairs-held stacks =
         let same : after i .chosen ≡ after (suc i) .chosen =
-            ap (λ (sc : Scan). sc .chosen) (scan-step file s goal end stand inside i high)
-            ∙ choose-target (goal .target) (bestRow file s goal end i) (after (suc i) .chosen) (λ v e. best-there v e .stop ∙ there) in
+        ap (λ (sc : Scan). sc .chosen) (scan-step file s goal end stand inside i high)
+        ∙ choose-target (goal .target) (bestRow file s goal end i) (after (suc i) .chosen) (λ v e. best-there v e .stop ∙ there) in
         record {
           pairs-held = pairs-held;
           stacks-held = λ stop h.
@@ -259,20 +222,20 @@ module _ (file : List ℕ) (s : Sailings) (goal : Goal) (first end : ℕ) (stand
             let small = fits .board in
             subst (λ (l : List ℕ). PairsHeld l (s .rows) i end (after i)) (sym (f .2))
             (pairs-kept w (stored (rowAt i) i (f .0) w) (s .rows) i end (after i) inside held
-                (λ k h. stored-other (rowAt i) i (f .0) w small k (λ e. omega arith) (λ e. omega arith) (λ e. omega arith))
-                (λ k a b. stored-other (rowAt i) i (f .0) w small k (λ e. omega arith) (λ e. omega arith) (λ e. omega arith)))
+            (λ k h. stored-other (rowAt i) i (f .0) w small k (λ e. omega arith) (λ e. omega arith) (λ e. omega arith))
+            (λ k a b. stored-other (rowAt i) i (f .0) w small k (λ e. omega arith) (λ e. omega arith) (λ e. omega arith)))
 
         pub held-chosen : PairsHeld w (s .rows) i end (after i) → Held file s goal first end i w'
         held-chosen pairs-held =
             let now : after i .chosen ≡ choose (goal .target) (bestRow file s goal end i) (after (suc i) .chosen) =
-                ap (λ (sc : Scan). sc .chosen) (scan-step file s goal end stand inside i high) in
+            ap (λ (sc : Scan). sc .chosen) (scan-step file s goal end stand inside i high) in
             record {
               pairs-held = pairs-stay pairs-held or-stored;
               stacks-held = λ stop h.
                   subst (λ (l : List Row). StackHeld w' (suc (s .rows)) (slice first end rows) l (after i .chosen) stop) (sym (front i high))
                   (subst (λ (l : List Valued). StackHeld w' (suc (s .rows)) (slice first end rows) (rowAt i ∷ slice (suc i) end rows) l stop) (sym now)
-                      (stacks-chosen (rowAt i) i (goal .target) (bestRow file s goal end i) (after (suc i) .chosen) choosable w (suc (s .rows))
-                          (slice first end rows) (slice (suc i) end rows) stacks suffix regions-room (own-best pairs-held) w' chose stop h));
+                  (stacks-chosen (rowAt i) i (goal .target) (bestRow file s goal end i) (after (suc i) .chosen) choosable w (suc (s .rows))
+                  (slice first end rows) (slice (suc i) end rows) stacks suffix regions-room (own-best pairs-held) w' chose stop h));
             }
 
         stays-inside : (w' ≡ w) ⊎ ((k : ℕ) × (k ≤ sizeOf w (rowAt i .board)) × (w' ≡ stored (rowAt i) i k w)) → Inside (s .rows) w w'
@@ -286,25 +249,3 @@ module _ (file : List ℕ) (s : Sailings) (goal : Goal) (first end : ℕ) (stand
 
         pub inside-chosen : Inside (s .rows) w w'
         inside-chosen = stays-inside or-stored
-
-pub inside-same : (n : ℕ) (w : List ℕ) → Inside n w w
-inside-same n w = record { same-length = refl; rest-kept = refl }
-
-pub inside-then : (n : ℕ) {w w' w'' : List ℕ} → Inside n w w' → Inside n w' w'' → Inside n w w''
-inside-then n a b = record { same-length = b .same-length ∙ a .same-length; rest-kept = b .rest-kept ∙ a .rest-kept }
-
-entered-inside :
-    (n i trip a b : ℕ) (w : List ℕ) → trip < 2000 → i < n → Inside n w (paired (entered w trip i) i a b)
-entered-inside n i trip a b w small h =
-    record {
-      same-length = length-paired (entered w trip i) i a b ∙ length-set w (trips + trip) i;
-      rest-kept = drop-paired (used n) (entered w trip i) i a b (omega arith) ∙ drop-set-lt (used n) w (trips + trip) i (omega arith);
-    }
-
-pub inside-weighed : (n : ℕ) (row : Row) (i off : ℕ) (w w' : List ℕ) → row .trip < 2000 → i < n → Weighs row i off w w' → Inside n w w'
-inside-weighed n row i off w w' small h (gets-off less e) =
-    subst (λ (l : List ℕ). Inside n w l) (sym e) (entered-inside n i (row .trip) off i w small h)
-inside-weighed n row i off w w' small h (stays-on less e) =
-    subst (λ (l : List ℕ). Inside n w l) (sym e)
-    (entered-inside n i (row .trip) (getD w (nextPair w (row .trip)) 0)
-        (getD (set (entered w (row .trip) i) (pairCell i) (getD w (nextPair w (row .trip)) 0)) (nextPair w (row .trip) + 1) 0) w small h)

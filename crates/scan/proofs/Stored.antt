@@ -1,13 +1,13 @@
 -- The cells after a row's entry was stored on its stop's stack. Assumes nothing.
-use Prim.Native.Nat.{ℕ, suc, _+_, _*_, _≤_, _<_}
+use Prim.Native.Nat.{ℕ, suc, _+_, _*_, _<_}
 use mathlib.Core.List.{List, _∷_}
-use mathlib.Core.Path.{_≡_, refl, sym, ap, ap₂, subst, _∙_}
+use mathlib.Core.Path.{_≡_, sym, ap, ap₂, _∙_}
 use native.Mathlib.Omega.{arith}
-use lib.ListN.{length, getD, set, drop, length-set}
+use lib.ListN.{length, getD, drop, length-set}
 use lib.Seq.{getD-set-same, getD-set-other, drop-set-lt, set-getD}
 use Rattle.timetable.specs.declared.Row.{Row}
-use Rattle.cells.specs.Cells.{Entry, stops, sizes, pairs, keyOf, stackAt, stackStart, stackOf}
-use Rattle.scan.specs.Stores.{pairCell, paired, pushed, sized, startOf, sizeOf, worthAt}
+use Rattle.cells.specs.Cells.{stops, sizes, pairs, keyOf, stackAt, stackStart, stackOf}
+use Rattle.scan.specs.Stores.{pairCell, pushed, sized, startOf, sizeOf, worthAt}
 use Rattle.scan.proofs.Paired.{length-paired, paired-other, drop-paired, entry, stack-same, stack-pushed}
 
 -- k pairs behind the start, as the top of k + 1 entries

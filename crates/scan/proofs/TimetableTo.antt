@@ -1,29 +1,30 @@
 -- The scan of a file's rows before row `end`, as a scan of a timetable of its own: row by row, its rides' numbers fit, and they rise.
-use Prim.Native.Nat.{ℕ, suc, pred, _+_, _*_, _≤_, _<_}
-use mathlib.Core.List.{List, [], _∷_, List·Memᴰ}
-use mathlib.Core.Option.{Option, none, some}
+use Prim.Native.Nat.{ℕ, suc, _*_, _≤_, _<_}
+use mathlib.Core.List.{List, _∷_, List·Memᴰ}
+use mathlib.Core.Option.{Option, some}
 use mathlib.Core.Path.{_≡_, refl, sym, ap, subst, _∙_}
 use native.Mathlib.Omega.{arith}
-use lib.ListN.{length, getD, take}
-use lib.Seq.{slice, length-take-le, getD-take}
-use Rattle.timetable.specs.Timetable.{Timetable, sharesOf, longest, rowOf, noRow}
+use lib.ListN.{length, take}
+use lib.Seq.{length-take-le, getD-take}
+use Rattle.timetable.specs.Timetable.{Timetable, sharesOf, rowOf, noRow}
 use Rattle.timetable.specs.Classes.{whole, sum}
 use Rattle.timetable.specs.declared.Row.{Row}
 use Rattle.plans.specs.Rides.{Ride, latest}
 use Rattle.plans.specs.Sound.{Timely}
 use Rattle.plans.specs.Worth.{Valued}
-use Rattle.plans.specs.Chosen.{Weighed, Scan, GettingOff, offInTicks, rowRide, boardedAt, choose, nextOf, least, getOff, stayOn}
+use Rattle.plans.specs.Chosen.{GettingOff, offInTicks, rowRide, choose, nextOf, least, getOff, stayOn}
 use Rattle.plans.proofs.FromRow.{scanFrom, chosenFrom, bestAt, nextFrom, offAt, scan-row, best-row}
-use Rattle.plans.proofs.BestRides.{Boards, best-boards, Picked, chosen-picked, each-best}
+use Rattle.plans.proofs.BestRides.{best-boards, chosen-picked, each-best}
 use Rattle.plans.proofs.Order.{Ordered}
 use Rattle.plans.proofs.FirstLeast.{chosen-rising, chosen-ordered}
 use Rattle.reading.specs.declared.Sailings.{Sailings}
-use Rattle.reading.specs.Reading.{rowsIn, tablesIn, Stand, RowFits, SharesFit}
+use Rattle.reading.specs.Reading.{rowsIn, tablesIn, Stand, RowFits}
 use Rattle.landing.specs.declared.Goal.{Goal}
 use Rattle.landing.specs.Landing.{atStop, Climbing, EntryFits}
 use Rattle.cells.specs.Cells.{missing}
 use Rattle.scan.specs.Scanned.{scanIn}
-use Rattle.scan.proofs.ByStop.{at-member}
+use Rattle.landing.proofs.AtStop.{at-stop-member}
+use Rattle.scan.proofs.ByStop.{at-from}
 use Rattle.scan.proofs.Rising.{at-ordered, departures-rise}
 use Rattle.scan.proofs.Worths.{off-most}
 
@@ -63,14 +64,10 @@ module _ (file : List ℕ) (s : Sailings) (goal : Goal) (end : ℕ) (stand : Sta
         rising = λ i j a b.
             subst (λ (r : Row). r .departure ≤ rowOf (take end (rowsIn file s)) j .departure) (sym (to-row i (omega (arith, to-length))))
             (subst (λ (r : Row). rowOf (rowsIn file s) i .departure ≤ r .departure) (sym (to-row j (to-inside j b)))
-                (stand .departures i j a (omega (arith, to-length))));
+            (stand .departures i j a (omega (arith, to-length))));
         forward = λ i h. to-fits i (to-inside i h) .onward;
         shared = λ i h. to-shares i (to-inside i h);
       }
-
-  pub scan-to : (i : ℕ) → scanIn file s goal i end ≡ scanFrom (offFor goal) (goal .target) (timetableTo file s end) i
-  unfolding scanFrom
-  scan-to i = refl
 
   chosen-to : (i : ℕ) → scanIn file s goal i end .chosen ≡ chosenFrom (offFor goal) (goal .target) (timetableTo file s end) i
   unfolding scanFrom chosenFrom
@@ -99,7 +96,7 @@ module _ (file : List ℕ) (s : Sailings) (goal : Goal) (end : ℕ) (stand : Sta
   best-step i h =
       best-row (offFor goal) (goal .target) (timetableTo file s end) i
       ∙ ap (λ (r : Row). least (getOff (rowRide (tablesIn file s) i r) (offFor goal (rowRide (tablesIn file s) i r) (scanIn file s goal (suc i) end .chosen)))
-          (stayOn i r (nextOf (scanIn file s goal (suc i) end .weighed) (r .trip)))) (to-row i h)
+      (stayOn i r (nextOf (scanIn file s goal (suc i) end .weighed) (r .trip)))) (to-row i h)
 
   -- it boards at row i
   pub record BoardsRow (i : ℕ) (v : Valued) : Type 0 where
@@ -125,8 +122,8 @@ module _ (file : List ℕ) (s : Sailings) (goal : Goal) (end : ℕ) (stand : Sta
   best-most i h v e =
       each-best (offFor goal) (goal .target) (timetableTo file s end) (λ u. u .worth ≤ 256 * 65535)
       (λ j inside' each w q.
-          off-most (goal .target) (goal .bound) (rowRide (tablesIn file s) j (rowOf (take end (rowsIn file s)) j))
-          (chosenFrom (offFor goal) (goal .target) (timetableTo file s end) (suc j)) 65535 (to-shares j (to-inside j inside')) (lands-by j (to-inside j inside')) each w q)
+      off-most (goal .target) (goal .bound) (rowRide (tablesIn file s) j (rowOf (take end (rowsIn file s)) j))
+      (chosenFrom (offFor goal) (goal .target) (timetableTo file s end) (suc j)) 65535 (to-shares j (to-inside j inside')) (lands-by j (to-inside j inside')) each w q)
       (λ j k a b t u q p. p) i (omega (arith, to-length)) v e
 
   pub chosen-fits : (i : ℕ) → i ≤ end → (v : Valued) → List·Memᴰ v (scanIn file s goal i end .chosen) → EntryFits v
@@ -149,9 +146,9 @@ module _ (file : List ℕ) (s : Sailings) (goal : Goal) (end : ℕ) (stand : Sta
   pub climbing : (i : ℕ) → i ≤ end → (stop : ℕ) → Climbing stop (scanIn file s goal i end .chosen)
   climbing i h stop =
       record {
-        fits = λ v m. chosen-fits i h v (at-member stop (scanIn file s goal i end .chosen) m .0);
+        fits = λ v m. chosen-fits i h v (at-stop-member stop (scanIn file s goal i end .chosen) v m);
         climbs = departures-rise stop (atStop stop (scanIn file s goal i end .chosen)) (at-ordered stop (scan-ordered i h))
-            (λ x m. at-member stop (scanIn file s goal i end .chosen) m .1);
+            (λ x m. at-from stop (scanIn file s goal i end .chosen) m);
       }
 
   -- row i departs no later than the rides chosen behind it
@@ -160,7 +157,7 @@ module _ (file : List ℕ) (s : Sailings) (goal : Goal) (end : ℕ) (stand : Sta
   rising-behind i h v m =
       subst (λ (r : Row). r .departure ≤ v .ride .departs) (to-row i h)
       (chosen-rising (offFor goal) (goal .target) (timetableTo file s end) to-timely i (suc i) (omega arith) (omega (arith, to-length)) v
-          (subst (λ (l : List Valued). List·Memᴰ v l) (chosen-to (suc i)) m))
+      (subst (λ (l : List Valued). List·Memᴰ v l) (chosen-to (suc i)) m))
 
   -- getting off row i is worth less than a cell that is missing
   pub off-fits :
@@ -169,9 +166,9 @@ module _ (file : List ℕ) (s : Sailings) (goal : Goal) (end : ℕ) (stand : Sta
       let fits = stand .row-fits i (omega arith) in
       let lands = fits .lands in
       let most : w ≤ 256 * 65535 =
-          off-most (goal .target) (goal .bound) (ownRide file s i) (scanIn file s goal (suc i) end .chosen) 65535
-          (stand .shares-fit (rowOf (rowsIn file s) i .class) (fits .class) .shares-whole) (omega arith)
-          (λ v m. chosen-most i h v m) w e in
+      off-most (goal .target) (goal .bound) (ownRide file s i) (scanIn file s goal (suc i) end .chosen) 65535
+      (stand .shares-fit (rowOf (rowsIn file s) i .class) (fits .class) .shares-whole) (omega arith)
+      (λ v m. chosen-most i h v m) w e in
       omega arith
     where
       chosen-most : (i : ℕ) → i < end → (v : Valued) → List·Memᴰ v (scanIn file s goal (suc i) end .chosen) → v .worth ≤ 256 * 65535

@@ -1,15 +1,15 @@
 -- One turn of the scan's loop, over the row and the values that its calls give.
-use Prim.Native.Nat.{ℕ, suc, _+_, _-_, _≤_, _<_}
+use Prim.Native.Nat.{ℕ, suc, _≤_, _<_}
 use mathlib.Core.List.{List}
 use mathlib.Core.Logic.{_≢_}
-use mathlib.Core.Path.{_≡_, refl, sym, ap, subst, _∙_}
+use mathlib.Core.Path.{_≡_, sym, ap, subst, _∙_}
 use native.Mathlib.Omega.{arith}
 use lib.ListN.{length}
 use lib.Seq.{slice}
 use Rattle.timetable.specs.Timetable.{rowOf, sharesOf}
 use Rattle.timetable.specs.declared.Row.{Row}
 use Rattle.plans.specs.Worth.{Valued}
-use Rattle.plans.specs.Chosen.{Scan, offInTicks}
+use Rattle.plans.specs.Chosen.{offInTicks}
 use Rattle.cells.specs.Cells.{used, cellOf}
 use Rattle.reading.specs.declared.Sailings.{Sailings}
 use Rattle.reading.specs.Reading.{rowsIn, tablesIn, Stand, TablesHeld}
@@ -19,7 +19,8 @@ use Rattle.scan.specs.Stores.{Weighs, Chose, Weighable, Pushable}
 use Rattle.scan.specs.Scanned.{scanIn}
 use Rattle.scan.specs.Held.{PairsHeld, StackHeld, Held, Inside}
 use Rattle.scan.proofs.TimetableTo.{ownRide, offFor}
-use Rattle.scan.proofs.Step.{weighable, ready, off-same, pairs-after, stacks-after, held-unchosen, pushable, held-chosen, inside-chosen, inside-then, inside-weighed}
+use Rattle.scan.proofs.Step.{weighable, ready, off-same, pairs-after, stacks-after, held-unchosen, pushable, held-chosen, inside-chosen}
+use Rattle.scan.proofs.Inside.{inside-then, inside-weighed}
 
 -- the row is weighed and not chosen yet
 pub record Weighed (file : List ℕ) (s : Sailings) (goal : Goal) (first end i : ℕ) (w w' : List ℕ) : Type 0 where
@@ -52,7 +53,7 @@ module _ (file : List ℕ) (s : Sailings) (goal : Goal) (first end : ℕ) (stand
 
       module _ (off : ℕ)
           (got : (shares : List ℕ) (chosen : List Valued) → Ready row tables w shares chosen
-              → off ≡ cellOf (offInTicks (goal .target) (goal .bound) (rideOff row shares) chosen)) where
+          → off ≡ cellOf (offInTicks (goal .target) (goal .bound) (rideOff row shares) chosen)) where
         turn-off : off ≡ cellOf (offFor goal (ownRide file s i) (scanIn file s goal (suc i) end .chosen))
         turn-off =
             got (sharesOf (tablesIn file s) (row .class)) (scanIn file s goal (suc i) end .chosen) turn-ready
@@ -62,7 +63,7 @@ module _ (file : List ℕ) (s : Sailings) (goal : Goal) (first end : ℕ) (stand
         pub turn-weighed : (w' : List ℕ) → Weighs row i off w w' → Weighed file s goal first end i w w'
         turn-weighed w' weighs =
             let as-row : Weighs (rowOf (rowsIn file s) i) i (cellOf (offFor goal (ownRide file s i) (scanIn file s goal (suc i) end .chosen))) w w' =
-                subst (λ x. Weighs (rowOf (rowsIn file s) i) i x w w') turn-off (subst (λ (r : Row). Weighs r i off w w') is weighs) in
+            subst (λ x. Weighs (rowOf (rowsIn file s) i) i x w w') turn-off (subst (λ (r : Row). Weighs r i off w w') is weighs) in
             record {
               pairs-held = pairs-after file s goal first end stand inside i low high w room w' held as-row;
               stacks-held = stacks-after file s goal first end stand inside i low high w room w' held as-row;

@@ -1,9 +1,9 @@
 -- No worth is beyond that of the last minute at which a ride lands. Uses that shares sum to 4,096.
-use Prim.Native.Nat.{ℕ, suc, pred, _+_, _*_, _/_, _≤_, _<_}
-use mathlib.Core.Bool.{Bool, true, false, cond}
+use Prim.Native.Nat.{ℕ, suc, _+_, _*_, _/_, _≤_, _<_}
+use mathlib.Core.Bool.{cond}
 use mathlib.Core.List.{List, [], _∷_, List·Memᴰ}
 use mathlib.Core.Option.{Option, none, some}
-use mathlib.Core.Path.{_≡_, refl, sym, ap, subst, _∙_}
+use mathlib.Core.Path.{_≡_, refl, ap, subst}
 use native.Mathlib.Nat.{mul-le-mul-left, le-pred-of-lt, div-lt-iff-lt-mul}
 use native.Mathlib.Omega.{arith}
 use lib.Dec.{eqb}
@@ -56,7 +56,7 @@ pub change-most :
 unfolding changeWorth
 change-most r behind most whole' each =
     let all : weigh (r .shares) (r .arrives) (λ minute. caught behind (r .to) minute) ≤ sum (r .shares) * most =
-        weigh-most (r .shares) (r .arrives) (λ minute. caught behind (r .to) minute) most (λ m a b. caught-most behind most each (r .to) m) in
+    weigh-most (r .shares) (r .arrives) (λ minute. caught behind (r .to) minute) most (λ m a b. caught-most behind most each (r .to) m) in
     let shared : sum (r .shares) * most ≡ 4096 * most = ap (λ k. k * most) whole' in
     mean (weigh (r .shares) (r .arrives) (λ minute. caught behind (r .to) minute)) most (omega arith)
 
@@ -68,6 +68,6 @@ unfolding landWorth
 off-most target bound r behind minute whole' lands each w e =
     subst (λ x. x ≤ ticks * minute) (off-worth target bound r behind w (off-is target bound r behind w e))
     (ifb (λ b. cond b (arrivalWorth r) (changeWorth r behind) ≤ ticks * minute) (eqb (r .to) target)
-        (λ _. let most : arrivalWorth r ≤ 256 * latest r = arrival-most r whole' in
-            let z : arrivalWorth r ≤ 256 * minute = omega arith in z)
-        (λ _. change-most r behind (ticks * minute) whole' each))
+    (λ _. let most : arrivalWorth r ≤ 256 * latest r = arrival-most r whole' in
+    let z : arrivalWorth r ≤ 256 * minute = omega arith in z)
+    (λ _. change-most r behind (ticks * minute) whole' each))

@@ -1,14 +1,14 @@
 -- What the lent cells hold within the scan, when the rows from i to before `end` have been weighed.
 use Prim.Native.Nat.{ℕ, suc, _+_, _≤_, _<_}
 use mathlib.Core.List.{List}
-use mathlib.Core.Option.{Option, none, some}
+use mathlib.Core.Option.{Option}
 use mathlib.Core.Path.{_≡_}
 use lib.ListN.{length, getD, drop}
 use lib.Seq.{slice}
 use Rattle.timetable.specs.declared.Row.{Row}
 use Rattle.plans.specs.Worth.{Valued}
-use Rattle.plans.specs.Chosen.{Weighed, Scan, nextOf}
-use Rattle.cells.specs.Cells.{trips, pairs, used, missing}
+use Rattle.plans.specs.Chosen.{Scan, nextOf}
+use Rattle.cells.specs.Cells.{trips, used, missing}
 use Rattle.reading.specs.declared.Sailings.{Sailings}
 use Rattle.reading.specs.Reading.{rowsIn}
 use Rattle.landing.specs.declared.Goal.{Goal}

@@ -6,7 +6,7 @@ use mathlib.Core.Path.{_≡_}
 use lib.Dec.{eqb}
 use lib.ListN.{length, getD, drop}
 use Rattle.timetable.specs.declared.Row.{Row}
-use Rattle.cells.specs.Cells.{stops, sizes, pairs}
+use Rattle.cells.specs.Cells.{stops, pairs}
 use Rattle.scan.specs.Stores.{startOf, sizeOf}
 
 -- how many rows board at a stop

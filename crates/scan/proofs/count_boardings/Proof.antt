@@ -1,22 +1,20 @@
-use Prim.Native.Nat.{ℕ, suc, _+_, _-_, _≤_, _<_}
+-- `scan::count_boardings` meets its contract: sizes so far and rows to come make the whole count. Assumes nothing.
+use Prim.Native.Nat.{ℕ, _+_, _-_, _≤_, _<_}
 use mathlib.Core.List.{List, _∷_}
 use mathlib.Core.Path.{_≡_, sym, ap, ap₂, subst, _∙_}
 use native.Mathlib.Numerals.{add-one}
 use native.Mathlib.Omega.{arith}
-use lib.ListN.{length, getD, set}
+use lib.ListN.{set}
 use lib.Seq.{slice, slice-empty, slice-cons, length-slice}
-use Rattle.timetable.specs.Timetable.{rowOf, noRow}
+use Rattle.timetable.specs.Timetable.{noRow}
 use Rattle.timetable.specs.declared.Row.{Row}
-use Rattle.cells.specs.Cells.{pairs, sizes}
+use Rattle.cells.specs.Cells.{sizes}
 use Rattle.reading.specs.Reading.{rowsIn}
 use Rattle.scan.specs.Stores.{sizeOf}
-use Rattle.scan.specs.Regions.{countAt}
-use Rattle.scan.proofs.Regions.{count-few, Counting, counting-begins, counting-on, counting-done}
+use Rattle.scan.proofs.Regions.{count-few}
+use Rattle.scan.proofs.Counting.{Counting, counting-begins, counting-on, counting-done}
 use Rattle.scan.proofs.count_boardings.Statement.{statement}
 use Rattle.scan.proofs.count_boardings.Tie as tie
-use Rattle.scan.proofs.count_boardings.Reads as reads
-use Rattle.scan.proofs.count_boardings.Lts as lts
-use Rattle.reading.proofs.nth_row.Reads as nth-row-reads
 
 abbrev Inv-loop : tie.InvT-loop
 Inv-loop file s first end work₀ i₀ work i =
@@ -25,12 +23,10 @@ Inv-loop file s first end work₀ i₀ work i =
 abbrev μ-loop : tie.MeasureT-loop
 μ-loop file s first end work₀ i₀ work i = end - i
 
--- src/lib.rt:33:5
 loop-holds : tie.Need-loop-holds Inv-loop μ-loop
 loop-holds c =
     let a = c .before .before in (omega arith, a .pre .1, counting-begins (slice (a .args .first) (a .args .end) (rowsIn (a .args .file .now) (a .args .s))) (a .args .work .now) (a .pre .4))
 
--- src/lib.rt:34:13
 nth-row-requires : tie.Need-nth-row-requires Inv-loop μ-loop
 nth-row-requires c κs = (c .before .before .before .before .pre .0, omega arith)
 
@@ -45,8 +41,13 @@ few c =
     let a = c .before .before .before .before .before .before in
     let rows = rowsIn (a .args .file .now) (a .args .s) in
     let board = c .before .nth-row .result .board in
-    omega (arith, c .before .before .before .loop .inv .2 .so-far board (boards c), count-few board (slice (a .args .first) (a .args .end) rows),
-        length-slice (a .args .first) (a .args .end) rows (omega (arith, a .pre .0 .rows-count)), a .pre .0 .few-rows)
+    omega (
+      arith,
+      c .before .before .before .loop .inv .2 .so-far board (boards c),
+      count-few board (slice (a .args .first) (a .args .end) rows),
+      length-slice (a .args .first) (a .args .end) rows (omega (arith, a .pre .0 .rows-count)),
+      a .pre .0 .few-rows,
+    )
 
 counted-on :
     (c : tie.After-struct-known Inv-loop μ-loop)
@@ -60,55 +61,45 @@ counted-on c =
     let rows = rowsIn (a .args .file .now) (a .args .s) in
     let all = slice (a .args .first) (a .args .end) rows in
     let front : slice (l .i) (a .args .end) rows ≡ c .before .nth-row .result ∷ slice (l .i + 1) (a .args .end) rows =
-        slice-cons (l .i) (a .args .end) rows noRow (omega arith) (omega (arith, a .pre .0 .rows-count))
-        ∙ ap₂ (λ (r : Row) (k : ℕ). r ∷ slice k (a .args .end) rows) (sym (c .before .nth-row .ensures .0)) (sym (add-one (l .i))) in
+    slice-cons (l .i) (a .args .end) rows noRow (omega arith) (omega (arith, a .pre .0 .rows-count))
+    ∙ ap₂ (λ (r : Row) (k : ℕ). r ∷ slice k (a .args .end) rows) (sym (c .before .nth-row .ensures .0)) (sym (add-one (l .i))) in
     counting-on all (slice (l .i + 1) (a .args .end) rows) (c .before .nth-row .result) (a .args .work .now) (l .work) (a .pre .3) (boards c)
     (subst (λ (rest : List Row). Counting all rest (a .args .work .now) (l .work)) front (l .inv .2))
 
--- src/lib.rt:35:20
 add-size : tie.Need-add-size Inv-loop μ-loop
 add-size c = omega (arith, boards c)
 
--- src/lib.rt:36:9
 mul-work : tie.Need-mul-work Inv-loop μ-loop
 mul-work c = omega (arith, boards c)
 
--- src/lib.rt:36:9
 slice-read-work : tie.Need-slice-read-work Inv-loop μ-loop
 slice-read-work c = omega (arith, boards (c .before), c .before .before .before .before .loop .inv .2 .apart .same-length)
 
--- src/lib.rt:36:9
 add-work : tie.Need-add-work Inv-loop μ-loop
 add-work c = omega (arith, few (c .before))
 
--- src/lib.rt:36:9
 slice-write-work : tie.Need-slice-write-work Inv-loop μ-loop
 slice-write-work c = omega (arith, boards (c .before), c .before .before .before .before .loop .inv .2 .apart .same-length)
 
--- src/lib.rt:37:9
 add-i : tie.Need-add-i Inv-loop μ-loop
 add-i c = omega arith
 
--- src/lib.rt:33:5
 loop-less : tie.Need-loop-less Inv-loop μ-loop
 loop-less c = omega arith
 
--- src/lib.rt:33:5
 loop-again : tie.Need-loop-again Inv-loop μ-loop
 loop-again c = (omega arith, omega arith, counted-on (c .before))
 
--- src/lib.rt:27:1
 same-length : tie.Need-same-length Inv-loop μ-loop
 same-length c = c .before .loop .inv .2 .apart .same-length
 
--- src/lib.rt:27:1
 returns : tie.Need-returns Inv-loop μ-loop
 returns c =
     let a = c .before .before .before .before .args in
     let all : c .before .loop .i ≡ a .end = omega arith in
     counting-done (slice (a .first) (a .end) (rowsIn (a .file .now) (a .s))) (a .work .now) (c .before .loop .work)
     (subst (λ (l : List Row). Counting (slice (a .first) (a .end) (rowsIn (a .file .now) (a .s))) l (a .work .now) (c .before .loop .work))
-        (ap (λ k. slice k (a .end) (rowsIn (a .file .now) (a .s))) all ∙ slice-empty (a .end) (rowsIn (a .file .now) (a .s))) (c .before .loop .inv .2))
+    (ap (λ k. slice k (a .end) (rowsIn (a .file .now) (a .s))) all ∙ slice-empty (a .end) (rowsIn (a .file .now) (a .s))) (c .before .loop .inv .2))
 
 pub count-boardings-spec : {M : Type 1} → statement M
 count-boardings-spec =

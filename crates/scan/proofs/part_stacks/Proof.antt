@@ -1,18 +1,17 @@
-use Prim.Native.Nat.{ℕ, suc, _+_, _-_, _≤_, _<_}
+-- `scan::part_stacks` meets its contract: the stops below `stop` have their regions. Assumes nothing.
+use Prim.Native.Nat.{ℕ, _+_, _-_, _≤_}
 use mathlib.Core.List.{List}
-use mathlib.Core.Path.{_≡_, sym, ap, ap₂, subst, _∙_}
+use mathlib.Core.Path.{_≡_, _∙_}
 use native.Mathlib.Omega.{arith}
-use lib.ListN.{length, getD, set, length-set}
+use lib.ListN.{getD, set, length-set}
 use lib.Seq.{getD-set-other}
-use Rattle.cells.specs.Cells.{pairs, stops, sizes}
+use Rattle.cells.specs.Cells.{stops, sizes}
 use Rattle.scan.specs.Stores.{sizeOf}
 use Rattle.scan.specs.Regions.{below}
-use Rattle.scan.proofs.Regions.{below-later, below-next, Parting, parting-begins, parting-on}
+use Rattle.scan.proofs.Regions.{below-later, below-next}
+use Rattle.scan.proofs.Parting.{Parting, parting-begins, parting-on}
 use Rattle.scan.proofs.part_stacks.Statement.{statement}
 use Rattle.scan.proofs.part_stacks.Tie as tie
-use Rattle.scan.proofs.part_stacks.Reads as reads
-use Rattle.scan.proofs.part_stacks.Lts as lts
-use Rattle.cells.proofs.cell.Reads as cell-reads
 
 abbrev Inv-loop : tie.InvT-loop
 Inv-loop from work₀ stop₀ start₀ work stop start = (stop ≤ 200) × (start ≡ from + below (sizeOf work₀) stop) × Parting from stop work₀ work
@@ -20,7 +19,6 @@ Inv-loop from work₀ stop₀ start₀ work stop start = (stop ≤ 200) × (star
 abbrev μ-loop : tie.MeasureT-loop
 μ-loop from work₀ stop₀ start₀ work stop start = 200 - stop
 
--- src/lib.rt:47:9
 cell-requires : tie.Need-cell-requires Inv-loop μ-loop
 cell-requires c κs = omega arith
 
@@ -28,19 +26,15 @@ nothing : (w : List ℕ) (from start : ℕ) → start ≡ from → start ≡ fro
 unfolding below
 nothing w from start e = omega arith
 
--- src/lib.rt:48:5
 loop-holds : tie.Need-loop-holds Inv-loop μ-loop
 loop-holds c = (omega arith, nothing (c .before .before .args .work .now) (c .before .before .args .from) (c .cell .result) (c .cell .ensures), parting-begins (c .before .before .args .from) (c .before .before .args .work .now))
 
--- src/lib.rt:49:14
 add-work : tie.Need-add-work Inv-loop μ-loop
 add-work c = omega arith
 
--- src/lib.rt:49:9
 mul-work : tie.Need-mul-work Inv-loop μ-loop
 mul-work c = omega arith
 
--- src/lib.rt:49:9
 slice-write-work : tie.Need-slice-write-work Inv-loop μ-loop
 slice-write-work c = omega (arith, c .before .loop .inv .2 .apart .same-length)
 
@@ -58,45 +52,35 @@ further :
     (w : List ℕ) (from start stop size : ℕ) → start ≡ from + below (sizeOf w) stop → size ≡ sizeOf w stop → start + size ≡ from + below (sizeOf w) (stop + 1)
 further w from start stop size e f = omega (arith, below-next (sizeOf w) stop)
 
--- src/lib.rt:50:23
 add-start : tie.Need-add-start Inv-loop μ-loop
 add-start c = omega arith
 
--- src/lib.rt:50:18
 mul-start : tie.Need-mul-start Inv-loop μ-loop
 mul-start c = omega arith
 
--- src/lib.rt:50:18
 slice-read-start : tie.Need-slice-read-start Inv-loop μ-loop
 slice-read-start c = simp length-set (omega (arith, c .before .before .loop .inv .2 .apart .same-length))
 
--- src/lib.rt:50:9
 add-start-2 : tie.Need-add-start-2 Inv-loop μ-loop
 add-start-2 c =
     let a = c .before .before .before .before .before .args in
     omega (arith, size-left c, below-later (sizeOf (a .work .now)) (c .before .before .loop .stop) 200 (omega arith))
 
--- src/lib.rt:51:14
 add-work-2 : tie.Need-add-work-2 Inv-loop μ-loop
 add-work-2 c = omega arith
 
--- src/lib.rt:51:9
 mul-work-2 : tie.Need-mul-work-2 Inv-loop μ-loop
 mul-work-2 c = omega arith
 
--- src/lib.rt:51:9
 slice-write-work-2 : tie.Need-slice-write-work-2 Inv-loop μ-loop
 slice-write-work-2 c = simp length-set (omega (arith, c .before .before .loop .inv .2 .apart .same-length))
 
--- src/lib.rt:52:9
 add-stop : tie.Need-add-stop Inv-loop μ-loop
 add-stop c = omega arith
 
--- src/lib.rt:48:5
 loop-less : tie.Need-loop-less Inv-loop μ-loop
 loop-less c = omega arith
 
--- src/lib.rt:48:5
 loop-again : tie.Need-loop-again Inv-loop μ-loop
 loop-again c =
     let a = c .before .before .before .before .before in
@@ -106,11 +90,9 @@ loop-again c =
       parting-on (a .args .from) (l .stop) (l .start) (a .args .work .now) (l .work) (omega (arith, l .inv .2 .apart .same-length)) (omega arith) (l .inv .1) (l .inv .2),
     )
 
--- src/lib.rt:42:1
 same-length : tie.Need-same-length Inv-loop μ-loop
 same-length c = c .before .loop .inv .2 .apart .same-length
 
--- src/lib.rt:42:1
 returns : tie.Need-returns Inv-loop μ-loop
 returns c =
     let p = c .before .loop .inv .2 in

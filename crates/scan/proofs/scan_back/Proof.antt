@@ -1,42 +1,31 @@
-use Prim.Native.Nat.{ℕ, _+_, _*_, _≤_, _<_}
+-- `scan::scan_back` meets its contract: cells laid out, then scanned. Assumes nothing.
+use Prim.Native.Nat.{ℕ, _+_, _≤_, _<_}
 use mathlib.Core.List.{List}
-use mathlib.Core.Path.{_≡_, sym, ap, subst, _∙_}
+use mathlib.Core.Path.{_≡_}
 use native.Mathlib.Omega.{arith}
 use borrow.Author.Needs.{needs}
 use lib.ListN.{length, getD, set}
-use Rattle.cells.specs.Cells.{trips, pairs, used, missing}
+use Rattle.cells.specs.Cells.{trips, used, missing}
 use Rattle.scan.specs.Stores.{pairCell, sizeOf}
 use Rattle.scan.specs.Held.{Held, Inside}
-use Rattle.scan.proofs.Step.{inside-then}
+use Rattle.scan.proofs.Inside.{inside-then}
 use Rattle.scan.proofs.Bounds.{held-ends}
 use Rattle.scan.proofs.Laid.{emptied, no-sizes, no-next, parts-fit, laid-stays, laid-held}
 use Rattle.scan.proofs.scan_back.Statement.{statement}
 use Rattle.scan.proofs.scan_back.Tie as tie
-use Rattle.scan.proofs.scan_back.Reads as reads
-use Rattle.scan.proofs.scan_back.Lts as lts
-use Rattle.cells.proofs.cell.Reads as cell-reads
-use Rattle.cells.proofs.fill.Reads as fill-reads
-use Rattle.scan.proofs.count_boardings.Reads as count-boardings-reads
-use Rattle.scan.proofs.part_stacks.Reads as part-stacks-reads
-use Rattle.scan.proofs.weigh_rows.Reads as weigh-rows-reads
 
--- src/lib.rt:46:24
 mul-none : tie.Need-mul-none
 mul-none c = search needs
 
--- src/lib.rt:46:16
 add-none : tie.Need-add-none
 add-none c = search needs
 
--- src/lib.rt:47:35
 cell-requires : tie.Need-cell-requires
 cell-requires c κs = search needs
 
--- src/lib.rt:47:5
 fill-requires : tie.Need-fill-requires
 fill-requires c κs = search needs
 
--- src/lib.rt:48:5
 fill-requires-2 : tie.Need-fill-requires-2
 fill-requires-2 c κs = search needs
 
@@ -62,31 +51,26 @@ no-next-here c =
     no-next (a .args .s .rows) (a .args .work .now) (c .before .before .before .before .fill .last .0) (c .fill2 .last .0) (c .before .before .before .before .before .cell .result) (a .pre .4) (c .before .before .before .before .before .cell .ensures)
     (c .before .before .before .before .fill .ensures) (c .fill2 .ensures)
 
--- src/lib.rt:49:5
 count-boardings-requires : tie.Need-count-boardings-requires
 count-boardings-requires c κs =
     let a = c .before .before .before .before .before .before .before .before .before .before .before .before .before .before in
     (a .pre .0, a .pre .2, a .pre .3, omega (arith, room-here (c .before .before .before)), no-sizes-here (c .before .before .before))
 
--- src/lib.rt:50:17
 add-part-stacks : tie.Need-add-part-stacks
 add-part-stacks c = search needs
 
--- src/lib.rt:50:5
 part-stacks-requires : tie.Need-part-stacks-requires
 part-stacks-requires c κs =
     let a = c .before .before .before .before .before .before .before .before .before .before .before .before .before .before .before .before .before .before .before in
     let counted = c .before .before .before .before .count-boardings in (
       omega (arith, room-here (c .before .before .before .before .before .before .before .before), counted .ensures .apart .same-length),
       parts-fit (a .args .file .now) (a .args .s) (a .args .goal) (a .args .first) (a .args .end) (a .pre .0) (a .pre .3) (c .before .before .before .before .before .before .before .before .fill2 .last .0)
-      (counted .last .1 .1 .1 .1 .0) (room-here (c .before .before .before .before .before .before .before .before)) (counted .ensures),
+          (counted .last .1 .1 .1 .1 .0) (room-here (c .before .before .before .before .before .before .before .before)) (counted .ensures),
     )
 
--- src/lib.rt:51:5
 mul-work : tie.Need-mul-work
 mul-work c = search needs
 
--- src/lib.rt:51:5
 slice-write-work : tie.Need-slice-write-work
 slice-write-work c = search needs
 
@@ -108,13 +92,12 @@ stays-here c =
     let a = c .before .before .before .before .before .before .before .before .before .before .before .before .before .before .before .before .before .before .before .before in
     inside-then (a .args .s .rows) (emptied-here (c .before .before .before .before .before .before .before .before .before))
     (laid-stays (a .args .file .now) (a .args .s) (a .args .goal) (a .args .first) (a .args .end) (a .pre .0) (a .pre .3) (c .before .before .before .before .before .before .before .before .before .fill2 .last .0)
-        (c .before .before .before .before .before .count-boardings .last .1 .1 .1 .1 .0) (room-here (c .before .before .before .before .before .before .before .before .before)) (c .before .before .before .before .before .count-boardings .ensures) (c .part-stacks .last .1 .0) (c .part-stacks .ensures)
-        (no-next-here (c .before .before .before .before .before .before .before .before .before)))
+    (c .before .before .before .before .before .count-boardings .last .1 .1 .1 .1 .0) (room-here (c .before .before .before .before .before .before .before .before .before)) (c .before .before .before .before .before .count-boardings .ensures) (c .part-stacks .last .1 .0) (c .part-stacks .ensures)
+    (no-next-here (c .before .before .before .before .before .before .before .before .before)))
 
 room-closed : (c : tie.After-part-stacks) → used (c .before .before .before .before .before .before .before .before .before .before .before .before .before .before .before .before .before .before .before .before .args .s .rows) ≤ length (closed-here c)
 room-closed c = omega (arith, c .before .before .before .before .before .before .before .before .before .before .before .before .before .before .before .before .before .before .before .before .pre .4, stays-here c .same-length)
 
--- src/lib.rt:52:5
 weigh-rows-requires : tie.Need-weigh-rows-requires
 unfolding closed-here
 weigh-rows-requires c κs =
@@ -127,16 +110,14 @@ scanned-stays :
 unfolding closed-here
 scanned-stays c = inside-then (c .before .before .before .before .before .before .before .before .before .before .before .before .before .before .before .before .before .before .before .before .before .before .before .before .before .before .args .s .rows) (stays-here (c .before .before .before .before .before .before)) (c .before .before .weigh-rows .ensures .1)
 
--- src/lib.rt:31:1
 same-length : tie.Need-same-length
 same-length c = scanned-stays c .same-length
 
--- src/lib.rt:31:1
 returns : tie.Need-returns
 returns c =
     let a = c .before .before .before .before .before .before .before .before .before .before .before .before .before .before .before .before .before .before .before .before .before .before .before .before .before .before in (
       held-ends (a .args .file .now) (a .args .s) (a .args .goal) (a .args .first) (a .args .end) (a .pre .0) (a .pre .3)
-      (c .before .before .weigh-rows .last .1 .1 .1 .1 .1 .1 .0) (a .pre .2) (c .before .before .weigh-rows .ensures .0),
+          (c .before .before .weigh-rows .last .1 .1 .1 .1 .1 .1 .0) (a .pre .2) (c .before .before .weigh-rows .ensures .0),
       scanned-stays c .same-length,
       scanned-stays c .rest-kept,
     )

@@ -1,18 +1,15 @@
-use Prim.Native.Nat.{ℕ, _+_, _*_, _≤_, _<_}
+-- `scan::weigh_row` meets its contract: two ways, the row is got off or stayed on. Assumes nothing.
+use Prim.Native.Nat.{ℕ, _+_, _≤_, _<_}
 use mathlib.Core.List.{List}
-use mathlib.Core.Path.{_≡_, ap, ap₂, subst, sym, _∙_}
+use mathlib.Core.Path.{_≡_, ap₂, subst}
 use native.Mathlib.Omega.{arith}
 use lib.ListN.{getD, set, length-set}
 use Rattle.timetable.specs.declared.Row.{Row}
 use Rattle.cells.specs.Cells.{trips}
-use Rattle.scan.specs.Stores.{pairCell, paired, entered, nextPair, Weighs, gets-off, stays-on}
+use Rattle.scan.specs.Stores.{pairCell, paired, entered, Weighs, gets-off, stays-on}
 use borrow.Author.Needs.{needs}
 use Rattle.scan.proofs.weigh_row.Statement.{statement}
 use Rattle.scan.proofs.weigh_row.Tie as tie
-use Rattle.scan.proofs.weigh_row.Reads as reads
-use Rattle.scan.proofs.weigh_row.Lts as lts
-use Rattle.cells.proofs.cell.Reads as cell-reads
-use Rattle.cells.proofs.number.Reads as number-reads
 
 -- the two ways, over plain values
 weighs-off :
@@ -30,130 +27,99 @@ weighs-on row i off w entry next e n h =
     stays-on (subst (λ k. getD w (pairCell k) 0 ≤ off) n h)
     (ap₂ (λ a k. paired (entered w (row .trip) a) i (getD w (pairCell k) 0) (getD (set (entered w (row .trip) a) (pairCell i) (getD w (pairCell k) 0)) (pairCell k + 1) 0)) e n)
 
--- src/lib.rt:61:16
 add-trip : tie.Need-add-trip
 add-trip c = search needs
 
--- src/lib.rt:62:24
 mul-pair : tie.Need-mul-pair
 mul-pair c = search needs
 
--- src/lib.rt:62:16
 add-pair : tie.Need-add-pair
 add-pair c = search needs
 
--- src/lib.rt:63:35
 mul-number : tie.Need-mul-number
 mul-number c = search needs
 
--- src/lib.rt:63:35
 slice-read-number : tie.Need-slice-read-number
 slice-read-number c = search needs
 
--- src/lib.rt:63:28
 number-requires : tie.Need-number-requires
 number-requires c κs = search needs
 
--- src/lib.rt:63:24
 mul-next : tie.Need-mul-next
 mul-next c = search needs
 
--- src/lib.rt:63:16
 add-next : tie.Need-add-next
 add-next c = search needs
 
--- src/lib.rt:64:14
 mul-on : tie.Need-mul-on
 mul-on c = search needs
 
--- src/lib.rt:64:14
 slice-read-on : tie.Need-slice-read-on
 slice-read-on c = search needs
 
--- src/lib.rt:65:18
 cell-requires : tie.Need-cell-requires
 cell-requires c κs = search needs
 
--- src/lib.rt:65:5
 mul-work : tie.Need-mul-work
 mul-work c = search needs
 
--- src/lib.rt:65:5
 slice-write-work : tie.Need-slice-write-work
 slice-write-work c = search needs
 
--- src/lib.rt:67:9
 mul-work-2 : tie.Need-mul-work-2
 mul-work-2 c = search needs
 
--- src/lib.rt:67:9
 slice-write-work-2 : tie.Need-slice-write-work-2
 slice-write-work-2 c = simp length-set (omega arith)
 
--- src/lib.rt:68:26
 cell-requires-2 : tie.Need-cell-requires-2
 cell-requires-2 c κs = search needs
 
--- src/lib.rt:68:14
 add-work : tie.Need-add-work
 add-work c = search needs
 
--- src/lib.rt:68:9
 mul-work-3 : tie.Need-mul-work-3
 mul-work-3 c = search needs
 
--- src/lib.rt:68:9
 slice-write-work-3 : tie.Need-slice-write-work-3
 slice-write-work-3 c = search needs
 
--- src/lib.rt:70:9
 mul-work-4 : tie.Need-mul-work-4
 mul-work-4 c = search needs
 
--- src/lib.rt:70:9
 slice-write-work-4 : tie.Need-slice-write-work-4
 slice-write-work-4 c = simp length-set (omega arith)
 
--- src/lib.rt:71:31
 add-work-2 : tie.Need-add-work-2
 add-work-2 c = search needs
 
--- src/lib.rt:71:26
 mul-work-5 : tie.Need-mul-work-5
 mul-work-5 c = search needs
 
--- src/lib.rt:71:26
 slice-read-work : tie.Need-slice-read-work
 slice-read-work c = simp length-set (omega arith)
 
--- src/lib.rt:71:14
 add-work-3 : tie.Need-add-work-3
 add-work-3 c = search needs
 
--- src/lib.rt:71:9
 mul-work-6 : tie.Need-mul-work-6
 mul-work-6 c = search needs
 
--- src/lib.rt:71:9
 slice-write-work-5 : tie.Need-slice-write-work-5
 slice-write-work-5 c = search needs
 
--- src/lib.rt:57:1
 same-length : tie.Need-same-length
 same-length c = search needs
 
--- src/lib.rt:57:1
 returns : tie.Need-returns
 returns c =
     let a = c .before .before .before .before .before .before .before .before .args in
     weighs-off (a .row) (a .i) (a .off) (a .work .now) (c .before .before .cell .result) (c .cell2 .result) (c .before .before .before .before .number .result)
     (c .before .before .cell .ensures) (c .cell2 .ensures) (c .before .before .before .before .number .ensures .0) (c .before .if1 .taken)
 
--- src/lib.rt:57:1
 same-length-2 : tie.Need-same-length-2
 same-length-2 c = search needs
 
--- src/lib.rt:57:1
 returns-2 : tie.Need-returns-2
 returns-2 c =
     let a = c .before .before .before .before .before .before .before .before .args in

@@ -1,20 +1,14 @@
-use Prim.Native.Nat.{ℕ, suc, _+_, _-_, _≤_, _<_}
-use mathlib.Core.List.{List}
-use mathlib.Core.Path.{_≡_, refl, sym, ap, subst, _∙_}
+-- `scan::weigh_rows` meets its contract: the cells hold the scan from row i on. Assumes nothing.
+use Prim.Native.Nat.{suc, _-_, _≤_, _<_}
+use mathlib.Core.Path.{_≡_, subst}
 use native.Mathlib.Omega.{arith}
 use lib.ListN.{length}
 use Rattle.cells.specs.Cells.{used}
 use Rattle.scan.specs.Held.{Held, Inside}
-use Rattle.scan.proofs.Step.{inside-same, inside-then}
+use Rattle.scan.proofs.Inside.{inside-same, inside-then}
 use Rattle.scan.proofs.Turn.{Weighed, turn-weighable, turn-some-ready, turn-weighed, turn-unchosen, turn-pushable, turn-chosen, turn-stays}
 use Rattle.scan.proofs.weigh_rows.Statement.{statement}
 use Rattle.scan.proofs.weigh_rows.Tie as tie
-use Rattle.scan.proofs.weigh_rows.Reads as reads
-use Rattle.scan.proofs.weigh_rows.Lts as lts
-use Rattle.landing.proofs.getting_off.Reads as getting-off-reads
-use Rattle.reading.proofs.nth_row.Reads as nth-row-reads
-use Rattle.scan.proofs.choose.Reads as choose-reads
-use Rattle.scan.proofs.weigh_row.Reads as weigh-row-reads
 
 abbrev Inv-loop : tie.InvT-loop
 Inv-loop file s tables goal first end work₀ i₀ work i =
@@ -23,20 +17,16 @@ Inv-loop file s tables goal first end work₀ i₀ work i =
 abbrev μ-loop : tie.MeasureT-loop
 μ-loop file s tables goal first end work₀ i₀ work i = i
 
--- src/lib.rt:74:5
 loop-holds : tie.Need-loop-holds Inv-loop μ-loop
 loop-holds c =
     let a = c .before .before .before in (a .pre .2, (let z : a .args .end ≤ a .args .end = omega arith in z), a .pre .5, inside-same (a .args .s .rows) (a .args .work .now))
 
--- src/lib.rt:75:9
 sub-i : tie.Need-sub-i Inv-loop μ-loop
 sub-i c = omega arith
 
--- src/lib.rt:76:13
 nth-row-requires : tie.Need-nth-row-requires Inv-loop μ-loop
 nth-row-requires c κs = (c .before .before .before .before .before .pre .0, omega arith)
 
--- src/lib.rt:77:13
 -- the cells as the row finds them
 held-here :
     (c : tie.After-nth-row Inv-loop μ-loop)
@@ -68,7 +58,6 @@ getting-off-requires c κs =
     (end-here (c .before)) (l .work) (room-here (c .before)) (c .before .nth-row .result) (c .before .nth-row .ensures .0) (held-here (c .before))
     (a .args .tables .now) (a .pre .1)
 
--- src/lib.rt:78:9
 weigh-row-requires : tie.Need-weigh-row-requires Inv-loop μ-loop
 weigh-row-requires c κs =
     let a = c .before .before .before .before .before .before .before .before .before in
@@ -76,7 +65,6 @@ weigh-row-requires c κs =
     turn-weighable (a .args .file .now) (a .args .s) (a .args .goal) (a .args .first) (a .args .end) (a .pre .0) (a .pre .3) (l .i - 1) (first-here (c .before .before .before))
     (end-here (c .before .before .before)) (l .work) (room-here (c .before .before .before)) (c .before .before .before .nth-row .result) (c .before .before .before .nth-row .ensures .0) (held-here (c .before .before .before))
 
--- src/lib.rt:80:13
 -- the row is weighed
 weighed-here :
     (c : tie.After-weigh-row Inv-loop μ-loop)
@@ -98,11 +86,9 @@ choose-requires c κs =
     (end-here (c .before .before .before .before .before .before .before .before .before .before)) (l .work) (room-here (c .before .before .before .before .before .before .before .before .before .before)) (c .before .before .before .before .before .before .before .before .before .before .nth-row .result) (c .before .before .before .before .before .before .before .before .before .before .nth-row .ensures .0)
     (c .before .before .before .before .before .before .weigh-row .last .1 .1 .1 .0) (weighed-here (c .before .before .before .before .before .before)) (c .before .if1 .taken)
 
--- src/lib.rt:74:5
 loop-less : tie.Need-loop-less Inv-loop μ-loop
 loop-less c = omega (arith, c .before .before .before .before .before .before .before .before .before .before .before .before .before .before .loop-test .taken)
 
--- src/lib.rt:74:5
 loop-again : tie.Need-loop-again Inv-loop μ-loop
 loop-again c =
     let a = c .before .before .before .before .before .before .before .before .before .before .before .before .before .before .before .before .before .before .before in
@@ -112,19 +98,17 @@ loop-again c =
       first-here (c .before .before .before .before .before .before .before .before .before .before .before .before .before),
       (let z = end-here (c .before .before .before .before .before .before .before .before .before .before .before .before .before) in omega arith),
       turn-chosen (a .args .file .now) (a .args .s) (a .args .goal) (a .args .first) (a .args .end) (a .pre .0) (a .pre .3) (l .i - 1) (first-here (c .before .before .before .before .before .before .before .before .before .before .before .before .before))
-    (end-here (c .before .before .before .before .before .before .before .before .before .before .before .before .before)) (l .work) (room-here (c .before .before .before .before .before .before .before .before .before .before .before .before .before)) (c .before .before .before .before .before .before .before .before .before .before .before .before .before .nth-row .result) (c .before .before .before .before .before .before .before .before .before .before .before .before .before .nth-row .ensures .0)
-      w (weighed-here (c .before .before .before .before .before .before .before .before .before)) (c .before .before .before .before .if1 .taken) chosen (c .before .before .choose .ensures),
+          (end-here (c .before .before .before .before .before .before .before .before .before .before .before .before .before)) (l .work) (room-here (c .before .before .before .before .before .before .before .before .before .before .before .before .before)) (c .before .before .before .before .before .before .before .before .before .before .before .before .before .nth-row .result) (c .before .before .before .before .before .before .before .before .before .before .before .before .before .nth-row .ensures .0)
+          w (weighed-here (c .before .before .before .before .before .before .before .before .before)) (c .before .before .before .before .if1 .taken) chosen (c .before .before .choose .ensures),
       inside-then (a .args .s .rows) (l .inv .3)
-      (turn-stays (a .args .file .now) (a .args .s) (a .args .goal) (a .args .first) (a .args .end) (a .pre .0) (a .pre .3) (l .i - 1) (first-here (c .before .before .before .before .before .before .before .before .before .before .before .before .before))
-    (end-here (c .before .before .before .before .before .before .before .before .before .before .before .before .before)) (l .work) (room-here (c .before .before .before .before .before .before .before .before .before .before .before .before .before)) (c .before .before .before .before .before .before .before .before .before .before .before .before .before .nth-row .result) (c .before .before .before .before .before .before .before .before .before .before .before .before .before .nth-row .ensures .0)
+          (turn-stays (a .args .file .now) (a .args .s) (a .args .goal) (a .args .first) (a .args .end) (a .pre .0) (a .pre .3) (l .i - 1) (first-here (c .before .before .before .before .before .before .before .before .before .before .before .before .before))
+          (end-here (c .before .before .before .before .before .before .before .before .before .before .before .before .before)) (l .work) (room-here (c .before .before .before .before .before .before .before .before .before .before .before .before .before)) (c .before .before .before .before .before .before .before .before .before .before .before .before .before .nth-row .result) (c .before .before .before .before .before .before .before .before .before .before .before .before .before .nth-row .ensures .0)
           w (weighed-here (c .before .before .before .before .before .before .before .before .before)) (c .before .before .before .before .if1 .taken) chosen (c .before .before .choose .ensures)),
     )
 
--- src/lib.rt:74:5
 loop-less-2 : tie.Need-loop-less-2 Inv-loop μ-loop
 loop-less-2 c = omega (arith, c .before .before .before .before .before .before .before .before .before .before .loop-test .taken)
 
--- src/lib.rt:74:5
 loop-again-2 : tie.Need-loop-again-2 Inv-loop μ-loop
 loop-again-2 c =
     let a = c .before .before .before .before .before .before .before .before .before .before .before .before .before .before .before in
@@ -133,16 +117,14 @@ loop-again-2 c =
       first-here (c .before .before .before .before .before .before .before .before .before),
       (let z = end-here (c .before .before .before .before .before .before .before .before .before) in omega arith),
       turn-unchosen (a .args .file .now) (a .args .s) (a .args .goal) (a .args .first) (a .args .end) (a .pre .0) (a .pre .3) (l .i - 1) (first-here (c .before .before .before .before .before .before .before .before .before))
-    (end-here (c .before .before .before .before .before .before .before .before .before)) (l .work) (room-here (c .before .before .before .before .before .before .before .before .before)) (c .before .before .before .before .before .before .before .before .before .nth-row .result) (c .before .before .before .before .before .before .before .before .before .nth-row .ensures .0)
-      w (weighed-here (c .before .before .before .before .before)) (c .if1 .left),
+          (end-here (c .before .before .before .before .before .before .before .before .before)) (l .work) (room-here (c .before .before .before .before .before .before .before .before .before)) (c .before .before .before .before .before .before .before .before .before .nth-row .result) (c .before .before .before .before .before .before .before .before .before .nth-row .ensures .0)
+          w (weighed-here (c .before .before .before .before .before)) (c .if1 .left),
       inside-then (a .args .s .rows) (l .inv .3) (weighed-here (c .before .before .before .before .before) .stays),
     )
 
--- src/lib.rt:59:1
 same-length : tie.Need-same-length Inv-loop μ-loop
 same-length c = c .before .loop .inv .3 .same-length
 
--- src/lib.rt:59:1
 returns : tie.Need-returns Inv-loop μ-loop
 returns c =
     let a = c .before .before .before .before .before .args in

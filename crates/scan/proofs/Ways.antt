@@ -3,10 +3,10 @@ use Prim.Native.Nat.{ℕ, suc, _+_, _-_, _*_, _/_, _≤_, _<_}
 use mathlib.Core.List.{List}
 use mathlib.Core.Path.{_≡_, refl, sym, ap, subst, _∙_}
 use native.Mathlib.Omega.{arith}
-use lib.ListN.{length, getD, set}
+use lib.ListN.{getD, set}
 use Rattle.timetable.specs.declared.Row.{Row}
-use Rattle.cells.specs.Cells.{stops, sizes, pairs, missing, keyOf}
-use Rattle.scan.specs.Stores.{pairCell, paired, pushed, sized, startOf, sizeOf, worthAt, Chose, worthless, alone, not-below, replaces, ahead}
+use Rattle.cells.specs.Cells.{sizes, pairs, missing, keyOf}
+use Rattle.scan.specs.Stores.{pairCell, paired, pushed, sized, startOf, sizeOf, worthAt, Chose, alone, not-below, replaces, ahead}
 
 module _ (row : Row) (i : ℕ) (w : List ℕ) (size start : ℕ) (as-size : size ≡ sizeOf w (row .board)) (as-start : start ≡ startOf w (row .board))
     (has-worth : worthAt w i ≡ missing → ⊥) where
@@ -14,7 +14,7 @@ module _ (row : Row) (i : ℕ) (w : List ℕ) (size start : ℕ) (as-size : size
   chose-alone w₁ none e =
       let bottom : start ≡ startOf w (row .board) + 0 = omega arith in
       alone has-worth (sym as-size ∙ none) (ap (λ (l : List ℕ). set l (sizes + row .board) 1)
-          (e ∙ ap (λ k. paired w k (keyOf (row .departure) i) (worthAt w i)) bottom))
+      (e ∙ ap (λ k. paired w k (keyOf (row .departure) i) (worthAt w i)) bottom))
 
   top : (size ≡ 0 → ⊥) → start + size - 1 ≡ startOf w (row .board) + (size - 1)
   top some' = omega arith
