@@ -136,7 +136,7 @@ module _ {row : Row} {tables work shares : List ℕ} {chosen : List Valued} (rea
           shares-fit = ready .shares-fit;
           lands = lands;
           falls = λ k l h below. falls k l h (omega (arith, found .inside));
-          opens = found .opens;
+          opens = omega (arith, found .opens);
           safe = late;
           worth-fits = λ k below.
               let place : size - suc k + suc k ≡ size = omega (arith, found .inside) in
