@@ -4,7 +4,7 @@ use native.Mathlib.Nat.{add-zero}
 use native.Mathlib.Omega.{arith}
 use mathlib.Core.Bool.{true, false}
 use mathlib.Core.List.{List}
-use mathlib.Core.Path.{_≡_, sym, subst, _∙_}
+use mathlib.Core.Path.{_≡_, subst}
 use lib.Dec.{leb}
 use lib.ListN.{getD, set}
 use borrow.Author.Tests.{leb-true, leb-false}
@@ -14,13 +14,17 @@ use Rattle.reading.specs.Reading.{blockCell}
 use Rattle.journeys.specs.Cells.{aboard, ready, landingOf, Boarded, boards, misses, Landed, sooner, no-sooner}
 
 -- the landing as it is computed
-pub landing-computed : (tables : List ℕ) (row : Row) {arrival : ℕ} → arrival ≡ row .arrival → arrival + getD tables (blockCell (row .class) + 0) 0 ≡ landingOf tables row
+pub landing-computed :
+    (tables : List ℕ) (row : Row) {arrival : ℕ} → arrival ≡ row .arrival
+    → arrival + getD tables (blockCell (row .class) + 0) 0 ≡ landingOf tables row
 landing-computed tables row e = rw (e, add-zero (blockCell (row .class)))
 
 pub landing-below : {x landing : ℕ} → x ≡ landing → landing < 65536 → x < 65536
 landing-below e h = omega arith
 
-pub landed-sooner : (stop : ℕ) (work : List ℕ) {x landing : ℕ} → x ≡ landing → x < ready work stop → Landed stop landing work (set work (stops + stop) x)
+pub landed-sooner :
+    (stop : ℕ) (work : List ℕ) {x landing : ℕ} → x ≡ landing → x < ready work stop
+    → Landed stop landing work (set work (stops + stop) x)
 landed-sooner stop work {x} e h = subst (λ k. Landed stop k work (set work (stops + stop) x)) e (sooner h)
 
 pub landed-no-sooner : (stop : ℕ) (work : List ℕ) {x landing : ℕ} → x ≡ landing → ready work stop ≤ x → Landed stop landing work work

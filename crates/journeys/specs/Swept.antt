@@ -23,19 +23,24 @@ pub record Underway (t : Timetable) (source minute i trip : ℕ) : Type 0 where
   pub same-trip : rowOf (t .rows) row .trip ≡ trip
   pub boardable : Boardable t source minute row
 
+-- a stop's cell tells from which minute on one can be there, or nothing
+abbrev pub Told : (t : Timetable) (source minute stop cell : ℕ) → Type 0
+Told t source minute stop cell = (cell ≡ missing) ⊎ Reached t source minute stop cell
+
 -- the rows below i are swept
 pub record Swept (t : Timetable) (source minute i : ℕ) (work : List ℕ) : Type 0 where
   pub starts : ready work source ≤ minute
-  -- what a stop's cell says is so
-  pub so : (stop : ℕ) → stop < 200 → (ready work stop ≡ missing) ⊎ Reached t source minute stop (ready work stop)
-  -- and no ride that leaves at a row below i lands earlier
-  pub no-earlier : (r : Ride) → IsRide t r → r .leave < i → (m : ℕ) → Reached t source minute (r .from) m → m ≤ r .departs → ready work (r .to) ≤ latest r
+  pub told : (stop : ℕ) → stop < 200 → Told t source minute stop (ready work stop)
+  -- no ride that leaves at a row below i lands earlier than told
+  pub no-earlier :
+      (r : Ride) → IsRide t r → r .leave < i → (m : ℕ) → Reached t source minute (r .from) m → m ≤ r .departs
+      → ready work (r .to) ≤ latest r
   pub underway : (trip : ℕ) → trip < 2000 → (aboard work trip ≡ 0 → ⊥) → Underway t source minute i trip
   pub not-underway : (trip : ℕ) → trip < 2000 → aboard work trip ≡ 0 → Underway t source minute i trip → ⊥
 
 -- a stop's cell is the least minute from which on one can be there
 pub record Found (t : Timetable) (source minute stop cell : ℕ) : Type 0 where
-  pub so : (cell ≡ missing) ⊎ Reached t source minute stop cell
+  pub told : Told t source minute stop cell
   pub least : (m : ℕ) → Reached t source minute stop m → cell ≤ m
 
 -- only the cells of trips and stops were touched

@@ -1,5 +1,5 @@
 -- `journeys::board` meets its contract: a line for each return. Assumes nothing.
-use mathlib.Core.Path.{sym, subst, _∙_}
+use mathlib.Core.Path.{sym, _∙_}
 use Rattle.journeys.specs.Cells.{already}
 use Rattle.journeys.proofs.Returns.{boards-now, misses-now}
 use borrow.Author.Needs.{needs}
@@ -45,12 +45,14 @@ same-length c = search needs
 returns-2 : tie.Need-returns-2
 returns-2 c =
     let a = c .before .before .before .before .before .before .before .before .before .args in
-    boards-now (a .row) (a .work .now) (c .before .before .number .ensures .0) (sym (c .before .opens .ensures) ∙ c .if2 .taken)
+    boards-now (a .row) (a .work .now) (c .before .before .number .ensures .0)
+    (sym (c .before .opens .ensures) ∙ c .if2 .taken)
 
 returns-3 : tie.Need-returns-3
 returns-3 c =
     let a = c .before .before .before .before .before .before .before .before .before .args in
-    misses-now (a .row) (a .work .now) (c .before .before .before .before .if1 .left) (c .before .before .number .ensures .0) (sym (c .before .opens .ensures) ∙ c .if2 .left)
+    misses-now (a .row) (a .work .now) (c .before .before .before .before .if1 .left) (c .before .before .number .ensures .0)
+    (sym (c .before .opens .ensures) ∙ c .if2 .left)
 
 pub board-spec : {M : Type 1} → statement M
 board-spec =

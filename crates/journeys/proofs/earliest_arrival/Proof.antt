@@ -1,8 +1,9 @@
 -- `journeys::earliest_arrival` meets its contract: blank cells, then the sweep. Assumes nothing.
 use native.Mathlib.Omega.{arith}
 use Rattle.journeys.specs.Swept.{SameBehind}
-use Rattle.journeys.proofs.Start.{blank-length, start-behind}
-use Rattle.journeys.proofs.Answer.{answer-behind, answer-earliest}
+use Rattle.journeys.proofs.Steps.{behind-both}
+use Rattle.journeys.proofs.Start.{Blank, blanked, start-behind, set-out}
+use Rattle.journeys.proofs.Answer.{answer-earliest}
 use borrow.Author.Needs.{needs}
 use Rattle.journeys.proofs.earliest_arrival.Statement.{statement}
 use Rattle.journeys.proofs.earliest_arrival.Tie as tie
@@ -25,18 +26,25 @@ mul-work c = search needs
 slice-write-work : tie.Need-slice-write-work
 slice-write-work c = search needs
 
+-- the places on the way: the entry, and where the sweep starts
+abbrev entry : tie.After-sail-until-arg → tie.Start
+entry c = c .before .before .before .before .before .before .before .before .before .before .before .before .before
+
+abbrev sweep : tie.After-slice-known5 → tie.After-sail-until-arg
+sweep c = c .before .before .before .before
+
+blank : (c : tie.After-sail-until-arg) → Blank (entry c .args .work .now) (c .before .before .before .before .fill2 .last .0)
+blank c = blanked (entry c .pre .7) (c .before .before .before .before .before .before .before .before .fill .ensures) (c .before .before .before .before .fill2 .ensures)
+
 sail-until-requires : tie.Need-sail-until-requires
 sail-until-requires c κs =
-    let a = c .before .before .before .before .before .before .before .before .before .before .before .before .before in (
+    let a = entry c in
+    let start = start-behind (blank c) (a .args .source) (a .pre .2) (c .before .cell .ensures) in (
       a .pre .0,
       a .pre .1,
       a .pre .3,
       omega (arith, a .pre .6 .inside, a .pre .0 .rows-count),
-      omega (
-        arith,
-        start-behind (a .args .work .now) (c .before .before .before .before .before .before .before .before .fill .last .0) (c .before .before .before .before .fill2 .last .0) (a .pre .7) (c .before .before .before .before .before .before .before .before .fill .ensures) (c .before .before .before .before .fill2 .ensures)
-            (a .args .source) (a .pre .2) (c .before .cell .ensures) .same-length,
-      ),
+      omega (arith, a .pre .7, start .same-length),
     )
 
 add-result : tie.Need-add-result
@@ -46,24 +54,28 @@ mul-result : tie.Need-mul-result
 mul-result c = search needs
 
 -- only the cells of trips and stops were touched
-behind : (c : tie.After-slice-known5) → SameBehind (c .before .before .before .before .before .before .before .before .before .before .before .before .before .before .before .before .before .args .work .now) (c .before .before .before .sail-until .last .1 .1 .1 .1 .1 .0)
+behind :
+    (c : tie.After-slice-known5) → SameBehind (entry (sweep c) .args .work .now) (c .before .before .before .sail-until .last .1 .1 .1 .1 .1 .0)
 behind c =
-    let a = c .before .before .before .before .before .before .before .before .before .before .before .before .before .before .before .before .before in
-    answer-behind (a .args .work .now) (c .before .before .before .before .before .before .before .before .before .before .before .before .fill .last .0) (c .before .before .before .before .before .before .before .before .fill2 .last .0) (a .pre .7) (c .before .before .before .before .before .before .before .before .before .before .before .before .fill .ensures) (c .before .before .before .before .before .before .before .before .fill2 .ensures)
-    (a .args .source) (a .pre .2) (c .before .before .before .before .before .cell .ensures) (c .before .before .before .sail-until .ensures .0)
+    let a = entry (sweep c) in
+    behind-both (start-behind (blank (sweep c)) (a .args .source) (a .pre .2) (sweep c .before .cell .ensures))
+    (c .before .before .before .sail-until .ensures .0)
 
 slice-read-result : tie.Need-slice-read-result
-slice-read-result c = omega (arith, c .before .before .before .before .before .before .before .before .before .before .before .before .before .before .before .before .before .pre .3, c .before .before .before .before .before .before .before .before .before .before .before .before .before .before .before .before .before .pre .7, behind c .same-length)
+slice-read-result c =
+    let a = entry (sweep c) in
+    omega (arith, a .pre .3, a .pre .7, behind c .same-length)
 
 same-length : tie.Need-same-length
 same-length c = behind c .same-length
 
 returns : tie.Need-returns
 returns c =
-    let a = c .before .before .before .before .before .before .before .before .before .before .before .before .before .before .before .before .before in (
-      answer-earliest (a .args .work .now) (c .before .before .before .before .before .before .before .before .before .before .before .before .fill .last .0) (c .before .before .before .before .before .before .before .before .fill2 .last .0) (a .pre .7) (c .before .before .before .before .before .before .before .before .before .before .before .before .fill .ensures) (c .before .before .before .before .before .before .before .before .fill2 .ensures)
-          (a .args .source) (a .pre .2) (c .before .before .before .before .before .cell .ensures) (a .args .file .now) (a .args .s) (a .pre .0) (a .args .target) (a .args .first) (a .pre .4) (a .pre .5) (a .pre .6)
-          (c .before .before .before .sail-until .ensures .1 (a .args .source) (a .args .minute)),
+    let a = entry (sweep c) in
+    let out = set-out (blank (sweep c)) (a .args .source) (a .pre .2) (sweep c .before .cell .ensures) in
+    let found = c .before .before .before .sail-until .ensures .1 (a .args .source) (a .args .minute) in (
+      answer-earliest (a .args .file .now) (a .args .s) (a .pre .0) (a .args .source) (a .args .target) (a .args .minute) (a .args .first)
+          (a .pre .4) (a .pre .5) (a .pre .6) out found,
       behind c .same-length,
       behind c .same-cells,
     )

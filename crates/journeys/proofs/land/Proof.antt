@@ -26,7 +26,8 @@ shared-slice-read-landing c = search needs
 add-landing-2 : tie.Need-add-landing-2
 add-landing-2 c =
     let a = c .before .before .before .before .before .before in
-    fits-under w32 _ 65536 (landing-below (landing-computed (a .args .tables .now) (a .args .row) (c .before .cell .ensures)) (a .pre .0 .lands)) tt
+    let landing = landing-computed (a .args .tables .now) (a .args .row) (c .before .cell .ensures) in
+    fits-under w32 _ 65536 (landing-below landing (a .pre .0 .lands)) tt
 
 mul-if1 : tie.Need-mul-if1
 mul-if1 c = search needs
@@ -37,7 +38,8 @@ slice-read-if1 c = search needs
 returns : tie.Need-returns
 returns c =
     let a = c .before .before .before .before .before .before .before .before .args in
-    landed-no-sooner (a .row .land) (a .work .now) (landing-computed (a .tables .now) (a .row) (c .before .before .before .cell .ensures)) (c .if1 .taken)
+    let landing = landing-computed (a .tables .now) (a .row) (c .before .before .before .cell .ensures) in
+    landed-no-sooner (a .row .land) (a .work .now) landing (c .if1 .taken)
 
 mul-work : tie.Need-mul-work
 mul-work c = search needs
@@ -51,7 +53,8 @@ same-length c = search needs
 returns-2 : tie.Need-returns-2
 returns-2 c =
     let a = c .before .before .before .before .before .before .before .before .args in
-    landed-sooner (a .row .land) (a .work .now) (landing-computed (a .tables .now) (a .row) (c .before .before .before .cell .ensures)) (c .if1 .left)
+    let landing = landing-computed (a .tables .now) (a .row) (c .before .before .before .cell .ensures) in
+    landed-sooner (a .row .land) (a .work .now) landing (c .if1 .left)
 
 pub land-spec : {M : Type 1} → statement M
 land-spec =

@@ -1,7 +1,6 @@
 -- `journeys::sail` meets its contract. Assumes nothing.
-use mathlib.Core.Bool.{true, false}
 use borrow.Author.Tests.{not-true, not-false}
-use mathlib.Core.Path.{sym, subst, _∙_}
+use mathlib.Core.Path.{subst}
 use Rattle.journeys.specs.Cells.{Boarded, missed, sailed}
 use borrow.Author.Needs.{needs}
 use Rattle.journeys.proofs.sail.Statement.{statement}
@@ -16,7 +15,8 @@ same-length c = search needs
 returns : tie.Need-returns
 returns c =
     let a = c .before .before .before .before .before .before .before .args in
-    missed (subst (λ b. Boarded (a .row) (a .work .now) (c .before .before .before .board .last .1 .0) b) (not-true _ (c .if1 .taken)) (c .before .before .before .board .ensures))
+    let b = c .before .before .before .board in
+    missed (subst (λ on. Boarded (a .row) (a .work .now) (b .last .1 .0) on) (not-true _ (c .if1 .taken)) (b .ensures))
 
 land-requires : tie.Need-land-requires
 land-requires c κs = search needs
@@ -27,7 +27,10 @@ same-length-2 c = search needs
 returns-2 : tie.Need-returns-2
 returns-2 c =
     let a = c .before .before .before .before .before .before .before .before .before .before .before .args in
-    sailed (subst (λ b. Boarded (a .row) (a .work .now) (c .before .before .before .before .before .before .before .board .last .1 .0) b) (not-false _ (c .before .before .before .before .if1 .left)) (c .before .before .before .before .before .before .before .board .ensures)) (c .before .before .land .ensures)
+    let b = c .before .before .before .before .before .before .before .board in
+    let test = c .before .before .before .before .if1 in
+    sailed (subst (λ on. Boarded (a .row) (a .work .now) (b .last .1 .0) on) (not-false _ (test .left)) (b .ensures))
+    (c .before .before .land .ensures)
 
 pub sail-spec : {M : Type 1} → statement M
 sail-spec =

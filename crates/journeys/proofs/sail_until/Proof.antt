@@ -49,8 +49,9 @@ returns c =
     let a = c .before .before .before .before .before .before .before .before .before .before .before in
     let l = c .before .before .before .before .before .before .before .loop in (
       l .inv .2,
-      λ source minute sw. stops-there (a .args .file .now) (a .args .s) (a .pre .0) (l .i) (omega arith) (c .before .before .before .before .nth-row .ensures .0) (a .args .target) (a .pre .2)
-          (l .work) (c .before .before .number .ensures .0) (sym (c .before .opens .ensures) ∙ c .if2 .taken) source minute (l .inv .3 source minute sw),
+      λ source minute sw. stops-there (a .args .file .now) (a .args .s) (a .pre .0) (l .i) (omega arith)
+          (c .before .before .before .before .nth-row .ensures .0) (a .args .target) (a .pre .2) (l .work) (c .before .before .number .ensures .0)
+          (sym (c .before .opens .ensures) ∙ c .if2 .taken) source minute (l .inv .3 source minute sw),
     )
 
 sail-requires : tie.Need-sail-requires Inv-loop μ-loop
@@ -70,12 +71,14 @@ loop-again : tie.Need-loop-again Inv-loop μ-loop
 loop-again c =
     let a = c .before .before .before .before .before .before .before .before .before .before .before .before .before .before .before in
     let l = c .before .before .before .before .before .before .before .before .before .before .before .loop in
-    let read = c .before .before .before .before .before .before .before .before .nth-row .ensures .0 in (
+    let as-filed = c .before .before .before .before .before .before .before .before .nth-row .ensures .0 in (
       omega arith,
       omega arith,
-      row-behind (a .args .file .now) (a .args .s) (a .pre .0) (a .args .tables .now) (a .pre .1) (l .i) (omega arith) read (c .before .before .sail .ensures) (l .inv .2),
-      λ source minute sw. row-swept (a .args .file .now) (a .args .s) (a .pre .0) (a .args .tables .now) (a .pre .1) (l .i) (omega arith) read (c .before .before .sail .ensures)
-          (omega (arith, l .inv .2 .same-length)) source minute (l .inv .3 source minute sw),
+      row-behind (a .args .file .now) (a .args .s) (a .pre .0) (a .args .tables .now) (a .pre .1) (l .i) (omega arith) as-filed
+          (c .before .before .sail .ensures) (l .inv .2),
+      λ source minute sw. row-swept (a .args .file .now) (a .args .s) (a .pre .0) (a .args .tables .now) (a .pre .1) (l .i)
+          (omega arith) as-filed (c .before .before .sail .ensures) (omega (arith, l .inv .2 .same-length)) source minute
+          (l .inv .3 source minute sw),
     )
 
 same-length-2 : tie.Need-same-length-2 Inv-loop μ-loop
@@ -86,8 +89,8 @@ returns-2 c =
     let a = c .before .before .before .before .before .before in
     let l = c .before .before .loop in (
       l .inv .2,
-      λ source minute sw. ends-there (a .args .file .now) (a .args .s) (a .pre .0) (l .i) (omega arith) (a .args .target) (a .pre .2) (l .work) source minute
-          (l .inv .3 source minute sw),
+      λ source minute sw. ends-there (a .args .file .now) (a .args .s) (a .pre .0) (l .i) (omega arith) (a .args .target) (a .pre .2)
+          (l .work) source minute (l .inv .3 source minute sw),
     )
 
 pub sail-until-spec : {M : Type 1} → statement M
