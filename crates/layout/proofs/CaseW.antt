@@ -9,8 +9,9 @@ use Rattle.timetable.specs.Rows.{ownRule, departureRule, lastOfTrip, follows, t
 use Rattle.timetable.proofs.Pinned.{row}
 use Rattle.layout.specs.declared.Checked.the-variants.{Sound, Refused}
 use Rattle.layout.specs.Format.{versionOne}
-use Rattle.layout.specs.Numbers.{u16At, u32At}
+use Rattle.layout.specs.Numbers.{u16At, u32At, u16Bytes, u32Bytes}
 use Rattle.layout.specs.Decode.{trailerAt, headAt, headOf, rowAt, rowsFrom, sharesFrom, tableAt, blockEnd, tablesFrom, tablesEnd, decode}
+use Rattle.layout.specs.Encode.{rowBytes, rowsBytes, sharesBytes, tableBytes, tablesBytes, trailerBytes, encode}
 use Rattle.layout.specs.Check.{lengthRule, headRule, classVerdict, classesVerdict, sectionsJoin, joined, headVerdict, rangesOf, fileVerdict, answered, checkedAs, checked}
 
 abbrev rowsW : List ℕ
@@ -45,6 +46,11 @@ sailingsW =
 pub bytes-decoded : (length caseW ≡ 92) × (decode versionOne caseW ≡ sailingsW) × (decode versionOne tablesFirst ≡ sailingsW)
 unfolding decode trailerAt headOf headAt rowsFrom rowAt tablesFrom tableAt sharesFrom blockEnd u32At u16At
 bytes-decoded = (refl, refl, refl)
+
+-- the encoder writes them, rows first
+pub bytes-encoded : encode versionOne sailingsW ≡ caseW
+unfolding encode rowsBytes rowBytes tablesBytes tableBytes sharesBytes trailerBytes u32Bytes u16Bytes
+bytes-encoded = refl
 
 pub sound-both-ways : (checked caseW ≡ Sound 3 4 2) × (checked tablesFirst ≡ Sound 3 4 2)
 unfolding checked checkedAs answered fileVerdict headVerdict lengthRule headRule classesVerdict classVerdict joined sectionsJoin sharesRule sum

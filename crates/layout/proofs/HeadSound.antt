@@ -29,9 +29,17 @@ pub record InRange (f : Format) (s : List ℕ) (h : Head) : Type 0 where
   pub classes-least : fewestClasses ≤ h .classes
   pub classes-most : h .classes ≤ mostClasses
 
+-- one section starts at 0, the other where that one ends, and the second ends at `end` (2)
+abbrev pub Sections : (rows rowsEnd tables ends end : ℕ) → Type 0
+Sections rows rowsEnd tables ends end =
+    ((rows ≡ 0) × (tables ≡ rowsEnd) × (ends ≡ end)) ⊎ ((tables ≡ 0) × (rows ≡ ends) × (rowsEnd ≡ end))
+
 -- all that a fine head tells
 pub record HeadSound (f : Format) (s : List ℕ) : Type 0 where
   pub in-range : InRange f s (headOf f s)
+  pub sections :
+      Sections (headOf f s .rowstart) (headOf f s .rowstart + f .width * headOf f s .rows) (headOf f s .tablestart)
+      (tablesEnd s (headOf f s .tablestart) (headOf f s .classes)) (trailerAt f s)
   pub rows-inside : headOf f s .rowstart + f .width * headOf f s .rows ≤ trailerAt f s
   pub tables-inside : tablesEnd s (headOf f s .tablestart) (headOf f s .classes) ≤ trailerAt f s
   pub trailer-last : f .trailer ≤ f .shortest → trailerAt f s + f .trailer ≡ length s
@@ -72,26 +80,25 @@ three-equal a b c d x y e =
       eqb-true x y (both-right (eqb a b && eqb c d) (eqb x y) e),
     )
 
--- one section starts at 0, the other where that one ends, and the second ends at `end`
 pub joined-gives : (rows rowsEnd tables ends end : ℕ) → sectionsJoin rows rowsEnd tables ends end ≡ true
-    → ((rows ≡ 0) × (tables ≡ rowsEnd) × (ends ≡ end)) ⊎ ((tables ≡ 0) × (rows ≡ ends) × (rowsEnd ≡ end))
+    → Sections rows rowsEnd tables ends end
 unfolding sectionsJoin
 joined-gives rows rowsEnd tables ends end e =
     elim (either (eqb rows 0 && eqb tables rowsEnd && eqb ends end) (eqb tables 0 && eqb rows ends && eqb rowsEnd end) e)
     [ inl p ↦ inl (three-equal rows 0 tables rowsEnd ends end p) | inr p ↦ inr (three-equal tables 0 rows ends rowsEnd end p) ]
 
 -- joined sections lie ahead of the trailer
-sections-inside : (rows rowsEnd tables ends end : ℕ) → sectionsJoin rows rowsEnd tables ends end ≡ true → rows ≤ rowsEnd
-    → tables ≤ ends → (rowsEnd ≤ end) × (ends ≤ end)
-sections-inside rows rowsEnd tables ends end e p q =
-    elim (joined-gives rows rowsEnd tables ends end e) [ inl j ↦ (omega arith, omega arith) | inr j ↦ (omega arith, omega arith) ]
+sections-inside : (rows rowsEnd tables ends end : ℕ) → Sections rows rowsEnd tables ends end → rows ≤ rowsEnd → tables ≤ ends
+    → (rowsEnd ≤ end) × (ends ≤ end)
+sections-inside rows rowsEnd tables ends end (inl j) p q = (omega arith, omega arith)
+sections-inside rows rowsEnd tables ends end (inr j) p q = (omega arith, omega arith)
 
-joined-inside : (f : Format) (s : List ℕ) (h : Head) → joined f s h ≡ true
-    → (h .rowstart + f .width * h .rows ≤ trailerAt f s) × (tablesEnd s (h .tablestart) (h .classes) ≤ trailerAt f s)
+sections-kept : (f : Format) (s : List ℕ) (h : Head) → joined f s h ≡ true
+    → Sections (h .rowstart) (h .rowstart + f .width * h .rows) (h .tablestart) (tablesEnd s (h .tablestart) (h .classes)) (trailerAt f s)
 unfolding joined
-joined-inside f s h e =
-    sections-inside (h .rowstart) (h .rowstart + f .width * h .rows) (h .tablestart) (tablesEnd s (h .tablestart) (h .classes))
-    (trailerAt f s) e (omega arith) (tables-forward s (h .tablestart) (h .classes))
+sections-kept f s h e =
+    joined-gives (h .rowstart) (h .rowstart + f .width * h .rows) (h .tablestart) (tablesEnd s (h .tablestart) (h .classes))
+    (trailerAt f s) e
 
 trailer-ends : (f : Format) (s : List ℕ) → f .trailer ≤ length s → trailerAt f s + f .trailer ≡ length s
 unfolding trailerAt
@@ -126,9 +133,14 @@ head-gives f s e =
     let h = headOf f s in
     let tests = head-tests f s e in
     let range = range-gives f s h (tests .0) (tests .1) in
-    let inside = joined-inside f s h (tests .3) in
+    let sections = sections-kept f s h (tests .3) in
+    let inside =
+    sections-inside (h .rowstart) (h .rowstart + f .width * h .rows) (h .tablestart) (tablesEnd s (h .tablestart) (h .classes))
+    (trailerAt f s) sections (omega arith) (tables-forward s (h .tablestart) (h .classes))
+    in
     record {
       in-range = range;
+      sections = sections;
       rows-inside = inside .0;
       tables-inside = inside .1;
       trailer-last = λ small. trailer-ends f s (omega (arith, range .not-short));

@@ -1,10 +1,8 @@
--- Laws of the sailing file: what a fine verdict tells of its bytes, what the encoder writes, and examples that pin the rules.
+-- Laws of the sailing file: what a fine verdict tells of its bytes, examples that pin the rules, and what its readers permit.
 pub mod Blocks
 pub mod FileRows
 pub mod HeadSound
 pub mod Sound
-pub mod Pinned
-pub mod CaseW
 pub mod Numbers
 pub mod Sizes
 pub mod Written
@@ -14,3 +12,8 @@ pub mod EncodeCheck
 pub mod ReadAgain
 pub mod Reencode
 pub mod Rewritten
+pub mod Pinned
+pub mod CaseW
+pub mod SoundFine
+pub mod Refusals
+pub mod Settled

@@ -51,7 +51,7 @@ pub record SoundFile (f : Format) (s : List ℕ) : Type 0 where
   -- the class of a row has a table
   pub row-shares : (i : ℕ) → i < headOf f s .rows → SharesSound f (sharesOf (decode f s .tables) (rowOf (decode f s .rows) i .class))
 
-decoded-rows : (f : Format) (s : List ℕ) → decode f s .rows ≡ rowsFrom (f .width) s (headOf f s .rowstart) (headOf f s .rows)
+pub decoded-rows : (f : Format) (s : List ℕ) → decode f s .rows ≡ rowsFrom (f .width) s (headOf f s .rowstart) (headOf f s .rows)
 unfolding decode
 decoded-rows f s = refl
 

@@ -2,7 +2,9 @@
 use Prim.Native.Nat.{ℕ, zero, suc, _+_, _*_, max}
 use mathlib.Core.Bool.{Bool, cond}
 use mathlib.Core.List.{List, [], _∷_, _++_, map}
+use mathlib.Core.Logic.{_≢_}
 use mathlib.Core.Option.{Option, none, some}
+use mathlib.Core.Path.{_≡_}
 use lib.Dec.{eqb}
 use lib.ListN.{getD, length}
 use Rattle.timetable.specs.Classes.{sum}
@@ -45,6 +47,15 @@ start q = record { stop = q .source; minute = q .minute; boarded = 0 }
 -- as many landings as the plan has rides
 unfoldable pub walked : Query → List Sailed → Standing
 walked q sailed = steps (q .target) sailed (length sailed) (start q)
+
+-- the passenger who stands there boards this ride: after some landings, short of the target, it is the first that can be boarded
+pub record Boards (target : ℕ) (sailed : List Sailed) (at : Standing) (r : Ride) : Type 0 where
+  pub landings : ℕ
+  pub delay : ℕ
+  pub short : steps target sailed landings at .stop ≢ target
+  pub first :
+      firstSailed sailed (steps target sailed landings at .stop) (steps target sailed landings at .minute)
+      ≡ some (record { ride = r; delay = delay })
 
 -- one ride with each of its delays from v on, before each way to go on
 unfoldable pub withDelays : Ride → ℕ → List ℕ → List (List Sailed) → List (List Sailed)

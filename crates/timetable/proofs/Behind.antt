@@ -27,11 +27,11 @@ behind-next back [] j h = absurd (let z : ⊥ = omega arith in z)
 behind-next back (r ∷ rows) zero h = refl
 behind-next back (r ∷ rows) (suc j) h = behind-next (r ∷ back) rows j (omega arith)
 
-last-here : (trip : ℕ) (p : Row) (back : List Row) → p .trip ≡ trip → lastOfTrip trip (p ∷ back) ≡ some p
+pub last-here : (trip : ℕ) (p : Row) (back : List Row) → p .trip ≡ trip → lastOfTrip trip (p ∷ back) ≡ some p
 unfolding lastOfTrip
 last-here trip p back e = cond-true (some p) (lastOfTrip trip back) (eq-eqb (p .trip) trip e)
 
-last-further : (trip : ℕ) (p : Row) (back : List Row) → (p .trip ≡ trip → ⊥) → lastOfTrip trip (p ∷ back) ≡ lastOfTrip trip back
+pub last-further : (trip : ℕ) (p : Row) (back : List Row) → (p .trip ≡ trip → ⊥) → lastOfTrip trip (p ∷ back) ≡ lastOfTrip trip back
 unfolding lastOfTrip
 last-further trip p back h = cond-false (some p) (lastOfTrip trip back) (ne-eqb (p .trip) trip h)
 

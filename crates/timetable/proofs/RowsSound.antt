@@ -40,7 +40,7 @@ pub record RowsSound (g : Ranges) (rows : List Row) : Type 0 where
       → ((k : ℕ) → i < k → k < j → rowOf rows k .trip ≡ rowOf rows j .trip → ⊥)
       → (rowOf rows i .land ≡ rowOf rows j .board) × (rowOf rows i .arrival ≤ rowOf rows j .departure)
 
-own-gives : (g : Ranges) (r : Row) → ownRule g r ≡ true → OwnSound g r
+pub own-gives : (g : Ranges) (r : Row) → ownRule g r ≡ true → OwnSound g r
 unfolding ownRule
 own-gives g r e =
     let board = ltb (r .board) (g .stops) in
@@ -70,10 +70,10 @@ own-gives g r e =
     }
 
 -- a row that keeps its rules, `back` behind it
-record Kept (g : Ranges) (back : List Row) (r : Row) : Type 0 where
-  own : ownRule g r ≡ true
-  departures : departureRule back r ≡ true
-  trip : tripRule back r ≡ true
+pub record Kept (g : Ranges) (back : List Row) (r : Row) : Type 0 where
+  pub own : ownRule g r ≡ true
+  pub departures : departureRule back r ≡ true
+  pub trip : tripRule back r ≡ true
 
 row-keeps : (g : Ranges) (back : List Row) (i : ℕ) (r : Row) → rowVerdict g back i r ≡ fine → Kept g back r
 unfolding rowVerdict

@@ -1,0 +1,161 @@
+-- The earliest safe arrival is the least a + M of a last ride. Uses rising departures and rows that arrive after they depart.
+use Prim.Native.Nat.{ℕ, suc, zero-le, _≤_, _<_}
+use native.Mathlib.Omega.{arith}
+use mathlib.Core.Bool.{true, cond}
+use mathlib.Core.List.{List, List·Memᴰ}
+use mathlib.Core.Logic.{_≢_}
+use mathlib.Core.Option.{Option, none, some}
+use mathlib.Core.Path.{_≡_, refl, sym, ap, subst, _∙_}
+use lib.Dec.{eqb}
+use lib.ListN.{length}
+use borrow.Author.Tests.{eqb-true, eqb-false, eq-eqb, ne-eqb}
+use Rattle.laws.proofs.Options.{absent, same-thing}
+use Rattle.laws.proofs.Tests.{ifb, T-true, true-T, cond-true, cond-false}
+use Rattle.timetable.specs.Timetable.{Timetable, rowOf}
+use Rattle.plans.specs.Sound.{Timely}
+use Rattle.plans.specs.declared.Query.{Query}
+use Rattle.plans.specs.Rides.{Ride, IsRide, latest, boards}
+use Rattle.plans.specs.Journeys.{Onward, leaves, changes, Journey, IsEarliest}
+use Rattle.plans.specs.Worth.{Valued, firstOpen}
+use Rattle.plans.specs.Chosen.{GettingOff, offInMinutes, worthOf, rowRide, boardedAt}
+use Rattle.plans.specs.Plan.{earliest}
+use Rattle.plans.proofs.Open.{boards-stop, boards-minute, found-member, found-boards}
+use Rattle.plans.proofs.AtMost.{AtMost, raised, found-at-most, worth-at-most}
+use Rattle.plans.proofs.FromRow.{chosenFrom, bestAt, offAt, chosen-all}
+use Rattle.plans.proofs.BestRides.{best-boards, row-is-ride, boarded-earlier, each-best, chosen-picked}
+use Rattle.plans.proofs.Staying.{AsLanded, ride-at-most}
+use Rattle.plans.proofs.RideMinutes.{departs-before, boards-behind, ride-first}
+
+pub worth-is : (o : Option Valued) {w : ℕ} → worthOf o ≡ some w → (v : Valued) × (o ≡ some v) × (v .worth ≡ w)
+unfolding worthOf
+worth-is none e = absent e
+worth-is (some v) e = (v, refl, same-thing e)
+
+minutes-landed : (target : ℕ) → AsLanded (offInMinutes target)
+unfolding offInMinutes
+minutes-landed target i row r behind = refl
+
+minutes-at-target : (target : ℕ) (r : Ride) (behind : List Valued) → r .to ≡ target → offInMinutes target r behind ≡ some (latest r)
+unfolding offInMinutes
+minutes-at-target target r behind e = cond-true (some (latest r)) (worthOf (firstOpen behind (r .to) (latest r))) (eq-eqb (r .to) target e)
+
+minutes-elsewhere :
+    (target : ℕ) (r : Ride) (behind : List Valued) → (r .to ≡ target → ⊥) → (u : Valued) → firstOpen behind (r .to) (latest r) ≡ some u
+    → offInMinutes target r behind ≡ some (u .worth)
+unfolding offInMinutes worthOf
+minutes-elsewhere target r behind away u e =
+    cond-false (some (latest r)) (worthOf (firstOpen behind (r .to) (latest r))) (ne-eqb (r .to) target away) ∙ ap worthOf e
+
+pub worth-of : (v : Valued) → worthOf (some v) ≡ some (v .worth)
+unfolding worthOf
+worth-of v = refl
+
+module _ (t : Timetable) (target : ℕ) where
+  pub onward-ride : {r : Ride} {end : ℕ} → Onward t target r end → IsRide t r
+  onward-ride (leaves is e) = is
+  onward-ride (changes is b on) = is
+
+  -- boarded earlier on its trip, it still goes on
+  onward-earlier : (i : ℕ) {r : Ride} {end : ℕ} → Onward t target r end → IsRide t (boardedAt i (rowOf (t .rows) i) r) → Onward t target (boardedAt i (rowOf (t .rows) i) r) end
+  onward-earlier i (leaves is e) is' = leaves is' e
+  onward-earlier i (changes is b on) is' = changes is' b on
+
+  -- each best ride, in minutes, begins a safe journey that ends then
+  minutes-off :
+      (i : ℕ) → i < length (t .rows) → ((u : Valued) → List·Memᴰ u (chosenFrom (offInMinutes target) target t (suc i)) → Onward t target (u .ride) (u .worth)) → (w : ℕ)
+      → offAt (offInMinutes target) target t i ≡ some w → Onward t target (rowRide (t .tables) i (rowOf (t .rows) i)) w
+  unfolding offAt offInMinutes
+  minutes-off i h behind w e =
+      ifb (λ b. eqb (r .to) target ≡ b → cond b (some (latest r)) (worthOf (firstOpen later (r .to) (latest r))) ≡ some w → Onward t target r w) (eqb (r .to) target)
+      (λ q _ k. subst (λ x. Onward t target r x) (same-thing k) (leaves (row-is-ride (offInMinutes target) target t i h) (eqb-true (r .to) target q)))
+      (λ _ _ k. let found = worth-is (firstOpen later (r .to) (latest r)) k in
+      changes {next = found .0 .ride} (row-is-ride (offInMinutes target) target t i h) (true-T (found-boards later (r .to) (latest r) (found .1)))
+      (subst (λ x. Onward t target (found .0 .ride) x) (found .2) (behind (found .0) (found-member later (r .to) (latest r) (found .1))))) refl e
+    where
+      r : Ride
+      r = rowRide (t .tables) i (rowOf (t .rows) i)
+
+      later : List Valued
+      later = chosenFrom (offInMinutes target) target t (suc i)
+
+  pub minutes-onward :
+      (i : ℕ) → i < length (t .rows) → (v : Valued) → bestAt (offInMinutes target) target t i ≡ some v → Onward t target (v .ride) (v .worth)
+  minutes-onward =
+      each-best (offInMinutes target) target t (λ v. Onward t target (v .ride) (v .worth)) minutes-off
+      (λ i j a b s u e on. onward-earlier i on (boarded-earlier (offInMinutes target) target t i j a s (u .ride) (best-boards (offInMinutes target) target t j b u e .row) (onward-ride on)))
+
+  module _ (timely : Timely t) where
+    pub onward-after : {r : Ride} {end : ℕ} → Onward t target r end → r .departs < end
+    onward-after (leaves {r} is e) = let a : r .departs < r .arrives = departs-before t timely r is in omega arith
+    onward-after (changes {r} {next} {end} is b on) =
+        let a : r .departs < r .arrives = departs-before t timely r is in
+        let c : latest r ≤ next .departs = boards-minute next (r .to) (latest r) (T-true b) in
+        let d : next .departs < end = onward-after on in
+        omega arith
+
+    -- the row where a safe journey boards has a best ride, in minutes, that ends no later
+    pub minutes-least : {r : Ride} {end : ℕ} → Onward t target r end → AtMost (bestAt (offInMinutes target) target t (r .board)) end
+    minutes-least (leaves {r} is e) = ride-at-most (offInMinutes target) target t r is (minutes-landed target) (latest r) (minutes-at-target target r _ e)
+    minutes-least (changes {r} {next} {end} is b on) =
+        let late : latest r ≤ next .departs = boards-minute next (r .to) (latest r) (T-true b) in
+        ifb (λ b. eqb (r .to) target ≡ b → AtMost (bestAt (offInMinutes target) target t (r .board)) end) (eqb (r .to) target)
+        (λ q _. raised (ride-at-most (offInMinutes target) target t r is (minutes-landed target) (latest r) (minutes-at-target target r _ (eqb-true (r .to) target q)))
+        (let d : next .departs < end = onward-after on in let z : latest r ≤ end = omega arith in z))
+        (λ q _. found-at-most (AtMost (bestAt (offInMinutes target) target t (r .board)) end)
+        (ride-first t timely (offInMinutes target) target (suc (r .leave)) next (onward-ride on) (boards-behind t timely r next is (onward-ride on) (omega arith))
+        (r .to) (latest r) end (T-true b) (eqb-false (r .to) target q) (minutes-least on))
+        (λ u e h. raised (ride-at-most (offInMinutes target) target t r is (minutes-landed target) (u .worth)
+        (minutes-elsewhere target r _ (eqb-false (r .to) target q) u e)) h)) refl
+
+    pub journey-least :
+        (s m : ℕ) → s ≢ target → (r : Ride) {end : ℕ} → boards r s m ≡ true → Onward t target r end
+        → AtMost (firstOpen (chosenFrom (offInMinutes target) target t 0) s m) end
+    journey-least s m elsewhere r {end} b on = ride-first t timely (offInMinutes target) target 0 r (onward-ride on) zero-le s m end b elsewhere (minutes-least on)
+
+-- who stands at the target has nothing chosen to board
+pub chosen-away : (off : GettingOff) (target : ℕ) (t : Timetable) (s m : ℕ) {v : Valued} → firstOpen (chosenFrom off target t 0) s m ≡ some v → s ≢ target
+chosen-away off target t s m {v} e q =
+    chosen-picked off target t 0 zero-le v (found-member _ s m e) .elsewhere (boards-stop (v .ride) s m (found-boards _ s m e) ∙ q)
+
+module _ (t : Timetable) (timely : Timely t) (q : Query) where
+  first-row : Option Valued
+  first-row = firstOpen (chosenFrom (offInMinutes (q .target)) (q .target) t 0) (q .source) (q .minute)
+
+  earliest-first : earliest t q ≡ worthOf first-row
+  unfolding earliest first-row
+  earliest-first = ap (λ (l : List Valued). worthOf (firstOpen l (q .source) (q .minute))) (chosen-all (offInMinutes (q .target)) (q .target) t)
+
+  -- the first chosen row begins a journey, and none ends earlier
+  first-reaches : (v : Valued) → first-row ≡ some v → Journey t q (v .worth)
+  unfolding first-row
+  first-reaches v e =
+      let p = chosen-picked (offInMinutes (q .target)) (q .target) t 0 zero-le v (found-member _ (q .source) (q .minute) e) in
+      record {
+        first = v .ride;
+        in-time = true-T (found-boards _ (q .source) (q .minute) e);
+        onward = minutes-onward t (q .target) (v .ride .board) (p .inside) v (p .best);
+      }
+
+  journey-first : q .source ≢ q .target → (end : ℕ) → Journey t q end → AtMost first-row end
+  unfolding first-row
+  journey-first apart end j = journey-least t (q .target) timely (q .source) (q .minute) apart (j .first) (T-true (j .in-time)) (j .onward)
+
+  first-apart : (v : Valued) → first-row ≡ some v → q .source ≢ q .target
+  unfolding first-row
+  first-apart v e = chosen-away (offInMinutes (q .target)) (q .target) t (q .source) (q .minute) e
+
+  -- the earliest safe arrival is reached, and is the least
+  pub earliest-is-least : (e : ℕ) → earliest t q ≡ some e → IsEarliest t q e
+  earliest-is-least e h =
+      let found = worth-is first-row (sym earliest-first ∙ h) in
+      record {
+        reached = subst (λ k. Journey t q k) (found .2) (first-reaches (found .0) (found .1));
+        least =
+            λ end j. subst (λ k. k ≤ end) (found .2)
+            (worth-at-most (journey-first (first-apart (found .0) (found .1)) end j) (found .0) (found .1));
+      }
+
+  -- where there is none, there is no safe journey
+  pub no-earliest : q .source ≢ q .target → earliest t q ≡ none → (end : ℕ) → Journey t q end → ⊥
+  no-earliest apart h end j =
+      found-at-most ⊥ (journey-first apart end j) (λ v e _. absent {a = v .worth} (sym h ∙ earliest-first ∙ ap worthOf e ∙ worth-of v))

@@ -1,0 +1,59 @@
+-- Document 01, "Numbers returned on refusal": each fault's place is its class for 3, its row for 4 and 5, otherwise 0. Assumes nothing.
+use Prim.Native.Nat.{ℕ, suc, _+_, _≤_, _<_}
+use mathlib.Core.Bool.{Bool, true, false, _&&_}
+use mathlib.Core.List.{List, [], _∷_}
+use native.Mathlib.Omega.{arith}
+use lib.ListN.{length}
+use Rattle.timetable.specs.declared.Row.{Row}
+use Rattle.timetable.specs.declared.Ranges.{Ranges}
+use Rattle.timetable.specs.Verdict.{Verdict, fine, fault, orElse, unless}
+use Rattle.timetable.specs.Rows.{ownRule, departureRule, tripRule, rowVerdict, rowsVerdict}
+
+-- a refusal's number and place, in a file of so many classes and rows
+pub data Placed (classes rows : ℕ) : ℕ → ℕ → Type 0 where
+  outside : Placed classes rows 1 0
+  unjoined : Placed classes rows 2 0
+  class : {k : ℕ} → k < classes → Placed classes rows 3 k
+  own : {i : ℕ} → i < rows → Placed classes rows 4 i
+  order : {i : ℕ} → i < rows → Placed classes rows 5 i
+
+-- a verdict that is fine or a fault at its place
+abbrev pub WellPlaced : ℕ → ℕ → Verdict → Type 0
+WellPlaced classes rows fine = Unit {0}
+WellPlaced classes rows (fault number place) = Placed classes rows number place
+
+-- a refusal of the check has a number from 1 to 5
+pub number-small : {classes rows number place : ℕ} → Placed classes rows number place → (1 ≤ number) × (number ≤ 5)
+number-small outside = (omega arith, omega arith)
+number-small unjoined = (omega arith, omega arith)
+number-small (class h) = (omega arith, omega arith)
+number-small (own h) = (omega arith, omega arith)
+number-small (order h) = (omega arith, omega arith)
+
+-- no place is past the classes and the rows
+pub place-small : {classes rows number place : ℕ} → Placed classes rows number place → place ≤ classes + rows
+place-small outside = omega arith
+place-small unjoined = omega arith
+place-small (class h) = omega arith
+place-small (own h) = omega arith
+place-small (order h) = omega arith
+
+pub one-of-two-placed : (classes rows : ℕ) (v w : Verdict) → WellPlaced classes rows v → WellPlaced classes rows w
+    → WellPlaced classes rows (orElse v w)
+one-of-two-placed classes rows fine w p q = q
+one-of-two-placed classes rows (fault number place) w p q = p
+
+pub rule-placed : {classes rows number place : ℕ} (b : Bool) → Placed classes rows number place
+    → WellPlaced classes rows (unless b number place)
+rule-placed true p = tt
+rule-placed false p = p
+
+pub rows-placed : (classes n : ℕ) (g : Ranges) (back : List Row) (i : ℕ) (rows : List Row) → i + length rows ≤ n
+    → WellPlaced classes n (rowsVerdict g back i rows)
+unfolding rowsVerdict rowVerdict
+rows-placed classes n g back i [] h = tt
+rows-placed classes n g back i (r ∷ rows) h =
+    let rule = departureRule back r && tripRule back r in
+    one-of-two-placed classes n (orElse (unless (ownRule g r) 4 i) (unless rule 5 i)) (rowsVerdict g (r ∷ back) (suc i) rows)
+    (one-of-two-placed classes n (unless (ownRule g r) 4 i) (unless rule 5 i) (rule-placed (ownRule g r) (own (omega arith)))
+    (rule-placed rule (order (omega arith)))) (rows-placed classes n g (r ∷ back) (suc i) rows (omega arith))
