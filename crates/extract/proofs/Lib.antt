@@ -1,2 +1,4 @@
 -- Laws of writing the plan.
 pub mod Passing
+pub mod Laid
+pub mod Going
