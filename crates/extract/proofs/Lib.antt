@@ -2,3 +2,5 @@
 pub mod Passing
 pub mod Laid
 pub mod Going
+pub mod Timed
+pub mod Kept
