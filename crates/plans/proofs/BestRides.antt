@@ -63,7 +63,8 @@ module _ (off : GettingOff) (target : ℕ) (t : Timetable) where
       downward (λ i. (u : Valued) → nextFrom off target t i trip ≡ some u → FirstOf trip i u) (length (t .rows))
       (λ u e. absent (sym (next-end off target t trip) ∙ e))
       (λ i h further u e.
-      ifb (λ b. eqb (rowOf (t .rows) i .trip) trip ≡ b → cond b (bestAt off target t i) (nextFrom off target t (suc i) trip) ≡ some u → FirstOf trip i u)
+      ifb (λ b. eqb (rowOf (t .rows) i .trip) trip ≡ b → cond b (bestAt off target t i) (nextFrom off target t (suc i) trip) ≡ some u
+      → FirstOf trip i u)
       (eqb (rowOf (t .rows) i .trip) trip) (λ q _ k. first-here trip i u h (eqb-true (rowOf (t .rows) i .trip) trip q) k)
       (λ q _ k. first-later trip i u (eqb-false (rowOf (t .rows) i .trip) trip q) (further u k)) refl
       (sym (next-row off target t i trip h) ∙ e))
@@ -87,7 +88,8 @@ module _ (off : GettingOff) (target : ℕ) (t : Timetable) where
       (stays {u = u} (record { later = next .later; inside = next .inside; one-trip = next .one-trip; first = next .first }) (next .best))
 
   dearer-on :
-      (i w : ℕ) (o : Option Valued) → ((x : Valued) → stayOn i (rowOf (t .rows) i) o ≡ some x → w < x .worth) → (u : Valued) → o ≡ some u → w < u .worth
+      (i w : ℕ) (o : Option Valued) → ((x : Valued) → stayOn i (rowOf (t .rows) i) o ≡ some x → w < x .worth) → (u : Valued) → o ≡ some u
+      → w < u .worth
   unfolding stayOn
   dearer-on i w o dearer u e =
       dearer (record { ride = boardedAt i (rowOf (t .rows) i) (u .ride); worth = u .worth }) (ap (stayOn i (rowOf (t .rows) i)) e)
@@ -121,7 +123,13 @@ module _ (off : GettingOff) (target : ℕ) (t : Timetable) where
 
   picked-later : (i : ℕ) (v : Valued) → Picked (suc i) v → Picked i v
   picked-later i v p =
-      record { here = (let z : i ≤ v .ride .board = omega (arith, p .here) in z); inside = p .inside; best = p .best; elsewhere = p .elsewhere; leading = p .leading }
+      record {
+        here = (let z : i ≤ v .ride .board = omega (arith, p .here) in z);
+        inside = p .inside;
+        best = p .best;
+        elsewhere = p .elsewhere;
+        leading = p .leading;
+      }
 
   picked-here :
       (i : ℕ) → i < length (t .rows) → (v : Valued) → bestAt off target t i ≡ some v → v .ride .from ≢ target
@@ -158,15 +166,19 @@ module _ (off : GettingOff) (target : ℕ) (t : Timetable) where
   -- what holds of getting off, given that it holds of the chosen rides behind, and of staying on, holds of each best ride
   pub each-best :
       (P : Valued → Type 0)
-      → ((i : ℕ) → i < length (t .rows) → ((u : Valued) → List·Memᴰ u (chosenFrom off target t (suc i)) → P u) → (w : ℕ) → offAt off target t i ≡ some w
+      → ((i : ℕ) → i < length (t .rows) → ((u : Valued) → List·Memᴰ u (chosenFrom off target t (suc i)) → P u) → (w : ℕ)
+      → offAt off target t i ≡ some w
       → P (record { ride = rowRide (t .tables) i (rowOf (t .rows) i); worth = w }))
-      → ((i j : ℕ) → i < j → j < length (t .rows) → rowOf (t .rows) j .trip ≡ rowOf (t .rows) i .trip → (u : Valued) → bestAt off target t j ≡ some u → P u
+      → ((i j : ℕ) → i < j → j < length (t .rows) → rowOf (t .rows) j .trip ≡ rowOf (t .rows) i .trip → (u : Valued) → bestAt off target t j ≡ some u
+      → P u
       → P (record { ride = boardedAt i (rowOf (t .rows) i) (u .ride); worth = u .worth }))
       → (i : ℕ) → i < length (t .rows) → (v : Valued) → bestAt off target t i ≡ some v → P v
   each-best P gets-off stays-on =
-      from-greater (λ i. (v : Valued) → bestAt off target t i ≡ some v → P v) (length (t .rows)) (λ i h all v e. at-row i h all v (best-source i h v e))
+      from-greater (λ i. (v : Valued) → bestAt off target t i ≡ some v → P v) (length (t .rows))
+      (λ i h all v e. at-row i h all v (best-source i h v e))
     where
-      at-row : (i : ℕ) → i < length (t .rows) → ((j : ℕ) → i < j → j < length (t .rows) → (v : Valued) → bestAt off target t j ≡ some v → P v) → (v : Valued) → Source i v → P v
+      at-row : (i : ℕ) → i < length (t .rows) → ((j : ℕ) → i < j → j < length (t .rows) → (v : Valued) → bestAt off target t j ≡ some v → P v)
+          → (v : Valued) → Source i v → P v
       at-row i h all v (off-here {w = w} e dearer) =
           gets-off i h (λ u m. let p = chosen-picked (suc i) h u m in all (u .ride .board) (p .here) (p .inside) u (p .best)) w e
       at-row i h all v (stays {u = u} {j = j} next e) =
@@ -174,7 +186,8 @@ module _ (off : GettingOff) (target : ℕ) (t : Timetable) where
 
   -- a ride of a later row of the trip, boarded at row i already, is a ride
   pub boarded-earlier :
-      (i j : ℕ) → i < j → rowOf (t .rows) j .trip ≡ rowOf (t .rows) i .trip → (r : Ride) → r .board ≡ j → IsRide t r → IsRide t (boardedAt i (rowOf (t .rows) i) r)
+      (i j : ℕ) → i < j → rowOf (t .rows) j .trip ≡ rowOf (t .rows) i .trip → (r : Ride) → r .board ≡ j → IsRide t r
+      → IsRide t (boardedAt i (rowOf (t .rows) i) r)
   boarded-earlier i j before same r at is =
       record {
         onward = (let z : i ≤ r .leave = omega (arith, is .onward) in z);

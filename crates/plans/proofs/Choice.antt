@@ -39,6 +39,12 @@ choice target (some v) chosen =
 abbrev pub same-minute : Ride → Ride → Bool
 same-minute v r = eqb (v .from) (r .from) && eqb (v .departs) (r .departs)
 
+same-stop : (v r : Ride) → same-minute v r ≡ true → v .from ≡ r .from
+same-stop v r e = eqb-true (v .from) (r .from) (both-left (eqb (v .from) (r .from)) (eqb (v .departs) (r .departs)) e)
+
+same-departure : (v r : Ride) → same-minute v r ≡ true → v .departs ≡ r .departs
+same-departure v r e = eqb-true (v .departs) (r .departs) (both-right (eqb (v .from) (r .from)) (eqb (v .departs) (r .departs)) e)
+
 pub others-member : (r : Ride) (vs : List Valued) {x : Valued} → List·Memᴰ x (others r vs) → List·Memᴰ x vs
 unfolding others
 others-member r [] m = m
@@ -59,14 +65,15 @@ others-apart r (v ∷ vs) {x} m there =
     (λ n. others-apart r vs n there)) refl m
 
 pub others-kept :
-    (r : Ride) (vs : List Valued) {x : Valued} → List·Memᴰ x vs → (x .ride .from ≡ r .from → x .ride .departs ≢ r .departs) → List·Memᴰ x (others r vs)
+    (r : Ride) (vs : List Valued) {x : Valued} → List·Memᴰ x vs → (x .ride .from ≡ r .from → x .ride .departs ≢ r .departs)
+    → List·Memᴰ x (others r vs)
 unfolding others
 others-kept r [] m apart = m
 others-kept r (v ∷ vs) {x} m apart =
     ifb (λ b. same-minute (v .ride) r ≡ b → List·Memᴰ x (cond b (others r vs) (v ∷ others r vs))) (same-minute (v .ride) r)
     (λ e _. head-or-later (List·Memᴰ x (others r vs)) m
-    (λ q. absurd (apart (ap (λ (u : Valued). u .ride .from) q ∙ eqb-true (v .ride .from) (r .from) (both-left (eqb (v .ride .from) (r .from)) (eqb (v .ride .departs) (r .departs)) e))
-    (ap (λ (u : Valued). u .ride .departs) q ∙ eqb-true (v .ride .departs) (r .departs) (both-right (eqb (v .ride .from) (r .from)) (eqb (v .ride .departs) (r .departs)) e))))
+    (λ q. absurd (apart (ap (λ (u : Valued). u .ride .from) q ∙ same-stop (v .ride) r e)
+    (ap (λ (u : Valued). u .ride .departs) q ∙ same-departure (v .ride) r e)))
     (λ n. others-kept r vs n apart))
     (λ _ _. head-or-later (List·Memᴰ x (v ∷ others r vs)) m (λ q. List·Memᴰ·head q) (λ n. List·Memᴰ·tail (others-kept r vs n apart))) refl
 
@@ -82,5 +89,5 @@ others-first r (v ∷ vs) s m shut =
   where
     gone : same-minute (v .ride) r ≡ true → boards (v .ride) s m ≡ false
     gone e =
-        ap₂ (λ (a b : ℕ). eqb a s && leb m b) (eqb-true (v .ride .from) (r .from) (both-left (eqb (v .ride .from) (r .from)) (eqb (v .ride .departs) (r .departs)) e))
-        (eqb-true (v .ride .departs) (r .departs) (both-right (eqb (v .ride .from) (r .from)) (eqb (v .ride .departs) (r .departs)) e)) ∙ shut
+        ap₂ (λ (a b : ℕ). eqb a s && leb m b) (same-stop (v .ride) r e)
+        (same-departure (v .ride) r e) ∙ shut

@@ -21,7 +21,7 @@ use Rattle.plans.proofs.Choice.{Choice, worthless, at-target, behind, a
 use Rattle.plans.proofs.BestRides.{best-boards, best-is-ride, each-best, chosen-picked}
 use Rattle.plans.proofs.FirstLeast.{chosen-rising}
 use Rattle.plans.proofs.RideMinutes.{ride-delays, departs-before, leaves-before}
-use Rattle.plans.proofs.InTicks.{Off, arrives, goes-on, off-is, off-worth, within-earlier}
+use Rattle.plans.proofs.InTicks.{chosenInTicks, bestInTicks, Off, arrives, goes-on, off-is, off-worth, within-earlier}
 use Rattle.plans.proofs.OwnWorth.{Moves, OwnWorth, nobody, ahead-of, others-own}
 
 -- choosing a row that can't be boarded changes nothing for who would board
@@ -62,7 +62,8 @@ module _ (t : Timetable) (timely : Timely t) where
         (r : Ride) → IsRide t r → (i : ℕ) → i ≤ suc (r .leave) → (s m : ℕ) → r .arrives ≤ m
         → firstOpen (chosenFrom off target t i) s m ≡ firstOpen (chosenFrom off target t (suc (r .leave))) s m
     landing-sees r is i h s m late =
-        rows-passed (r .leave) (is .inside) s m (let z : rowOf (t .rows) (r .leave) .departure < m = omega (arith, leaves-before t timely r is) in z) i h
+        rows-passed (r .leave) (is .inside) s m
+        (let z : rowOf (t .rows) (r .leave) .departure < m = omega (arith, leaves-before t timely r is) in z) i h
 
   module _ (target bound : ℕ) where
     off-boarded : (i : ℕ) (row : Row) (r : Ride) (vs : List Valued) (w : ℕ) → Off target bound r vs w → Off target bound (boardedAt i row r) vs w
@@ -72,17 +73,17 @@ module _ (t : Timetable) (timely : Timely t) where
 
     -- each best ride gets off where its last row lands
     pub best-off :
-        (i : ℕ) → i < length (t .rows) → (v : Valued) → bestAt (offInTicks target bound) target t i ≡ some v
-        → Off target bound (v .ride) (chosenFrom (offInTicks target bound) target t (suc (v .ride .leave))) (v .worth)
+        (i : ℕ) → i < length (t .rows) → (v : Valued) → bestInTicks t target bound i ≡ some v
+        → Off target bound (v .ride) (chosenInTicks t target bound (suc (v .ride .leave))) (v .worth)
     unfolding offAt
     best-off =
         each-best (offInTicks target bound) target t
-        (λ v. Off target bound (v .ride) (chosenFrom (offInTicks target bound) target t (suc (v .ride .leave))) (v .worth)) (λ i h _ w e. off-is target bound _ _ w e)
+        (λ v. Off target bound (v .ride) (chosenInTicks t target bound (suc (v .ride .leave))) (v .worth)) (λ i h _ w e. off-is target bound _ _ w e)
         (λ i j a b s u e o. off-boarded i (rowOf (t .rows) i) (u .ride) _ (u .worth) o)
 
     -- each best ride has a + M within the bound
     pub best-within :
-        (i : ℕ) → i < length (t .rows) → (v : Valued) → bestAt (offInTicks target bound) target t i ≡ some v → within bound (latest (v .ride)) ≡ true
+        (i : ℕ) → i < length (t .rows) → (v : Valued) → bestInTicks t target bound i ≡ some v → within bound (latest (v .ride)) ≡ true
     unfolding offAt
     best-within =
         each-best (offInTicks target bound) target t (λ v. within bound (latest (v .ride)) ≡ true)
@@ -90,20 +91,21 @@ module _ (t : Timetable) (timely : Timely t) where
       where
         landing :
             (i : ℕ) → i < length (t .rows)
-            → ((u : Valued) → List·Memᴰ u (chosenFrom (offInTicks target bound) target t (suc i)) → within bound (latest (u .ride)) ≡ true) → (w : ℕ)
-            → Off target bound (rowRide (t .tables) i (rowOf (t .rows) i)) (chosenFrom (offInTicks target bound) target t (suc i)) w
+            → ((u : Valued) → List·Memᴰ u (chosenInTicks t target bound (suc i)) → within bound (latest (u .ride)) ≡ true) → (w : ℕ)
+            → Off target bound (rowRide (t .tables) i (rowOf (t .rows) i)) (chosenInTicks t target bound (suc i)) w
             → within bound (latest (rowRide (t .tables) i (rowOf (t .rows) i))) ≡ true
         landing i h later w (arrives e b) = b
         landing i h later w (goes-on {u = u} away e) =
             let there = found-member _ _ _ e in
             let p = chosen-picked (offInTicks target bound) target t (suc i) h u there in
-            let a : u .ride .departs < u .ride .arrives = departs-before t timely (u .ride) (best-is-ride (offInTicks target bound) target t (u .ride .board) (p .inside) u (p .best)) in
+            let a : u .ride .departs < u .ride .arrives = departs-before t timely (u .ride)
+            (best-is-ride (offInTicks target bound) target t (u .ride .board) (p .inside) u (p .best)) in
             within-earlier bound _ (latest (u .ride)) (omega (arith, boards-minute (u .ride) _ _ (found-boards _ _ _ e))) (later u there)
 
     -- each chosen ride is worth what those behind it give
     chosen-next :
-        (i : ℕ) → i < length (t .rows) → OwnWorth target (chosenFrom (offInTicks target bound) target t (suc i)) → (best : Option Valued) (chosen : List Valued)
-        → bestAt (offInTicks target bound) target t i ≡ best → Choice target (chosenFrom (offInTicks target bound) target t (suc i)) best chosen → OwnWorth target chosen
+        (i : ℕ) → i < length (t .rows) → OwnWorth target (chosenInTicks t target bound (suc i)) → (best : Option Valued) (chosen : List Valued)
+        → bestInTicks t target bound i ≡ best → Choice target (chosenInTicks t target bound (suc i)) best chosen → OwnWorth target chosen
     chosen-next i h own best chosen e worthless = own
     chosen-next i h own best chosen e (at-target p) = own
     chosen-next i h own best chosen e (behind p) = own
@@ -119,15 +121,17 @@ module _ (t : Timetable) (timely : Timely t) where
         ∙ landing-sees off target (v .ride) is (suc i) (omega (arith, is .onward, at .row)) (v .ride .to) m late)
         (sym (off-worth target bound (v .ride) _ (v .worth) landing)) (goes landing)
         (others-own target (v .ride) later
-        (λ x m. subst (λ k. k ≤ x .ride .departs) (sym (at .minute)) (chosen-rising off target t timely i (suc i) (let z : i ≤ suc i = omega arith in z) h x m)) own)
+        (λ x m. subst (λ k. k ≤ x .ride .departs) (sym (at .minute))
+        (chosen-rising off target t timely i (suc i) (let z : i ≤ suc i = omega arith in z) h x m)) own)
       where
-        goes : {w : ℕ} {vs : List Valued} → Off target bound (v .ride) vs w → v .ride .to ≢ target → (safe : Valued) × (firstOpen vs (v .ride .to) (latest (v .ride)) ≡ some safe)
+        goes : {w : ℕ} {vs : List Valued} → Off target bound (v .ride) vs w → v .ride .to ≢ target
+            → (safe : Valued) × (firstOpen vs (v .ride .to) (latest (v .ride)) ≡ some safe)
         goes (arrives q b) away = absurd (away q)
         goes (goes-on {u = u} _ q) away = (u, q)
 
-    pub chosen-own : (i : ℕ) → i ≤ length (t .rows) → OwnWorth target (chosenFrom (offInTicks target bound) target t i)
+    pub chosen-own : (i : ℕ) → i ≤ length (t .rows) → OwnWorth target (chosenInTicks t target bound i)
     chosen-own =
-        downward (λ i. OwnWorth target (chosenFrom (offInTicks target bound) target t i)) (length (t .rows))
+        downward (λ i. OwnWorth target (chosenInTicks t target bound i)) (length (t .rows))
         (subst (λ (l : List Valued). OwnWorth target l) (sym (chosen-end (offInTicks target bound) target t)) nobody)
         (λ i h own. subst (λ (l : List Valued). OwnWorth target l) (sym (chosen-row (offInTicks target bound) target t i h))
-        (chosen-next i h own _ _ refl (choice target (bestAt (offInTicks target bound) target t i) (chosenFrom (offInTicks target bound) target t (suc i)))))
+        (chosen-next i h own _ _ refl (choice target (bestInTicks t target bound i) (chosenInTicks t target bound (suc i)))))

@@ -61,7 +61,8 @@ module _ (t : Timetable) (timely : Timely t) (q : Query) where
 
   -- who can board a row finds a first chosen row that is worth no more
   pub first-chosen :
-      (bound i w s m : ℕ) → HasWorth t (q .target) bound i w → opens (rowOf (t .rows) i .board) (rowOf (t .rows) i .departure) s m ≡ true → s ≢ q .target
+      (bound i w s m : ℕ) → HasWorth t (q .target) bound i w → opens (rowOf (t .rows) i .board) (rowOf (t .rows) i .departure) s m ≡ true
+      → s ≢ q .target
       → (v : Valued) × (firstOpen (chosenFor t (q .target) bound) s m ≡ some v) × (v .worth ≤ w)
   first-chosen bound = first-chosen-least t (q .target) bound timely
 

@@ -56,17 +56,20 @@ module _ (t : Timetable) (target : ℕ) where
   onward-ride (changes is b on) = is
 
   -- boarded earlier on its trip, it still goes on
-  onward-earlier : (i : ℕ) {r : Ride} {end : ℕ} → Onward t target r end → IsRide t (boardedAt i (rowOf (t .rows) i) r) → Onward t target (boardedAt i (rowOf (t .rows) i) r) end
+  onward-earlier : (i : ℕ) {r : Ride} {end : ℕ} → Onward t target r end → IsRide t (boardedAt i (rowOf (t .rows) i) r)
+      → Onward t target (boardedAt i (rowOf (t .rows) i) r) end
   onward-earlier i (leaves is e) is' = leaves is' e
   onward-earlier i (changes is b on) is' = changes is' b on
 
   -- each best ride, in minutes, begins a safe journey that ends then
   minutes-off :
-      (i : ℕ) → i < length (t .rows) → ((u : Valued) → List·Memᴰ u (chosenFrom (offInMinutes target) target t (suc i)) → Onward t target (u .ride) (u .worth)) → (w : ℕ)
+      (i : ℕ) → i < length (t .rows)
+      → ((u : Valued) → List·Memᴰ u (chosenFrom (offInMinutes target) target t (suc i)) → Onward t target (u .ride) (u .worth)) → (w : ℕ)
       → offAt (offInMinutes target) target t i ≡ some w → Onward t target (rowRide (t .tables) i (rowOf (t .rows) i)) w
   unfolding offAt offInMinutes
   minutes-off i h behind w e =
-      ifb (λ b. eqb (r .to) target ≡ b → cond b (some (latest r)) (worthOf (firstOpen later (r .to) (latest r))) ≡ some w → Onward t target r w) (eqb (r .to) target)
+      ifb (λ b. eqb (r .to) target ≡ b → cond b (some (latest r)) (worthOf (firstOpen later (r .to) (latest r))) ≡ some w → Onward t target r w)
+      (eqb (r .to) target)
       (λ q _ k. subst (λ x. Onward t target r x) (same-thing k) (leaves (row-is-ride (offInMinutes target) target t i h) (eqb-true (r .to) target q)))
       (λ _ _ k. let found = worth-is (firstOpen later (r .to) (latest r)) k in
       changes {next = found .0 .ride} (row-is-ride (offInMinutes target) target t i h) (true-T (found-boards later (r .to) (latest r) (found .1)))
@@ -82,7 +85,8 @@ module _ (t : Timetable) (target : ℕ) where
       (i : ℕ) → i < length (t .rows) → (v : Valued) → bestAt (offInMinutes target) target t i ≡ some v → Onward t target (v .ride) (v .worth)
   minutes-onward =
       each-best (offInMinutes target) target t (λ v. Onward t target (v .ride) (v .worth)) minutes-off
-      (λ i j a b s u e on. onward-earlier i on (boarded-earlier (offInMinutes target) target t i j a s (u .ride) (best-boards (offInMinutes target) target t j b u e .row) (onward-ride on)))
+      (λ i j a b s u e on. onward-earlier i on
+      (boarded-earlier (offInMinutes target) target t i j a s (u .ride) (best-boards (offInMinutes target) target t j b u e .row) (onward-ride on)))
 
   module _ (timely : Timely t) where
     pub onward-after : {r : Ride} {end : ℕ} → Onward t target r end → r .departs < end
@@ -95,14 +99,17 @@ module _ (t : Timetable) (target : ℕ) where
 
     -- the row where a safe journey boards has a best ride, in minutes, that ends no later
     pub minutes-least : {r : Ride} {end : ℕ} → Onward t target r end → AtMost (bestAt (offInMinutes target) target t (r .board)) end
-    minutes-least (leaves {r} is e) = ride-at-most (offInMinutes target) target t r is (minutes-landed target) (latest r) (minutes-at-target target r _ e)
+    minutes-least (leaves {r} is e) = ride-at-most (offInMinutes target) target t r is (minutes-landed target) (latest r)
+        (minutes-at-target target r _ e)
     minutes-least (changes {r} {next} {end} is b on) =
         let late : latest r ≤ next .departs = boards-minute next (r .to) (latest r) (T-true b) in
         ifb (λ b. eqb (r .to) target ≡ b → AtMost (bestAt (offInMinutes target) target t (r .board)) end) (eqb (r .to) target)
-        (λ q _. raised (ride-at-most (offInMinutes target) target t r is (minutes-landed target) (latest r) (minutes-at-target target r _ (eqb-true (r .to) target q)))
+        (λ q _. raised (ride-at-most (offInMinutes target) target t r is (minutes-landed target) (latest r)
+        (minutes-at-target target r _ (eqb-true (r .to) target q)))
         (let d : next .departs < end = onward-after on in let z : latest r ≤ end = omega arith in z))
         (λ q _. found-at-most (AtMost (bestAt (offInMinutes target) target t (r .board)) end)
-        (ride-first t timely (offInMinutes target) target (suc (r .leave)) next (onward-ride on) (boards-behind t timely r next is (onward-ride on) (omega arith))
+        (ride-first t timely (offInMinutes target) target (suc (r .leave)) next (onward-ride on)
+        (boards-behind t timely r next is (onward-ride on) (omega arith))
         (r .to) (latest r) end (T-true b) (eqb-false (r .to) target q) (minutes-least on))
         (λ u e h. raised (ride-at-most (offInMinutes target) target t r is (minutes-landed target) (u .worth)
         (minutes-elsewhere target r _ (eqb-false (r .to) target q) u e)) h)) refl
@@ -110,10 +117,12 @@ module _ (t : Timetable) (target : ℕ) where
     pub journey-least :
         (s m : ℕ) → s ≢ target → (r : Ride) {end : ℕ} → boards r s m ≡ true → Onward t target r end
         → AtMost (firstOpen (chosenFrom (offInMinutes target) target t 0) s m) end
-    journey-least s m elsewhere r {end} b on = ride-first t timely (offInMinutes target) target 0 r (onward-ride on) zero-le s m end b elsewhere (minutes-least on)
+    journey-least s m elsewhere r {end} b on = ride-first t timely (offInMinutes target) target 0 r (onward-ride on) zero-le s m end b elsewhere
+        (minutes-least on)
 
 -- who stands at the target has nothing chosen to board
-pub chosen-away : (off : GettingOff) (target : ℕ) (t : Timetable) (s m : ℕ) {v : Valued} → firstOpen (chosenFrom off target t 0) s m ≡ some v → s ≢ target
+pub chosen-away : (off : GettingOff) (target : ℕ) (t : Timetable) (s m : ℕ) {v : Valued} → firstOpen (chosenFrom off target t 0) s m ≡ some v
+    → s ≢ target
 chosen-away off target t s m {v} e q =
     chosen-picked off target t 0 zero-le v (found-member _ s m e) .elsewhere (boards-stop (v .ride) s m (found-boards _ s m e) ∙ q)
 

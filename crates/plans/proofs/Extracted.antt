@@ -35,7 +35,8 @@ wanted-first (w ∷ ws) us r e = or-map (inWindow w r) (wanted ws r) (wanted (ws
 
 -- up to and including the one that departs last
 pub up-to-wants :
-    (stop minute : ℕ) {o : Option Valued} (last : Valued) → o ≡ some last → (r : Ride) → boards r stop minute ≡ true → r .departs ≤ last .ride .departs
+    (stop minute : ℕ) {o : Option Valued} (last : Valued) → o ≡ some last → (r : Ride) → boards r stop minute ≡ true
+    → r .departs ≤ last .ride .departs
     → wanted (upTo stop minute o) r ≡ true
 unfolding upTo wanted inWindow
 up-to-wants stop minute last e r b h =
@@ -57,7 +58,8 @@ module _ (target : ℕ) where
   extract-member [] ws m = m
   extract-member (v ∷ vs) ws {x} m =
       on-taking (List·Memᴰ x (v ∷ vs)) ws v vs
-      (λ _ h. head-or-later (List·Memᴰ x (v ∷ vs)) (subst (λ (l : List Valued). List·Memᴰ x l) h m) (λ q. List·Memᴰ·head q) (λ n. List·Memᴰ·tail (extract-member vs _ n)))
+      (λ _ h. head-or-later (List·Memᴰ x (v ∷ vs)) (subst (λ (l : List Valued). List·Memᴰ x l) h m) (λ q. List·Memᴰ·head q)
+      (λ n. List·Memᴰ·tail (extract-member vs _ n)))
       (λ _ h. List·Memᴰ·tail (extract-member vs ws (subst (λ (l : List Valued). List·Memᴰ x l) h m)))
 
   pub extract-ordered : {vs : List Valued} → Ordered vs → (ws : List Window) → Ordered (extract target ws vs)
@@ -69,7 +71,8 @@ module _ (target : ℕ) where
       (λ _ h. subst (λ (l : List Valued). Ordered l) (sym h) (extract-ordered o ws))
 
   -- what a window wants is taken
-  pub extract-wanted : (vs : List Valued) (ws : List Window) {x : Valued} → List·Memᴰ x vs → wanted ws (x .ride) ≡ true → List·Memᴰ x (extract target ws vs)
+  pub extract-wanted : (vs : List Valued) (ws : List Window) {x : Valued} → List·Memᴰ x vs → wanted ws (x .ride) ≡ true
+      → List·Memᴰ x (extract target ws vs)
   unfolding extract
   extract-wanted [] ws m e = m
   extract-wanted (v ∷ vs) ws {x} m e =
@@ -78,7 +81,8 @@ module _ (target : ℕ) where
       (head-or-later (List·Memᴰ x (v ∷ extract target (windowsOf target (v .ride) vs ++ ws) vs)) m (λ q. List·Memᴰ·head q)
       (λ n. List·Memᴰ·tail (extract-wanted vs _ n (wanted-more (windowsOf target (v .ride) vs) ws (x .ride) e)))))
       (λ c h. subst (λ (l : List Valued). List·Memᴰ x l) (sym h)
-      (head-or-later (List·Memᴰ x (extract target ws vs)) m (λ q. absurd (false≢true (sym c ∙ subst (λ (u : Valued). wanted ws (u .ride) ≡ true) q e)))
+      (head-or-later (List·Memᴰ x (extract target ws vs)) m
+      (λ q. absurd (false≢true (sym c ∙ subst (λ (u : Valued). wanted ws (u .ride) ≡ true) q e)))
       (λ n. extract-wanted vs ws n e)))
 
   -- and is the first to be boarded, if it was so
@@ -105,18 +109,22 @@ module _ (target : ℕ) where
   unfolding windowsOf
   windows-want r vs ws away {safe} e x b h =
       wanted-first (windowsOf target r vs) ws x
-      (subst (λ (l : List Window). wanted l x ≡ true) (sym (cond-false [] (upTo (r .to) (r .arrives) (firstOpen vs (r .to) (latest r))) (ne-eqb (r .to) target away)))
+      (subst (λ (l : List Window). wanted l x ≡ true)
+      (sym (cond-false [] (upTo (r .to) (r .arrives) (firstOpen vs (r .to) (latest r))) (ne-eqb (r .to) target away)))
       (up-to-wants (r .to) (r .arrives) safe e x b h))
 
   -- who lands after a ride finds among those taken the ride that is first in the whole list
   landing-taken :
-      (r : Ride) (vs : List Valued) → Ordered vs → (ws : List Window) → r .to ≢ target → (safe : Valued) → firstOpen vs (r .to) (latest r) ≡ some safe → (m : ℕ)
+      (r : Ride) (vs : List Valued) → Ordered vs → (ws : List Window) → r .to ≢ target → (safe : Valued) → firstOpen vs (r .to) (latest r) ≡ some safe
+      → (m : ℕ)
       → r .arrives ≤ m → m ≤ latest r → firstOpen (extract target (windowsOf target r vs ++ ws) vs) (r .to) m ≡ firstOpen vs (r .to) m
   landing-taken r vs o ws away safe e m late early =
-      let found = first-before vs o (r .to) m safe (found-member vs (r .to) (latest r) e) (boards-earlier (safe .ride) (r .to) (latest r) m early (found-boards vs (r .to) (latest r) e)) in
+      let found = first-before vs o (r .to) m safe (found-member vs (r .to) (latest r) e)
+      (boards-earlier (safe .ride) (r .to) (latest r) m early (found-boards vs (r .to) (latest r) e)) in
       extract-first vs _ (r .to) m (found .1)
       (windows-want r vs ws away e (found .0 .ride)
-      (boards-earlier (found .0 .ride) (r .to) m (r .arrives) late (found-boards vs (r .to) m (found .1))) (no-later (found .0) (found .2))) ∙ sym (found .1)
+      (boards-earlier (found .0 .ride) (r .to) m (r .arrives) late (found-boards vs (r .to) m (found .1))) (no-later (found .0) (found .2)))
+      ∙ sym (found .1)
     where
       no-later : (u : Valued) → (u ≡ safe) ⊎ Before u safe → u .ride .departs ≤ safe .ride .departs
       no-later u (inl q) = le-of-eq (ap (λ (x : Valued). x .ride .departs) q)
@@ -124,14 +132,17 @@ module _ (target : ℕ) where
 
   -- so a ride is worth the same among those taken
   worth-taken :
-      (r : Ride) (vs : List Valued) → Ordered vs → (ws : List Window) → Moves r → (r .to ≢ target → (safe : Valued) × (firstOpen vs (r .to) (latest r) ≡ some safe))
+      (r : Ride) (vs : List Valued) → Ordered vs → (ws : List Window) → Moves r
+      → (r .to ≢ target → (safe : Valued) × (firstOpen vs (r .to) (latest r) ≡ some safe))
       → landWorth target r vs ≡ landWorth target r (extract target (windowsOf target r vs ++ ws) vs)
   unfolding landWorth
   worth-taken r vs o ws moves on =
-      ifb (λ b. eqb (r .to) target ≡ b → landWorth target r vs ≡ landWorth target r (extract target (windowsOf target r vs ++ ws) vs)) (eqb (r .to) target)
+      ifb (λ b. eqb (r .to) target ≡ b → landWorth target r vs ≡ landWorth target r (extract target (windowsOf target r vs ++ ws) vs))
+      (eqb (r .to) target)
       (λ e _. cond-true (arrivalWorth r) _ e ∙ sym (cond-true (arrivalWorth r) _ e))
       (λ e _. let found = on (eqb-false (r .to) target e) in
-      land-same target r vs _ (moves .delays) (λ m late early. sym (landing-taken r vs o ws (eqb-false (r .to) target e) (found .0) (found .1) m late early))) refl
+      land-same target r vs _ (moves .delays)
+      (λ m late early. sym (landing-taken r vs o ws (eqb-false (r .to) target e) (found .0) (found .1) m late early))) refl
 
   -- those taken are worth what those taken behind them give
   pub extract-own : {vs : List Valued} → OwnWorth target vs → Ordered vs → (ws : List Window) → OwnWorth target (extract target ws vs)

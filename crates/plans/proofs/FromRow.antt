@@ -33,7 +33,11 @@ module _ (off : GettingOff) (target : ℕ) (t : Timetable) where
   offAt i = off (rowRide (t .tables) i (rowOf (t .rows) i)) (chosenFrom (suc i))
 
   pub scan-row : (i : ℕ) → i < length (t .rows) → scanFrom i
-      ≡ record { weighed = record { trip = rowOf (t .rows) i .trip; best = bestAt i } ∷ scanFrom (suc i) .weighed; chosen = choose target (bestAt i) (chosenFrom (suc i)) }
+      ≡ record {
+        weighed = record { trip = rowOf (t .rows) i .trip; best = bestAt i } ∷ scanFrom (suc i) .weighed;
+        chosen = choose target (bestAt i)
+            (chosenFrom (suc i));
+      }
   unfolding scanFrom chosenFrom bestAt scan
   scan-row i h = ap (scan off target (t .tables) i) (drop-cons (t .rows) i noRow h)
 
@@ -64,6 +68,7 @@ module _ (off : GettingOff) (target : ℕ) (t : Timetable) where
 
   pub best-row :
       (i : ℕ) → bestAt i
-      ≡ least (getOff (rowRide (t .tables) i (rowOf (t .rows) i)) (offAt i)) (stayOn i (rowOf (t .rows) i) (nextFrom (suc i) (rowOf (t .rows) i .trip)))
+      ≡ least (getOff (rowRide (t .tables) i (rowOf (t .rows) i)) (offAt i))
+      (stayOn i (rowOf (t .rows) i) (nextFrom (suc i) (rowOf (t .rows) i .trip)))
   unfolding bestAt bestOf offAt nextFrom chosenFrom
   best-row i = refl

@@ -11,11 +11,20 @@ use borrow.Author.Tests.{eqb-true, eqb-false, eq-eqb, ne-eqb, leb-true, le-leb}
 use Rattle.laws.proofs.Options.{absent, same-thing}
 use Rattle.laws.proofs.Tests.{ifb, either, cond-true, cond-false}
 use Rattle.laws.proofs.Alternatives.{or-left, or-right}
+use Rattle.timetable.specs.Timetable.{Timetable}
 use Rattle.plans.specs.Rides.{Ride, latest}
 use Rattle.plans.specs.Journeys.{within}
 use Rattle.plans.specs.Worth.{Valued, firstOpen, arrivalWorth, changeWorth, landWorth}
 use Rattle.plans.specs.Chosen.{offInTicks, whenSafe}
+use Rattle.plans.proofs.FromRow.{chosenFrom, bestAt}
 use Rattle.plans.proofs.Staying.{AsLanded}
+
+-- in ticks, the chosen rows from row i on and the best ride of row i
+abbrev pub chosenInTicks : Timetable → (target bound i : ℕ) → List Valued
+chosenInTicks t target bound i = chosenFrom (offInTicks target bound) target t i
+
+abbrev pub bestInTicks : Timetable → (target bound i : ℕ) → Option Valued
+bestInTicks t target bound i = bestAt (offInTicks target bound) target t i
 
 -- what lies within the bound, so do earlier minutes
 pub within-earlier : (bound a b : ℕ) → a ≤ b → within bound b ≡ true → within bound a ≡ true
@@ -49,7 +58,8 @@ module _ (target bound : ℕ) where
   pub off-is : (r : Ride) (behind : List Valued) (w : ℕ) → offInTicks target bound r behind ≡ some w → Off r behind w
   unfolding offInTicks whenSafe
   off-is r behind w e =
-      ifb (λ b. eqb (r .to) target ≡ b → cond b (cond (within bound (latest r)) (some (arrivalWorth r)) none) (whenSafe next (changeWorth r behind)) ≡ some w → Off r behind w)
+      ifb (λ b. eqb (r .to) target ≡ b
+      → cond b (cond (within bound (latest r)) (some (arrivalWorth r)) none) (whenSafe next (changeWorth r behind)) ≡ some w → Off r behind w)
       (eqb (r .to) target)
       (λ q _ k. ifb (λ b. within bound (latest r) ≡ b → cond b (some (arrivalWorth r)) none ≡ some w → Off r behind w) (within bound (latest r))
       (λ p _ l. subst (λ x. Off r behind x) (same-thing l) (arrives (eqb-true (r .to) target q) p)) (λ _ _ l. absent l) refl k)

@@ -34,7 +34,8 @@ lands-last (x ∷ y ∷ vs) v m =
       later .0,
       List·Memᴰ·tail (later .1),
       later .2
-          ∙ sym (max-eq-right (let z : latest (x .ride) ≤ latestOf (y ∷ vs) = omega (arith, leb-false (latestOf (y ∷ vs)) (latest (x .ride)) e) in z)),
+          ∙ sym (max-eq-right (let z : latest (x .ride) ≤ latestOf (y ∷ vs) = omega
+          (arith, leb-false (latestOf (y ∷ vs)) (latest (x .ride)) e) in z)),
     )) refl
   where
     Last : Type 0

@@ -27,7 +27,8 @@ pub record Made (t : Timetable) (q : Query) (p : Plan) : Type 0 where
 
 module _ (t : Timetable) (q : Query) where
   made-within :
-      (e : ℕ) → earliest t q ≡ some e → (first : Option Valued) → firstOpen (chosenFor t (q .target) (boundOf q e)) (q .source) (q .minute) ≡ first → (p : Plan)
+      (e : ℕ) → earliest t q ≡ some e → (first : Option Valued) → firstOpen (chosenFor t (q .target) (boundOf q e)) (q .source) (q .minute) ≡ first
+      → (p : Plan)
       → planWithin t q (boundOf q e) first ≡ some p → Made t q p
   unfolding planWithin
   made-within e reached none begins p h = absent h
@@ -54,7 +55,8 @@ module _ (t : Timetable) (q : Query) where
   unfolding planned planBefore planWithin
   no-plan {P} h never unopened = before (earliest t q) refl h
     where
-      within : (e : ℕ) → earliest t q ≡ some e → (first : Option Valued) → firstOpen (chosenFor t (q .target) (boundOf q e)) (q .source) (q .minute) ≡ first
+      within : (e : ℕ) → earliest t q ≡ some e → (first : Option Valued)
+          → firstOpen (chosenFor t (q .target) (boundOf q e)) (q .source) (q .minute) ≡ first
           → planWithin t q (boundOf q e) first ≡ none → P
       within e reached none begins k = unopened e reached begins
       within e reached (some first) begins k = absent (sym k)

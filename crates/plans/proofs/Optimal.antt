@@ -26,7 +26,7 @@ use Rattle.plans.proofs.AtMost.{AtMost, raised, found-at-most, worth-at
 use Rattle.plans.proofs.FromRow.{chosenFrom, bestAt}
 use Rattle.plans.proofs.Staying.{ride-at-most}
 use Rattle.plans.proofs.RideMinutes.{boards-behind, ride-first, ride-delays}
-use Rattle.plans.proofs.InTicks.{ticks-landed, ticks-at-target, ticks-elsewhere}
+use Rattle.plans.proofs.InTicks.{bestInTicks, ticks-landed, ticks-at-target, ticks-elsewhere}
 use Rattle.plans.proofs.Weighing.{change-less}
 use Rattle.plans.proofs.EarliestSafe.{worth-is, worth-of}
 use Rattle.plans.proofs.Made.{Made, chosen-for}
@@ -36,14 +36,16 @@ pub data Chain (t : Timetable) (target bound : ℕ) : List Ride → Type 0 where
   over : Chain t target bound []
   link :
       {r : Ride} {rides : List Ride} → IsRide t r → r .from ≢ target → within bound (latest r) ≡ true
-      → (r .to ≢ target → (next : Ride) × List·Memᴰ next rides × (boards next (r .to) (latest r) ≡ true)) → Chain t target bound rides → Chain t target bound (r ∷ rides)
+      → (r .to ≢ target → (next : Ride) × List·Memᴰ next rides × (boards next (r .to) (latest r) ≡ true)) → Chain t target bound rides
+      → Chain t target bound (r ∷ rides)
 
 -- each ride of a list is valued, and nothing else
 pub valued-ride : (target : ℕ) (rides : List Ride) {v : Valued} → List·Memᴰ v (valued target rides) → List·Memᴰ (v .ride) rides
 unfolding valued
 valued-ride target [] m = absurd (List·Memᴰ·not-nil m)
 valued-ride target (r ∷ rides) {v} m =
-    head-or-later (List·Memᴰ (v .ride) (r ∷ rides)) m (λ q. List·Memᴰ·head (ap (λ (x : Valued). x .ride) q)) (λ n. List·Memᴰ·tail (valued-ride target rides n))
+    head-or-later (List·Memᴰ (v .ride) (r ∷ rides)) m (λ q. List·Memᴰ·head (ap (λ (x : Valued). x .ride) q))
+    (λ n. List·Memᴰ·tail (valued-ride target rides n))
 
 pub ride-valued : (target : ℕ) (rides : List Ride) {r : Ride} → List·Memᴰ r rides → (v : Valued) × List·Memᴰ v (valued target rides) × (v .ride ≡ r)
 unfolding valued
@@ -76,7 +78,8 @@ module _ (t : Timetable) (timely : Timely t) where
         let is = plan .are-rides r here in
         let is' = plan .are-rides (next .0) (next .1) in
         let late : latest r ≤ next .0 .departs = boards-minute (next .0) (r .to) (latest r) b in
-        let behind : r .leave < next .0 .board = boards-behind t timely r (next .0) is is' (let z : r .arrives ≤ next .0 .departs = omega arith in z) in
+        let behind : r .leave < next .0 .board = boards-behind t timely r (next .0) is is'
+        (let z : r .arrives ≤ next .0 .departs = omega arith in z) in
         let later : r .board < next .0 .board = omega (arith, is .onward) in (
           next .0,
           head-or-later (List·Memᴰ (next .0) rides) (closed (next .0) r (next .1) (List·Memᴰ·head refl) later)
@@ -93,17 +96,21 @@ module _ (t : Timetable) (timely : Timely t) where
   module _ (target bound : ℕ) where
     pub chain-ride : {rides : List Ride} → Chain t target bound rides → (r : Ride) → List·Memᴰ r rides → IsRide t r
     chain-ride over r m = absurd (List·Memᴰ·not-nil m)
-    chain-ride (link is away b on chain) r m = head-or-later (IsRide t r) m (λ e. subst (λ (x : Ride). IsRide t x) (sym e) is) (λ n. chain-ride chain r n)
+    chain-ride (link is away b on chain) r m = head-or-later (IsRide t r) m (λ e. subst (λ (x : Ride). IsRide t x) (sym e) is)
+        (λ n. chain-ride chain r n)
 
     -- the boarding row of a ride that goes on in a chain is worth no more than the ride
     change-bounds :
         (r : Ride) (rides : List Ride) → IsRide t r → r .to ≢ target → ((x : Ride) → List·Memᴰ x rides → IsRide t x)
-        → ((v : Valued) → List·Memᴰ v (valued target rides) → AtMost (bestAt (offInTicks target bound) target t (v .ride .board)) (v .worth))
+        → ((v : Valued) → List·Memᴰ v (valued target rides) → AtMost (bestInTicks t target bound (v .ride .board)) (v .worth))
         → (next : Ride) → List·Memᴰ next rides → boards next (r .to) (latest r) ≡ true
-        → AtMost (bestAt (offInTicks target bound) target t (r .board)) (changeWorth r (valued target rides))
+        → AtMost (bestInTicks t target bound (r .board)) (changeWorth r (valued target rides))
     change-bounds r rides is away are bounds next m b =
-        found-at-most (AtMost (bestAt off target t (r .board)) (changeWorth r behind)) (let found = open-at (latest r) (le-refl (latest r)) in seen (latest r) (let z : r .arrives ≤ latest r = omega arith in z) (found .0) (found .1))
-        (λ u e _. raised (ride-at-most off target t r is (ticks-landed target bound) (changeWorth r chosen) (ticks-elsewhere target bound r chosen away u e))
+        found-at-most (AtMost (bestAt off target t (r .board)) (changeWorth r behind))
+        (let found = open-at (latest r) (le-refl (latest r)) in seen (latest r) (let z : r .arrives ≤ latest r = omega arith in z) (found .0)
+        (found .1))
+        (λ u e _. raised (ride-at-most off target t r is (ticks-landed target bound) (changeWorth r chosen)
+        (ticks-elsewhere target bound r chosen away u e))
         (change-less r chosen behind (ride-delays t timely r is)
         (λ k late early. let found = open-at k early in
         subst (λ w. caught chosen (r .to) k ≤ w) (sym (caught-is behind (r .to) k (found .0) (found .1)))
@@ -132,32 +139,36 @@ module _ (t : Timetable) (timely : Timely t) where
             let is' = are (v .ride) (valued-ride target rides there) in
             let opens = found-boards behind (r .to) k e in
             let then : k ≤ v .ride .departs = boards-minute (v .ride) (r .to) k opens in
-            ride-first t timely off target (suc (r .leave)) (v .ride) is' (boards-behind t timely r (v .ride) is is' (let z : r .arrives ≤ v .ride .departs = omega arith in z))
+            ride-first t timely off target (suc (r .leave)) (v .ride) is'
+            (boards-behind t timely r (v .ride) is is' (let z : r .arrives ≤ v .ride .departs = omega arith in z))
             (r .to) k (v .worth) opens away (bounds v there)
 
     link-bounds :
         (r : Ride) (rides : List Ride) → IsRide t r → within bound (latest r) ≡ true
-        → (r .to ≢ target → (next : Ride) × List·Memᴰ next rides × (boards next (r .to) (latest r) ≡ true)) → ((x : Ride) → List·Memᴰ x rides → IsRide t x)
-        → ((v : Valued) → List·Memᴰ v (valued target rides) → AtMost (bestAt (offInTicks target bound) target t (v .ride .board)) (v .worth))
-        → AtMost (bestAt (offInTicks target bound) target t (r .board)) (landWorth target r (valued target rides))
+        → (r .to ≢ target → (next : Ride) × List·Memᴰ next rides × (boards next (r .to) (latest r) ≡ true))
+        → ((x : Ride) → List·Memᴰ x rides → IsRide t x)
+        → ((v : Valued) → List·Memᴰ v (valued target rides) → AtMost (bestInTicks t target bound (v .ride .board)) (v .worth))
+        → AtMost (bestInTicks t target bound (r .board)) (landWorth target r (valued target rides))
     unfolding landWorth
     link-bounds r rides is b on are bounds =
         ifb (λ c. eqb (r .to) target ≡ c → AtMost best (cond c (arrivalWorth r) (changeWorth r (valued target rides)))) (eqb (r .to) target)
-        (λ e _. ride-at-most (offInTicks target bound) target t r is (ticks-landed target bound) (arrivalWorth r) (ticks-at-target target bound r _ (eqb-true (r .to) target e) b))
-        (λ e _. let next = on (eqb-false (r .to) target e) in change-bounds r rides is (eqb-false (r .to) target e) are bounds (next .0) (next .1) (next .2)) refl
+        (λ e _. ride-at-most (offInTicks target bound) target t r is (ticks-landed target bound) (arrivalWorth r)
+        (ticks-at-target target bound r _ (eqb-true (r .to) target e) b))
+        (λ e _. let next = on (eqb-false (r .to) target e) in change-bounds r rides is (eqb-false (r .to) target e) are bounds (next .0) (next .1)
+        (next .2)) refl
       where
         best : Option Valued
-        best = bestAt (offInTicks target bound) target t (r .board)
+        best = bestInTicks t target bound (r .board)
 
     -- each ride of a chain: its boarding row is worth no more
     pub chain-bounds :
         {rides : List Ride} → Chain t target bound rides → (v : Valued) → List·Memᴰ v (valued target rides)
-        → AtMost (bestAt (offInTicks target bound) target t (v .ride .board)) (v .worth)
+        → AtMost (bestInTicks t target bound (v .ride .board)) (v .worth)
     unfolding valued
     chain-bounds over v m = absurd (List·Memᴰ·not-nil m)
     chain-bounds (link {r} {rides} is from b on chain) v m =
-        head-or-later (AtMost (bestAt (offInTicks target bound) target t (v .ride .board)) (v .worth)) m
-        (λ e. subst (λ (x : Valued). AtMost (bestAt (offInTicks target bound) target t (x .ride .board)) (x .worth)) (sym e)
+        head-or-later (AtMost (bestInTicks t target bound (v .ride .board)) (v .worth)) m
+        (λ e. subst (λ (x : Valued). AtMost (bestInTicks t target bound (x .ride .board)) (x .worth)) (sym e)
         (link-bounds r rides is b on (chain-ride chain) (chain-bounds chain))) (λ n. chain-bounds chain v n)
 
   -- every safe plan has an expected arrival, and none is below the plan's
@@ -166,7 +177,8 @@ module _ (t : Timetable) (timely : Timely t) where
   expected-stands q bound rides plan =
       let begins = plan .begins in
       let v = ride-valued (q .target) rides (begins .1) in
-      let first = finds (valued (q .target) rides) (q .source) (q .minute) (v .1) (subst (λ (r : Ride). boards r (q .source) (q .minute) ≡ true) (sym (v .2)) (T-true (begins .2))) in
+      let first = finds (valued (q .target) rides) (q .source) (q .minute) (v .1)
+      (subst (λ (r : Ride). boards r (q .source) (q .minute) ≡ true) (sym (v .2)) (T-true (begins .2))) in
       (first .0 .worth, ap worthOf (first .1) ∙ worth-of (first .0))
 
   pub plan-least :
@@ -180,8 +192,10 @@ module _ (t : Timetable) (timely : Timely t) where
       let opens = found-boards (valued (q .target) rides) (q .source) (q .minute) (first .1) in
       let ride = valued-ride (q .target) rides there in
       let chain = safe-chain q (p .bound) rides plan rising in
-      let least = ride-first t timely (offInTicks (q .target) (p .bound)) (q .target) 0 (v .ride) (plan .are-rides (v .ride) ride) zero-le (q .source) (q .minute) (v .worth) opens
-      (λ same. plan .none-at-target (v .ride) ride (boards-stop (v .ride) (q .source) (q .minute) opens ∙ same)) (chain-bounds (q .target) (p .bound) chain v there) in
+      let least = ride-first t timely (offInTicks (q .target) (p .bound)) (q .target) 0 (v .ride) (plan .are-rides (v .ride) ride) zero-le (q .source)
+      (q .minute) (v .worth) opens
+      (λ same. plan .none-at-target (v .ride) ride (boards-stop (v .ride) (q .source) (q .minute) opens ∙ same))
+      (chain-bounds (q .target) (p .bound) chain v there) in
       let ours : made .first .worth ≤ v .worth = worth-at-most least (made .first)
       (sym (ap (λ (l : List Valued). firstOpen l (q .source) (q .minute)) (chosen-for t (q .target) (p .bound))) ∙ made .begins) in
       omega (arith, made .worth, first .2)

@@ -42,33 +42,44 @@ leads-each (v ∷ vs) (ahead before o) w s lead x m there =
 
 -- what does not lead finds one at its stop, from a minute at which none has left, that is worth no more
 pub led-by-first :
-    (vs : List Valued) (w s m : ℕ) → leads w (firstAt vs s) ≡ false → ((x : Valued) → List·Memᴰ x vs → m ≤ x .ride .departs) → AtMost (firstOpen vs s m) w
+    (vs : List Valued) (w s m : ℕ) → leads w (firstAt vs s) ≡ false → ((x : Valued) → List·Memᴰ x vs → m ≤ x .ride .departs)
+    → AtMost (firstOpen vs s m) w
 unfolding leads firstAt
 led-by-first [] w s m led early = absurd (false≢true (sym led))
 led-by-first (v ∷ vs) w s m led early =
-    ifb (λ b. eqb (v .ride .from) s ≡ b → leads w (cond b (some v) (firstAt vs s)) ≡ false → AtMost (firstOpen (v ∷ vs) s m) w) (eqb (v .ride .from) s)
-    (λ e _ l. is-at-most (first-here v vs s m (can-board (v .ride) s m (eqb-true (v .ride .from) s e) (early v (List·Memᴰ·head refl)))) (ltb-false w (v .worth) l))
+    ifb (λ b. eqb (v .ride .from) s ≡ b → leads w (cond b (some v) (firstAt vs s)) ≡ false → AtMost (firstOpen (v ∷ vs) s m) w)
+    (eqb (v .ride .from) s)
+    (λ e _ l. is-at-most (first-here v vs s m (can-board (v .ride) s m (eqb-true (v .ride .from) s e) (early v (List·Memᴰ·head refl))))
+    (ltb-false w (v .worth) l))
     (λ e _ l. on-head (AtMost (firstOpen (v ∷ vs) s m) w) v vs s m (λ b _. absurd (eqb-false (v .ride .from) s e (boards-stop (v .ride) s m b)))
     (λ _ h. subst (λ (o : Option Valued). AtMost o w) (sym h) (led-by-first vs w s m l (λ x n. early x (List·Memᴰ·tail n))))) refl led
 
 -- of two members at one stop the one that departs first stands first; in one minute they are one
 pub members-apart :
-    {P : Type 0} (vs : List Valued) → Ordered vs → (x y : Valued) → List·Memᴰ x vs → List·Memᴰ y vs → (x ≡ y → P) → (Before x y → P) → (Before y x → P) → P
+    {P : Type 0} (vs : List Valued) → Ordered vs → (x y : Valued) → List·Memᴰ x vs → List·Memᴰ y vs → (x ≡ y → P) → (Before x y → P)
+    → (Before y x → P) → P
 members-apart [] o x y m n one' first second = absurd (List·Memᴰ·not-nil m)
 members-apart {P} (v ∷ vs) (ahead before o) x y m n one' first second =
     head-or-later P m
     (λ p. head-or-later P n (λ q. one' (p ∙ sym q)) (λ k. first (subst (λ (u : Valued). Before u y) (sym p) (before y k))))
-    (λ l. head-or-later P n (λ q. second (subst (λ (u : Valued). Before u x) (sym q) (before x l))) (λ k. members-apart vs o x y l k one' first second))
+    (λ l. head-or-later P n (λ q. second (subst (λ (u : Valued). Before u x) (sym q) (before x l)))
+    (λ k. members-apart vs o x y l k one' first second))
 
 -- the first that can be boarded stands before each that can be
 pub first-before :
-    (vs : List Valued) → Ordered vs → (s m : ℕ) (x : Valued) → List·Memᴰ x vs → boards (x .ride) s m ≡ true → (u : Valued) × (firstOpen vs s m ≡ some u) × ((u ≡ x) ⊎ Before u x)
+    (vs : List Valued) → Ordered vs → (s m : ℕ) (x : Valued) → List·Memᴰ x vs → boards (x .ride) s m ≡ true
+    → (u : Valued) × (firstOpen vs s m ≡ some u) × ((u ≡ x) ⊎ Before u x)
 first-before [] o s m x k b = absurd (List·Memᴰ·not-nil k)
 first-before (v ∷ vs) (ahead before o) s m x k b =
     on-head Found v vs s m
     (λ _ h. (v, h, head-or-later ((v ≡ x) ⊎ Before v x) k (λ q. inl (sym q)) (λ n. inr (before x n))))
     (λ c h. head-or-later Found k (λ q. absurd (false≢true (sym c ∙ subst (λ (u : Valued). boards (u .ride) s m ≡ true) q b)))
-    (λ n. let found : (u : Valued) × (firstOpen vs s m ≡ some u) × ((u ≡ x) ⊎ Before u x) = first-before vs o s m x n b in (found .0, h ∙ found .1, found .2)))
+    (λ n. let found : (u : Valued) × (firstOpen vs s m ≡ some u) × ((u ≡ x) ⊎ Before u x) = first-before vs o s m x n b in (
+      found .0,
+      h
+          ∙ found .1,
+      found .2,
+    )))
   where
     Found : Type 0
     Found = (u : Valued) × (firstOpen (v ∷ vs) s m ≡ some u) × ((u ≡ x) ⊎ Before u x)

@@ -25,7 +25,8 @@ pub data OwnWorth (target : ℕ) : List Valued → Type 0 where
   nobody : OwnWorth target []
   ahead :
       {v : Valued} {vs : List Valued} → Moves (v .ride) → v .worth ≡ landWorth target (v .ride) vs
-      → (v .ride .to ≢ target → (safe : Valued) × (firstOpen vs (v .ride .to) (latest (v .ride)) ≡ some safe)) → OwnWorth target vs → OwnWorth target (v ∷ vs)
+      → (v .ride .to ≢ target → (safe : Valued) × (firstOpen vs (v .ride .to) (latest (v .ride)) ≡ some safe)) → OwnWorth target vs
+      → OwnWorth target (v ∷ vs)
 
 -- what its own plan gives
 pub own-valued : (target : ℕ) {vs : List Valued} → OwnWorth target vs → valued target (map (λ (v : Valued). v .ride) vs) ≡ vs
@@ -39,7 +40,8 @@ own-valued target (ahead {v} {vs} moves worth on own) =
 pub ahead-of :
     (target : ℕ) (v : Valued) (vs us : List Valued) → Moves (v .ride)
     → ((m : ℕ) → v .ride .arrives ≤ m → m ≤ latest (v .ride) → firstOpen us (v .ride .to) m ≡ firstOpen vs (v .ride .to) m)
-    → v .worth ≡ landWorth target (v .ride) vs → (v .ride .to ≢ target → (safe : Valued) × (firstOpen vs (v .ride .to) (latest (v .ride)) ≡ some safe))
+    → v .worth ≡ landWorth target (v .ride) vs
+    → (v .ride .to ≢ target → (safe : Valued) × (firstOpen vs (v .ride .to) (latest (v .ride)) ≡ some safe))
     → OwnWorth target us → OwnWorth target (v ∷ us)
 ahead-of target v vs us moves same worth on own =
     ahead moves (worth ∙ sym (land-same target (v .ride) us vs (moves .delays) same))
@@ -47,7 +49,8 @@ ahead-of target v vs us moves same worth on own =
 
 -- taking out what left no later than each of them departs changes no worth
 pub others-own :
-    (target : ℕ) (r : Ride) (vs : List Valued) → ((x : Valued) → List·Memᴰ x vs → r .departs ≤ x .ride .departs) → OwnWorth target vs → OwnWorth target (others r vs)
+    (target : ℕ) (r : Ride) (vs : List Valued) → ((x : Valued) → List·Memᴰ x vs → r .departs ≤ x .ride .departs) → OwnWorth target vs
+    → OwnWorth target (others r vs)
 unfolding others
 others-own target r [] rising own = own
 others-own target r (v ∷ vs) rising (ahead moves worth on own) =
@@ -55,4 +58,5 @@ others-own target r (v ∷ vs) rising (ahead moves worth on own) =
     ifb (λ b. OwnWorth target (cond b (others r vs) (v ∷ others r vs))) (same-minute (v .ride) r) (λ _. further)
     (λ _. ahead-of target v vs (others r vs) moves
     (λ m h _. others-first r vs (v .ride .to) m
-    (too-late r (v .ride .to) m (let a : r .departs ≤ v .ride .departs = rising v (List·Memᴰ·head refl) in omega (arith, moves .forward)))) worth on further)
+    (too-late r (v .ride .to) m
+    (let a : r .departs ≤ v .ride .departs = rising v (List·Memᴰ·head refl) in omega (arith, moves .forward)))) worth on further)

@@ -22,11 +22,11 @@ use Rattle.plans.specs.Chosen.{offInTicks}
 use Rattle.plans.specs.Plan.{planned, earliest, chosenFor}
 use Rattle.plans.proofs.Open.{boards-minute}
 use Rattle.plans.proofs.AtMost.{AtMost, found-at-most}
-use Rattle.plans.proofs.FromRow.{chosenFrom, bestAt}
+use Rattle.plans.proofs.FromRow.{chosenFrom}
 use Rattle.plans.proofs.Staying.{ride-at-most}
 use Rattle.plans.proofs.RideMinutes.{boards-behind, ride-first}
 use Rattle.plans.proofs.EarliestSafe.{onward-ride, onward-after, earliest-is-least, no-earliest}
-use Rattle.plans.proofs.InTicks.{within-earlier, ticks-landed, ticks-at-target, ticks-elsewhere}
+use Rattle.plans.proofs.InTicks.{bestInTicks, within-earlier, ticks-landed, ticks-at-target, ticks-elsewhere}
 use Rattle.plans.proofs.Made.{chosen-for, no-plan, no-plan-without}
 
 -- Bound code q is 0 (no bound) or 4 to 16 (quarters)
@@ -38,26 +38,34 @@ pub bound-after : (q : Query) (e : ℕ) → q .minute ≤ e → 4 ≤ q .code �
 bound-after q e after quarters =
     let c : eqb (q .code) 0 ≡ false = ne-eqb (q .code) 0 (λ z. let y : ⊥ = omega arith in y) in
     let d : (e - q .minute) * 4 ≤ q .code * (e - q .minute) = omega (arith, mul-le-mul-right (e - q .minute) quarters) in
-    let k : e - q .minute ≤ q .code * (e - q .minute) / 4 = le-div-iff-mul-le {k = 4} {x = e - q .minute} {y = q .code * (e - q .minute)} (omega arith) .1 d in
-    subst (λ x. e ≤ x) (sym (cond-false 0 (q .minute + q .code * (e - q .minute) / 4) c)) (let z : e ≤ q .minute + q .code * (e - q .minute) / 4 = omega arith in z)
+    let k : e - q .minute ≤ q .code * (e - q .minute) / 4 = le-div-iff-mul-le {k = 4} {x = e - q .minute} {y = q .code * (e - q .minute)}
+    (omega arith) .1 d in
+    subst (λ x. e ≤ x) (sym (cond-false 0 (q .minute + q .code * (e - q .minute) / 4) c))
+    (let z : e ≤ q .minute + q .code * (e - q .minute) / 4 = omega arith in z)
 
 pub within-bound : (q : Query) (e : ℕ) → q .minute ≤ e → CodeStands (q .code) → within (boundOf q e) e ≡ true
 within-bound q e after (inl none') =
-    ap (λ b. eqb (cond b 0 (q .minute + q .code * (e - q .minute) / 4)) 0 || leb e (cond b 0 (q .minute + q .code * (e - q .minute) / 4))) (eq-eqb (q .code) 0 none')
+    ap (λ b. eqb (cond b 0 (q .minute + q .code * (e - q .minute) / 4)) 0 || leb e (cond b 0 (q .minute + q .code * (e - q .minute) / 4)))
+    (eq-eqb (q .code) 0 none')
 within-bound q e after (inr quarters) = or-right (eqb (boundOf q e) 0) (leb e (boundOf q e)) (le-leb e (boundOf q e) (bound-after q e after quarters))
 
 module _ (t : Timetable) (timely : Timely t) where
   -- the boarding row of a ride has a worth, if what is boarded after it has one
   change-exists :
       (target bound : ℕ) (r next : Ride) → IsRide t r → IsRide t next → boards next (r .to) (latest r) ≡ true → within bound (latest r) ≡ true
-      → (w : ℕ) × AtMost (bestAt (offInTicks target bound) target t (next .board)) w → (w : ℕ) × AtMost (bestAt (offInTicks target bound) target t (r .board)) w
+      → (w : ℕ) × AtMost (bestInTicks t target bound (next .board)) w → (w : ℕ) × AtMost (bestInTicks t target bound (r .board)) w
   change-exists target bound r next is is' caught b further =
       let off = offInTicks target bound in
       let late : latest r ≤ next .departs = boards-minute next (r .to) (latest r) caught in
       ifb (λ c. eqb (r .to) target ≡ c → Some) (eqb (r .to) target)
-      (λ q _. (arrivalWorth r, ride-at-most off target t r is (ticks-landed target bound) (arrivalWorth r) (ticks-at-target target bound r _ (eqb-true (r .to) target q) b)))
+      (λ q _. (
+        arrivalWorth r,
+        ride-at-most off target t r is (ticks-landed target bound) (arrivalWorth r)
+            (ticks-at-target target bound r _ (eqb-true (r .to) target q) b),
+      ))
       (λ q _. found-at-most Some
-      (ride-first t timely off target (suc (r .leave)) next is' (boards-behind t timely r next is is' (let z : r .arrives ≤ next .departs = omega arith in z))
+      (ride-first t timely off target (suc (r .leave)) next is'
+      (boards-behind t timely r next is is' (let z : r .arrives ≤ next .departs = omega arith in z))
       (r .to) (latest r) (further .0) caught (eqb-false (r .to) target q) (further .1))
       (λ u e _. (
         changeWorth r (chosenFrom off target t (suc (r .leave))),
@@ -66,17 +74,22 @@ module _ (t : Timetable) (timely : Timely t) where
       ))) refl
     where
       Some : Type 0
-      Some = (w : ℕ) × AtMost (bestAt (offInTicks target bound) target t (r .board)) w
+      Some = (w : ℕ) × AtMost (bestInTicks t target bound (r .board)) w
 
   -- the row where a safe journey within the bound boards has a worth
   pub ticks-exist :
-      (target bound : ℕ) {r : Ride} {end : ℕ} → Onward t target r end → within bound end ≡ true → (w : ℕ) × AtMost (bestAt (offInTicks target bound) target t (r .board)) w
-  ticks-exist target bound (leaves {r} is e) b =
-      (arrivalWorth r, ride-at-most (offInTicks target bound) target t r is (ticks-landed target bound) (arrivalWorth r) (ticks-at-target target bound r _ e b))
+      (target bound : ℕ) {r : Ride} {end : ℕ} → Onward t target r end → within bound end ≡ true
+      → (w : ℕ) × AtMost (bestInTicks t target bound (r .board)) w
+  ticks-exist target bound (leaves {r} is e) b = (
+    arrivalWorth r,
+    ride-at-most (offInTicks target bound) target t r is (ticks-landed target bound) (arrivalWorth r)
+        (ticks-at-target target bound r _ e b),
+  )
   ticks-exist target bound (changes {r} {next} {end} is caught on) b =
       let late : latest r ≤ next .departs = boards-minute next (r .to) (latest r) (T-true caught) in
       change-exists target bound r next is (onward-ride t target on) (T-true caught)
-      (within-earlier bound (latest r) end (let z : latest r ≤ end = omega (arith, onward-after t target timely on) in z) b) (ticks-exist target bound on b)
+      (within-earlier bound (latest r) end (let z : latest r ≤ end = omega (arith, onward-after t target timely on) in z) b)
+      (ticks-exist target bound on b)
 
   -- a journey ends after the query minute
   pub journey-after : (q : Query) (end : ℕ) → Journey t q end → q .minute < end
@@ -92,7 +105,8 @@ module _ (t : Timetable) (timely : Timely t) where
   journey-begins q bound end apart j b h =
       let some' = ticks-exist (q .target) bound (j .onward) b in
       found-at-most ⊥
-      (ride-first t timely (offInTicks (q .target) bound) (q .target) 0 (j .first) (onward-ride t (q .target) (j .onward)) zero-le (q .source) (q .minute) (some' .0)
+      (ride-first t timely (offInTicks (q .target) bound) (q .target) 0 (j .first) (onward-ride t (q .target) (j .onward)) zero-le (q .source)
+      (q .minute) (some' .0)
       (T-true (j .in-time)) apart (some' .1))
       (λ v e _. absent {a = v} (sym h ∙ ap (λ (l : List Valued). firstOpen l (q .source) (q .minute)) (chosen-for t (q .target) bound) ∙ e))
 

@@ -64,7 +64,8 @@ module _ (t : Timetable) (timely : Timely t) where
         chosen-picked (offInTicks target bound) target t 0 zero-le v (subst (λ (l : List Valued). List·Memᴰ v l) (chosen-for t target bound) m)
 
     pub for-ordered : Ordered (chosenFor t target bound)
-    for-ordered = subst (λ (l : List Valued). Ordered l) (sym (chosen-for t target bound)) (chosen-ordered (offInTicks target bound) target t timely 0 zero-le)
+    for-ordered = subst (λ (l : List Valued). Ordered l) (sym (chosen-for t target bound))
+        (chosen-ordered (offInTicks target bound) target t timely 0 zero-le)
 
     pub for-own : OwnWorth target (chosenFor t target bound)
     for-own = subst (λ (l : List Valued). OwnWorth target l) (sym (chosen-for t target bound)) (chosen-own t timely target bound 0 zero-le)
@@ -109,7 +110,8 @@ module _ (t : Timetable) (timely : Timely t) where
     pub plan-expected : expectedOf q (ridesOf (p .rides)) ≡ some (p .expected)
     unfolding expectedOf
     plan-expected =
-        ap (λ (l : List Valued). worthOf (firstOpen l (q .source) (q .minute))) plan-valued ∙ ap worthOf plan-first ∙ worth-of (made .first) ∙ ap some (sym (made .worth))
+        ap (λ (l : List Valued). worthOf (firstOpen l (q .source) (q .minute))) plan-valued ∙ ap worthOf plan-first ∙ worth-of (made .first)
+        ∙ ap some (sym (made .worth))
 
     -- its latest minute is the largest a + M of its rides
     pub plan-last :
@@ -125,16 +127,19 @@ module _ (t : Timetable) (timely : Timely t) where
     plan-no-two :
         (v u : Valued) → List·Memᴰ v (p .rides) → List·Memᴰ u (p .rides) → v .ride .from ≡ u .ride .from → v .ride .departs ≡ u .ride .departs → v ≡ u
     plan-no-two v u m n there then =
-        members-apart (p .rides) plan-ordered v u m n (λ e. e) (λ b. absurd (let c : v .ride .departs < u .ride .departs = b .apart there in let z : ⊥ = omega arith in z))
+        members-apart (p .rides) plan-ordered v u m n (λ e. e)
+        (λ b. absurd (let c : v .ride .departs < u .ride .departs = b .apart there in let z : ⊥ = omega arith in z))
         (λ b. absurd (let c : u .ride .departs < v .ride .departs = b .apart (sym there) in let z : ⊥ = omega arith in z))
 
     pub plan-safe : SafePlan t q (p .bound) (ridesOf (p .rides))
     plan-safe =
         record {
-          are-rides = λ r m. let f = plan-ride m in subst (λ (x : Ride). IsRide t x) (sym (f .2)) (for-ride (q .target) (p .bound) (f .0) (plan-member (f .0) (f .1)));
+          are-rides = λ r m. let f = plan-ride m in subst (λ (x : Ride). IsRide t x) (sym (f .2))
+              (for-ride (q .target) (p .bound) (f .0) (plan-member (f .0) (f .1)));
           none-at-target =
               λ r m. let f = plan-ride m in
-              subst (λ (x : Ride). x .from ≢ q .target) (sym (f .2)) (for-picked (q .target) (p .bound) (f .0) (plan-member (f .0) (f .1)) .elsewhere);
+              subst (λ (x : Ride). x .from ≢ q .target) (sym (f .2))
+              (for-picked (q .target) (p .bound) (f .0) (plan-member (f .0) (f .1)) .elsewhere);
           no-two =
               λ r r' m n there then. let f = plan-ride m in let g = plan-ride n in
               f .2 ∙ ap (λ (v : Valued). v .ride)
@@ -142,7 +147,8 @@ module _ (t : Timetable) (timely : Timely t) where
               (ap (λ (x : Ride). x .departs) (sym (f .2)) ∙ then ∙ ap (λ (x : Ride). x .departs) (g .2))) ∙ sym (g .2);
           each-within =
               λ r m. let f = plan-ride m in
-              true-T (subst (λ (x : Ride). within (p .bound) (latest x) ≡ true) (sym (f .2)) (for-within (q .target) (p .bound) (f .0) (plan-member (f .0) (f .1))));
+              true-T (subst (λ (x : Ride). within (p .bound) (latest x) ≡ true) (sym (f .2))
+              (for-within (q .target) (p .bound) (f .0) (plan-member (f .0) (f .1))));
           begins = (
             made .first .ride,
             mapped (λ (v : Valued). v .ride) (found-member (p .rides) (q .source) (q .minute) plan-first),

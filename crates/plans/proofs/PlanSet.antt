@@ -62,7 +62,8 @@ window-is :
     → (r .to ≢ target → UpTo (r .to) (r .arrives) (firstOpen vs (r .to) (latest r)) x → P) → P
 unfolding windowsOf wanted
 window-is {P} target r vs x e given =
-    ifb (λ b. eqb (r .to) target ≡ b → wanted (cond b [] (upTo (r .to) (r .arrives) (firstOpen vs (r .to) (latest r)))) x ≡ true → P) (eqb (r .to) target)
+    ifb (λ b. eqb (r .to) target ≡ b → wanted (cond b [] (upTo (r .to) (r .arrives) (firstOpen vs (r .to) (latest r)))) x ≡ true → P)
+    (eqb (r .to) target)
     (λ _ _ k. absurd (false≢true k)) (λ q _ k. given (eqb-false (r .to) target q) (up-to-is (r .to) (r .arrives) _ x k)) refl e
 
 module _ (q : Query) (whole : List Valued) where
@@ -79,7 +80,8 @@ module _ (q : Query) (whole : List Valued) where
   extract-in-plan [] o moves sub ends ws given x m = absurd (List·Memᴰ·not-nil m)
   extract-in-plan (v ∷ vs) (ahead before o) moves sub ends ws given x m =
       let further : Ends vs = λ u n s k late.
-      sym (first-further v vs s k (too-late (v .ride) s k (let z : v .ride .departs < k = omega (arith, before u n .minutes) in z))) ∙ ends u (List·Memᴰ·tail n) s k late in
+      sym (first-further v vs s k (too-late (v .ride) s k (let z : v .ride .departs < k = omega (arith, before u n .minutes) in z)))
+      ∙ ends u (List·Memᴰ·tail n) s k late in
       let gone : v .ride .departs < latest (v .ride) = omega (arith, moves v (List·Memᴰ·head refl) .forward) in
       let go = extract-in-plan vs o (λ y n. moves y (List·Memᴰ·tail n)) (λ y n. sub y (List·Memᴰ·tail n)) further in
       on-taking (q .target) (InPlan q whole x) ws v vs
@@ -88,7 +90,9 @@ module _ (q : Query) (whole : List Valued) where
       (λ n. go (windowsOf (q .target) (v .ride) vs ++ ws)
       (λ y k e. wanted-either (windowsOf (q .target) (v .ride) vs) ws (y .ride) e
       (λ p. window-is (q .target) (v .ride) vs (y .ride) p
-      (λ away u. words.next here away (sym (ends v (List·Memᴰ·head refl) (v .ride .to) (latest (v .ride)) gone) ∙ first-further v vs _ _ (too-late (v .ride) _ _ gone) ∙ u .is-last) k (true-T (u .caught)) (u .no-later))) (given y k)) x n))
+      (λ away u. words.next here away
+      (sym (ends v (List·Memᴰ·head refl) (v .ride .to) (latest (v .ride)) gone) ∙ first-further v vs _ _ (too-late (v .ride) _ _ gone) ∙ u .is-last) k
+      (true-T (u .caught)) (u .no-later))) (given y k)) x n))
       (λ _ h. go ws given x (subst (λ (l : List Valued). List·Memᴰ x l) h m))
 
 -- for each ride that is taken out, so are those that its window wants
@@ -104,7 +108,8 @@ window-taken target (v ∷ vs) (ahead before o) moves ws u x safe m away e k b h
     -- x leaves later than what leaves no later than u
     let behind : v .ride .departs ≤ u .ride .departs → List·Memᴰ x vs = λ no-later.
     head-or-later (List·Memᴰ x vs) k
-    (λ q. absurd (let same : x .ride .departs ≡ v .ride .departs = ap (λ (y : Valued). y .ride .departs) q in let z : ⊥ = omega arith in z)) (λ n. n) in
+    (λ q. absurd (let same : x .ride .departs ≡ v .ride .departs = ap (λ (y : Valued). y .ride .departs) q in let z : ⊥ = omega arith in z))
+    (λ n. n) in
     let skip : v .ride .departs ≤ u .ride .departs → firstOpen vs (u .ride .to) (latest (u .ride)) ≡ some safe = λ no-later.
     sym (first-further v vs (u .ride .to) (latest (u .ride)) (too-late (v .ride) (u .ride .to) (latest (u .ride)) (omega arith))) ∙ e in
     let further : (us : List Window) → List·Memᴰ u (extract target us vs) → List·Memᴰ x (extract target us vs) = λ us n.
@@ -122,7 +127,8 @@ window-taken target (v ∷ vs) (ahead before o) moves ws u x safe m away e k b h
 
 module _ (q : Query) (chosen : List Valued) (o : Ordered chosen) (moves : (x : Valued) → List·Memᴰ x chosen → Moves (x .ride)) where
   -- the window at the source wants the first chosen row alone
-  first-alone : (x : Valued) → List·Memᴰ x chosen → UpTo (q .source) (q .minute) (firstOpen chosen (q .source) (q .minute)) (x .ride) → InPlan q chosen x
+  first-alone : (x : Valued) → List·Memᴰ x chosen → UpTo (q .source) (q .minute) (firstOpen chosen (q .source) (q .minute)) (x .ride)
+      → InPlan q chosen x
   first-alone x m u =
       let found = first-before chosen o (q .source) (q .minute) x m (u .caught) in
       ⊎-elim (λ e. words.first (found .1 ∙ ap some e))

@@ -33,7 +33,8 @@ module _ (t : Timetable) (timely : Timely t) where
   ride-delays r is = shares-stand (r .shares) (ride-shares r is)
 
   pub leaves-before : (r : Ride) → IsRide t r → rowOf (t .rows) (r .leave) .departure < r .arrives
-  leaves-before r is = subst (λ k. rowOf (t .rows) (r .leave) .departure < k) (sym (ap (λ (x : Ride). x .arrives) (is .as-timed))) (timely .forward (r .leave) (is .inside))
+  leaves-before r is = subst (λ k. rowOf (t .rows) (r .leave) .departure < k) (sym (ap (λ (x : Ride). x .arrives) (is .as-timed)))
+      (timely .forward (r .leave) (is .inside))
 
   pub departs-before : (r : Ride) → IsRide t r → r .departs < r .arrives
   departs-before r is =
@@ -60,5 +61,6 @@ module _ (t : Timetable) (timely : Timely t) where
         let there : v .ride .from ≡ s = at .stop ∙ sym (ap (λ (x : Ride). x .from) (is .as-timed)) ∙ boards-stop r s m b in
         let then : v .ride .departs ≡ r .departs = at .minute ∙ sym (ap (λ (x : Ride). x .departs) (is .as-timed)) in
         raised (subst (λ k. AtMost (firstOpen (chosenFrom off target t i) k m) (v .worth)) there
-        (first-least off target t timely i (let z : i ≤ length (t .rows) = omega (arith, board-inside r is) in z) (r .board) here (board-inside r is) v e
+        (first-least off target t timely i (let z : i ≤ length (t .rows) = omega (arith, board-inside r is) in z) (r .board) here
+        (board-inside r is) v e
         (λ q. elsewhere (sym there ∙ q)) m (let z : m ≤ v .ride .departs = omega (arith, boards-minute r s m b) in z))) h)

@@ -21,11 +21,11 @@ use Rattle.plans.specs.Words.{HasWorth, bestRide}
 use Rattle.plans.specs.RowWords.{NextOfTrip, OpenWay, off-at-target, off-elsewhere, staying-on, LeastWay, StaysAboard}
 use Rattle.plans.proofs.Open.{finds, found-member, found-boards}
 use Rattle.plans.proofs.AtMost.{AtMost, is-at-most, worth-at-most, found-at-most}
-use Rattle.plans.proofs.FromRow.{chosenFrom, bestAt, nextFrom, offAt, next-row}
+use Rattle.plans.proofs.FromRow.{bestAt, nextFrom, offAt, next-row}
 use Rattle.plans.proofs.BestRides.{Source, off-here, stays, best-source, best-boards, row-is-ride}
 use Rattle.plans.proofs.Staying.{row-off, stay-on}
 use Rattle.plans.proofs.RideMinutes.{ride-delays}
-use Rattle.plans.proofs.InTicks.{Off, arrives, goes-on, off-is, ticks-at-target, ticks-elsewhere}
+use Rattle.plans.proofs.InTicks.{chosenInTicks, bestInTicks, Off, arrives, goes-on, off-is, ticks-at-target, ticks-elsewhere}
 use Rattle.plans.proofs.Weighing.{change-same}
 use Rattle.plans.proofs.ChosenWorth.{landing-sees}
 use Rattle.plans.proofs.ChosenWords.{best-ride, weighs, has-worth}
@@ -47,36 +47,40 @@ module _ (off : GettingOff) (target : ℕ) (t : Timetable) where
 module _ (t : Timetable) (timely : Timely t) (target bound : ℕ) where
   -- who lands where row i does finds among all chosen rows what the scan finds behind the row
   landing-same : (i : ℕ) → i < length (t .rows) → (s m : ℕ) → rideOf t i i .arrives ≤ m
-      → firstOpen (chosenFor t target bound) s m ≡ firstOpen (chosenFrom (offInTicks target bound) target t (suc i)) s m
+      → firstOpen (chosenFor t target bound) s m ≡ firstOpen (chosenInTicks t target bound (suc i)) s m
   landing-same i h s m late =
       ap (λ (l : List Valued). firstOpen l s m) (chosen-for t target bound)
       ∙ landing-sees t timely (offInTicks target bound) target (rideOf t i i) (row-is-ride (offInTicks target bound) target t i h) 0 zero-le s m late
 
   change-all : (i : ℕ) → i < length (t .rows) → changeWorth (rideOf t i i) (chosenFor t target bound)
-      ≡ changeWorth (rideOf t i i) (chosenFrom (offInTicks target bound) target t (suc i))
+      ≡ changeWorth (rideOf t i i) (chosenInTicks t target bound (suc i))
   change-all i h =
       change-same (rideOf t i i) _ _ (ride-delays t timely (rideOf t i i) (row-is-ride (offInTicks target bound) target t i h))
       (λ m late _. landing-same i h (rideOf t i i .to) m late)
 
   -- each open way bounds the row's worth
-  way-bounds : (i : ℕ) → i < length (t .rows) → (w : ℕ) → OpenWay t target bound i w → AtMost (bestAt (offInTicks target bound) target t i) w
+  way-bounds : (i : ℕ) → i < length (t .rows) → (w : ℕ) → OpenWay t target bound i w → AtMost (bestInTicks t target bound i) w
   unfolding offAt
   way-bounds i h w (off-at-target e b) = row-off (offInTicks target bound) target t i _ (ticks-at-target target bound (rideOf t i i) _ e (T-true b))
   way-bounds i h w (off-elsewhere {safe = safe} away m b) =
       let found = finds (chosenFor t target bound) (rideOf t i i .to) (latest (rideOf t i i)) m (T-true b) in
       row-off (offInTicks target bound) target t i _
-      (ticks-elsewhere target bound (rideOf t i i) _ away (found .0) (sym (landing-same i h _ _ (omega arith)) ∙ found .1) ∙ ap some (sym (change-all i h)))
+      (ticks-elsewhere target bound (rideOf t i i) _ away (found .0) (sym (landing-same i h _ _ (omega arith)) ∙ found .1)
+      ∙ ap some (sym (change-all i h)))
   way-bounds i h w (staying-on {next = next} n worth) =
       let found = weighs t target bound next w worth in
       stay-on (offInTicks target bound) target t i next w (let z : i ≤ next = omega (arith, n .later) in z) (n .inside) (sym (n .one-trip))
       (is-at-most (found .best) (le-of-eq (found .worth)))
 
   -- and the worth is that of one of them
-  off-way : (i : ℕ) → i < length (t .rows) → (w : ℕ) → Off target bound (rideOf t i i) (chosenFrom (offInTicks target bound) target t (suc i)) w → OpenWay t target bound i w
+  off-way : (i : ℕ) → i < length (t .rows) → (w : ℕ) → Off target bound (rideOf t i i) (chosenInTicks t target bound (suc i)) w
+      → OpenWay t target bound i w
   off-way i h w (arrives e b) = off-at-target e (true-T b)
   off-way i h w (goes-on {u = u} away e) =
-      let all = landing-same i h (rideOf t i i .to) (latest (rideOf t i i)) (let z : rideOf t i i .arrives ≤ latest (rideOf t i i) = omega arith in z) ∙ e in
-      subst (λ x. OpenWay t target bound i x) (change-all i h) (off-elsewhere {safe = u} away (found-member _ _ _ all) (true-T (found-boards _ _ _ all)))
+      let all = landing-same i h (rideOf t i i .to) (latest (rideOf t i i)) (let z : rideOf t i i .arrives ≤ latest (rideOf t i i) = omega arith in z)
+      ∙ e in
+      subst (λ x. OpenWay t target bound i x) (change-all i h)
+      (off-elsewhere {safe = u} away (found-member _ _ _ all) (true-T (found-boards _ _ _ all)))
 
   source-way : (i : ℕ) → i < length (t .rows) → (v : Valued) → Source (offInTicks target bound) target t i v → OpenWay t target bound i (v .worth)
   unfolding offAt
@@ -87,7 +91,8 @@ module _ (t : Timetable) (timely : Timely t) (target bound : ℕ) where
   worth-in-words i h w = (
     λ worth. let found = weighs t target bound i w worth in
         record {
-          reached = subst (λ x. OpenWay t target bound i x) (found .worth) (source-way i h (found .ride) (best-source (offInTicks target bound) target t i h (found .ride) (found .best)));
+          reached = subst (λ x. OpenWay t target bound i x) (found .worth)
+              (source-way i h (found .ride) (best-source (offInTicks target bound) target t i h (found .ride) (found .best)));
           least = λ other way. subst (λ x. x ≤ other) (found .worth) (worth-at-most (way-bounds i h other way) (found .ride) (found .best));
         },
     λ way. found-at-most (HasWorth t target bound i w) (way-bounds i h w (way .reached))
@@ -100,12 +105,14 @@ module _ (t : Timetable) (timely : Timely t) (target bound : ℕ) where
   no-worth i h = (
     λ e w way. found-at-most ⊥ (way-bounds i h w way) (λ v q _. absent {a = v} (sym e ∙ best-ride t target bound i h ∙ q)),
     λ shut. present-or-absent (bestRide t target bound i ≡ none) (bestRide t target bound i) (λ e. e)
-        (λ v e. absurd (shut (v .worth) (source-way i h v (best-source (offInTicks target bound) target t i h v (sym (best-ride t target bound i h) ∙ e))))),
+        (λ v e. absurd (shut (v .worth)
+        (source-way i h v (best-source (offInTicks target bound) target t i h v (sym (best-ride t target bound i h) ∙ e))))),
   )
 
   aboard-by :
-      (i : ℕ) → i < length (t .rows) → ((j : ℕ) → i < j → j < length (t .rows) → (u : Valued) → bestAt (offInTicks target bound) target t j ≡ some u → StaysAboard t target bound u)
-      → (v : Valued) → bestAt (offInTicks target bound) target t i ≡ some v → Source (offInTicks target bound) target t i v → StaysAboard t target bound v
+      (i : ℕ) → i < length (t .rows)
+      → ((j : ℕ) → i < j → j < length (t .rows) → (u : Valued) → bestInTicks t target bound j ≡ some u → StaysAboard t target bound u)
+      → (v : Valued) → bestInTicks t target bound i ≡ some v → Source (offInTicks target bound) target t i v → StaysAboard t target bound v
   aboard-by i h later v best (off-here {w = w} e dearer) =
       record {
         while-equal = λ j a b _. subst (λ k. HasWorth t target bound k w) (let z : i ≡ j = omega arith in z) (has-worth t target bound i h v best);
@@ -130,7 +137,7 @@ module _ (t : Timetable) (timely : Timely t) (target bound : ℕ) where
   pub stays-aboard : (i : ℕ) → i < length (t .rows) → (v : Valued) → bestRide t target bound i ≡ some v → StaysAboard t target bound v
   stays-aboard i h v e = all i h v (sym (best-ride t target bound i h) ∙ e)
     where
-      all : (i : ℕ) → i < length (t .rows) → (v : Valued) → bestAt (offInTicks target bound) target t i ≡ some v → StaysAboard t target bound v
+      all : (i : ℕ) → i < length (t .rows) → (v : Valued) → bestInTicks t target bound i ≡ some v → StaysAboard t target bound v
       all =
-          from-greater (λ i. (v : Valued) → bestAt (offInTicks target bound) target t i ≡ some v → StaysAboard t target bound v) (length (t .rows))
+          from-greater (λ i. (v : Valued) → bestInTicks t target bound i ≡ some v → StaysAboard t target bound v) (length (t .rows))
           (λ i h later v e. aboard-by i h later v e (best-source (offInTicks target bound) target t i h v e))

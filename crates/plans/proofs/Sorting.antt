@@ -31,7 +31,8 @@ pub on-place {ℓ} :
     → (r .board ≡ x .board → insert r (x ∷ rides) ≡ x ∷ rides → P) → (x .board < r .board → insert r (x ∷ rides) ≡ x ∷ insert r rides → P) → P
 unfolding insert
 on-place P r x rides before same behind =
-    ifb (λ b. cond b (r ∷ x ∷ rides) (cond (eqb (r .board) (x .board)) (x ∷ rides) (x ∷ insert r rides)) ≡ insert r (x ∷ rides) → P) (ltb (r .board) (x .board))
+    ifb (λ b. cond b (r ∷ x ∷ rides) (cond (eqb (r .board) (x .board)) (x ∷ rides) (x ∷ insert r rides)) ≡ insert r (x ∷ rides) → P)
+    (ltb (r .board) (x .board))
     (λ e h. before (ltb-true (r .board) (x .board) e) (sym h))
     (λ e h. ifb (λ b. cond b (x ∷ rides) (x ∷ insert r rides) ≡ insert r (x ∷ rides) → P) (eqb (r .board) (x .board))
     (λ q k. same (eqb-true (r .board) (x .board) q) (sym k))
@@ -71,11 +72,13 @@ insert-rising r safe.none = safe.one (λ next m. absurd (List·Memᴰ·not-nil m
 insert-rising r (safe.one {r = y} {rides} before rising) =
     on-place (Rising (insert r (y ∷ rides))) r y rides
     (λ b h. subst (λ (l : List Ride). Rising l) (sym h)
-    (safe.one (λ next m. head-or-later (r .board < next .board) m (λ e. subst (λ (x : Ride). r .board < x .board) (sym e) b) (λ n. omega (arith, before next n)))
+    (safe.one (λ next m. head-or-later (r .board < next .board) m (λ e. subst (λ (x : Ride). r .board < x .board) (sym e) b)
+    (λ n. omega (arith, before next n)))
     (safe.one before rising)))
     (λ _ h. subst (λ (l : List Ride). Rising l) (sym h) (safe.one before rising))
     (λ b h. subst (λ (l : List Ride). Rising l) (sym h)
-    (safe.one (λ next m. head-or-later (y .board < next .board) (insert-member r rides m) (λ e. subst (λ (x : Ride). y .board < x .board) (sym e) b) (λ n. before next n))
+    (safe.one (λ next m. head-or-later (y .board < next .board) (insert-member r rides m) (λ e. subst (λ (x : Ride). y .board < x .board) (sym e) b)
+    (λ n. before next n))
     (insert-rising r rising)))
 
 pub sorted-rising : (rides : List Ride) → Rising (sorted rides)
@@ -106,7 +109,8 @@ unfolding insert
 insert-first r [] before = refl
 insert-first r (x ∷ rides) before =
     let later : r .board < x .board = before x (List·Memᴰ·head refl) in
-    on-place (insert r (x ∷ rides) ≡ r ∷ x ∷ rides) r x rides (λ _ h. h) (λ e _. absurd (let z : ⊥ = omega arith in z)) (λ b _. absurd (let z : ⊥ = omega arith in z))
+    on-place (insert r (x ∷ rides) ≡ r ∷ x ∷ rides) r x rides (λ _ h. h) (λ e _. absurd (let z : ⊥ = omega arith in z))
+    (λ b _. absurd (let z : ⊥ = omega arith in z))
 
 pub sorted-same : {rides : List Ride} → Rising rides → sorted rides ≡ rides
 unfolding sorted

@@ -48,7 +48,8 @@ module _ (off : GettingOff) (target : ℕ) (t : Timetable) where
   next-at-most j w inside a =
       downward (λ i. i ≤ j → AtMost (nextFrom off target t i trip) w) (length (t .rows)) (λ k. absurd (let z : ⊥ = omega arith in z))
       (λ i h later k. subst (λ (o : Option Valued). AtMost o w) (sym (next-row off target t i trip h))
-      (ifb (λ b. eqb (rowOf (t .rows) i .trip) trip ≡ b → AtMost (cond b (bestAt off target t i) (nextFrom off target t (suc i) trip)) w) (eqb (rowOf (t .rows) i .trip) trip)
+      (ifb (λ b. eqb (rowOf (t .rows) i .trip) trip ≡ b → AtMost (cond b (bestAt off target t i) (nextFrom off target t (suc i) trip)) w)
+      (eqb (rowOf (t .rows) i .trip) trip)
       (λ e _. one-trip i (eqb-true (rowOf (t .rows) i .trip) trip e) later (eq-or-lt-of-le k))
       (λ e _. later (another i (eqb-false (rowOf (t .rows) i .trip) trip e) (eq-or-lt-of-le k))) refl))
     where
@@ -81,8 +82,11 @@ module _ (off : GettingOff) (target : ℕ) (t : Timetable) where
   unfolding offAt
   ride-off landed r is =
       sym (ap (λ (x : Ride). off x (chosenFrom off target t (suc (r .leave)))) (is .as-timed)
-      ∙ landed (r .board) (rowOf (t .rows) (r .board)) (rowRide (t .tables) (r .leave) (rowOf (t .rows) (r .leave))) (chosenFrom off target t (suc (r .leave))))
+      ∙ landed (r .board) (rowOf (t .rows) (r .board)) (rowRide (t .tables) (r .leave) (rowOf (t .rows) (r .leave)))
+      (chosenFrom off target t (suc (r .leave))))
 
   -- what getting off after a ride is worth bounds what its boarding row is worth
-  pub ride-at-most : (r : Ride) → IsRide t r → AsLanded off → (w : ℕ) → off r (chosenFrom off target t (suc (r .leave))) ≡ some w → AtMost (bestAt off target t (r .board)) w
-  ride-at-most r is landed w e = stay-on (r .board) (r .leave) w (is .onward) (is .inside) (is .one-trip) (row-off (r .leave) w (ride-off landed r is ∙ e))
+  pub ride-at-most : (r : Ride) → IsRide t r → AsLanded off → (w : ℕ) → off r (chosenFrom off target t (suc (r .leave))) ≡ some w
+      → AtMost (bestAt off target t (r .board)) w
+  ride-at-most r is landed w e = stay-on (r .board) (r .leave) w (is .onward) (is .inside) (is .one-trip)
+      (row-off (r .leave) w (ride-off landed r is ∙ e))

@@ -36,7 +36,11 @@ pub change-less :
     (r : Ride) (vs us : List Valued) → length (r .shares) ≡ suc (longest (r .shares))
     → ((m : ℕ) → r .arrives ≤ m → m ≤ latest r → caught vs (r .to) m ≤ caught us (r .to) m) → changeWorth r vs ≤ changeWorth r us
 unfolding changeWorth
-change-less r vs us stand less = omega (arith, weigh-less (r .shares) (r .arrives) (λ m. caught vs (r .to) m) (λ m. caught us (r .to) m) (λ m h k. less m h (let z : m ≤ latest r = omega arith in z)))
+change-less r vs us stand less = omega (
+  arith,
+  weigh-less (r .shares) (r .arrives) (λ m. caught vs (r .to) m) (λ m. caught us (r .to) m)
+      (λ m h k. less m h (let z : m ≤ latest r = omega arith in z)),
+)
 
 pub land-same :
     (target : ℕ) (r : Ride) (vs us : List Valued) → length (r .shares) ≡ suc (longest (r .shares))

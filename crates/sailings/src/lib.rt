@@ -1,139 +1,129 @@
-// Document 01, "Numbers returned on refusal": the check of a sailing file. A plain draft for runs.
+// Document 01, "Numbers returned on refusal": the check of a sailing file, its head and then row by row.
+ghost use mathlib.Core.Bool.{_&&_};
+ghost use mathlib.Core.List.{[]};
+ghost use mathlib.Core.Path.{_≡_};
+ghost use Prim.Native.Nat.{_+_, _*_, _≤_};
+ghost use lib.Dec.{leb};
+ghost use lib.ListN.{length};
+ghost use Rattle.timetable.specs.Rows.{lastOfTrip, follows as followsRow, rowsVerdict};
+ghost use Rattle.layout.specs.Format.{Readable};
+ghost use Rattle.layout.specs.Decode.{rowsFrom};
+ghost use Rattle.layout.specs.Check.{answered, checkedAs, checked};
+ghost use Rattle.sailings.specs.Behind.{rowsBehind, found, RowsInside};
+use head::Headed;
 use layout::Checked;
 use layout::Format;
 use layout::Head;
-use layout::VERSION_ONE;
-use layout::head_at;
-use layout::row_at;
-use layout::u16_at;
+use timetable::Ranges;
 use timetable::Row;
+use timetable::TRIPS;
 
-fn refused(number: usize, place: usize) -> Checked {
-    Checked::Refused { number, place }
+// The nearest earlier row of a trip, if there is one.
+enum Found {
+    At(Row),
+    Nothing,
 }
 
-pub fn check(file: &[u8]) -> Checked {
-    let format = VERSION_ONE;
-    if file.len() < format.shortest {
-        return refused(1, 0);
-    }
-    if format.longest < file.len() {
-        return refused(1, 0);
-    }
-    let limit = file.len() - format.trailer;
-    let head = head_at(file, limit);
-    if head.version != format.version {
-        return refused(1, 0);
-    }
-    if head.stops < 2 || 200 < head.stops || 2000 < head.rows {
-        return refused(1, 0);
-    }
-    if head.classes < 1 || 16 < head.classes {
-        return refused(1, 0);
-    }
-    check_sections(file, format, head, limit)
+// The check of a file of version 1.
+pub fn check(file: &[u8]) -> Checked
+    ensures { λ r. ⌜ r ≡ checked (now (file .entry)) ⌝ }
+{
+    check_as(file, layout::VERSION_ONE)
 }
 
-fn check_sections(file: &[u8], format: Format, head: Head, limit: usize) -> Checked {
-    let mut k = 0;
-    let mut at = head.tablestart;
-    while k < head.classes {
-        let fault = class_fault(file, format, at, limit);
-        if fault == 2 {
-            return refused(2, 0);
+// The check of a file of a version: the head, then the rows.
+fn check_as(file: &[u8], f: Format) -> Checked
+    requires { ⌜ Readable f ⌝ }
+    ensures { λ r. ⌜ r ≡ checkedAs f (now (file .entry)) ⌝ }
+{
+    let headed = head::head(file, f);
+    match headed {
+        Headed::Bad { number, place } => Checked::Refused { number, place },
+        Headed::Good { head } => {
+            let ranges = Ranges {
+                stops: head.stops,
+                classes: head.classes,
+                latest: f.latest,
+            };
+            check_rows(file, head, f.width, ranges)
         }
-        if fault == 3 {
-            return refused(3, k);
-        }
-        at += 4 + 2 * u16_at(file, at);
-        k += 1;
     }
-    let rows_end = head.rowstart + format.width * head.rows;
-    if head.rowstart == 0 && head.tablestart == rows_end && at == limit {
-        return check_rows(file, format, head);
-    }
-    if head.tablestart == 0 && head.rowstart == at && rows_end == limit {
-        return check_rows(file, format, head);
-    }
-    refused(2, 0)
 }
 
-fn class_fault(file: &[u8], format: Format, at: usize, limit: usize) -> usize {
-    if limit < at + 2 {
-        return 2;
-    }
-    let longest = u16_at(file, at);
-    if format.delay < longest {
-        return 3;
-    }
-    if limit < at + 4 + 2 * longest {
-        return 2;
-    }
-    let mut total = 0;
-    let mut v = 0;
-    while v <= longest {
-        total += u16_at(file, at + 2 + 2 * v);
-        v += 1;
-    }
-    if total != 4096 {
-        return 3;
-    }
-    if u16_at(file, at + 2 + 2 * longest) == 0 {
-        return 3;
-    }
-    0
-}
-
-fn check_rows(file: &[u8], format: Format, head: Head) -> Checked {
-    let mut seen = [0u32; 2000];
+// Row by row, 4 before 5. `seen` has, for each trip, the number of rows up to its last one so far.
+fn check_rows(file: &[u8], head: Head, width: usize, ranges: Ranges) -> Checked
+    requires { ⌜ RowsInside width head (length (now file)) ⌝ }
+    ensures { λ r. ⌜ r ≡ answered head (rowsVerdict ranges [] 0 (rowsFrom width (now (file .entry)) (head .rowstart) (head .rows))) ⌝ }
+{
+    let start = head.rowstart;
+    let count = head.rows;
+    let mut seen = [0u16; TRIPS];
+    let mut departure = 0;
+    let mut at = start;
     let mut i = 0;
-    let mut at = head.rowstart;
-    let mut before = 0;
-    while i < head.rows {
-        let row = row_at(file, at);
-        if !own_rule(format, head, row) {
-            return refused(4, i);
-        }
-        if row.departure < before {
-            return refused(5, i);
+    while i < count {
+        let row = layout::row_at(file, at);
+        if !timetable::own_rule(row, ranges) {
+            return Checked::Refused {
+                number: 4,
+                place: i,
+            };
         }
         let trip = row.trip;
-        let hint = seen[trip] as usize;
-        if hint != 0 {
-            if !follows(file, head.rowstart, format.width, hint, row) {
-                return refused(5, i);
-            }
+        if !in_order(file, start, width, seen[trip] as usize, departure, row) {
+            return Checked::Refused {
+                number: 5,
+                place: i,
+            };
         }
+        departure = row.departure;
+        at += width;
         i += 1;
-        seen[trip] = i as u32;
-        before = row.departure;
-        at += format.width;
+        seen[trip] = i as u16;
     }
     Checked::Sound {
         stops: head.stops,
-        rows: head.rows,
+        rows: count,
         classes: head.classes,
     }
 }
 
-fn own_rule(format: Format, head: Head, row: Row) -> bool {
-    row.board < head.stops
-        && row.land < head.stops
-        && row.board != row.land
-        && row.departure < row.arrival
-        && row.arrival <= format.latest
-        && row.trip < 2000
-        && row.class < head.classes
+// The rule of departures, then that of the trip, whose earlier rows are among the first `count`.
+fn in_order(
+    file: &[u8],
+    start: usize,
+    width: usize,
+    count: usize,
+    departure: usize,
+    row: Row,
+) -> bool
+    requires { ⌜ (12 ≤ width) × (start + width * count ≤ length (now file)) ⌝ }
+    ensures { λ r. ⌜ r ≡ (leb departure (row .departure) && followsRow (lastOfTrip (row .trip) (rowsBehind width (now (file .entry)) start count)) row) ⌝ }
+{
+    if row.departure < departure {
+        return false;
+    }
+    let found = look_back(file, start, width, count, row.trip);
+    let Found::At(previous) = found else {
+        return true;
+    };
+    timetable::follows(previous, row)
 }
 
-fn follows(file: &[u8], at: usize, width: usize, hint: usize, row: Row) -> bool {
-    let mut left = hint;
+// The nearest row of `trip` among the first `count`, found by looking back and stopping at the first.
+fn look_back(file: &[u8], start: usize, width: usize, count: usize, trip: usize) -> Found
+    requires { ⌜ (12 ≤ width) × (start + width * count ≤ length (now file)) ⌝ }
+    ensures { λ r. ⌜ r ≡ found (lastOfTrip trip (rowsBehind width (now (file .entry)) start count)) ⌝ }
+{
+    let mut left = count;
+    let mut at = start + width * count;
     while 0 < left {
         left -= 1;
-        let back = row_at(file, at + width * left);
-        if back.trip == row.trip {
-            return back.land == row.board && back.arrival <= row.departure;
+        at -= width;
+        let row = layout::row_at(file, at);
+        if row.trip == trip {
+            return Found::At(row);
         }
     }
-    true
+    Found::Nothing
 }

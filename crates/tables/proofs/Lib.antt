@@ -1,2 +1,3 @@
 -- Laws of running sums.
 pub mod Running
+pub mod Block

@@ -5,3 +5,4 @@ pub mod RowsSound
 pub mod Pinned
 pub mod RowsFine
 pub mod Places
+pub mod Settled

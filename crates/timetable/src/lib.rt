@@ -1,4 +1,7 @@
 // Document 01, "The sailing file": a row, and what its numbers are held to.
+ghost use mathlib.Core.Path.{_≡_};
+ghost use mathlib.Core.Option.{some};
+ghost use Rattle.timetable.specs.Rows.{ownRule, follows as followsRow};
 
 // One sailing or bus hop: the six numbers of a row, in the file's order.
 pub struct Row {
@@ -15,4 +18,45 @@ pub struct Ranges {
     pub stops: usize,
     pub classes: usize,
     pub latest: usize,
+}
+
+// Trips are numbered below this.
+pub const TRIPS: usize = 2000;
+
+// The rule of a row about itself alone.
+pub fn own_rule(row: Row, g: Ranges) -> bool
+    ensures { λ r. ⌜ r ≡ ownRule g row ⌝ }
+{
+    if row.board >= g.stops {
+        return false;
+    }
+    if row.land >= g.stops {
+        return false;
+    }
+    if row.board == row.land {
+        return false;
+    }
+    if row.departure >= row.arrival {
+        return false;
+    }
+    if row.departure > g.latest {
+        return false;
+    }
+    if row.arrival > g.latest {
+        return false;
+    }
+    if row.trip >= TRIPS {
+        return false;
+    }
+    row.class < g.classes
+}
+
+// Whether a row may come behind `previous`, the nearest earlier row of its trip.
+pub fn follows(previous: Row, row: Row) -> bool
+    ensures { λ r. ⌜ r ≡ followsRow (some previous) row ⌝ }
+{
+    if previous.land != row.board {
+        return false;
+    }
+    previous.arrival <= row.departure
 }
