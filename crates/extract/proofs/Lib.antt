@@ -4,3 +4,7 @@ pub mod Laid
 pub mod Going
 pub mod Timed
 pub mod Kept
+pub mod Stacked
+pub mod Wanting
+pub mod Writing
+pub mod Aboard
