@@ -8,3 +8,4 @@ pub mod Stacked
 pub mod Wanting
 pub mod Writing
 pub mod Aboard
+pub mod Headed
