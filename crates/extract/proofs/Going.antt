@@ -1,5 +1,5 @@
 -- The pass forward over the rows, on lists: what is written so far and what the windows still take are the plan. Assumes nothing.
-use Prim.Native.Nat.{ℕ, zero, suc, _≤_, _<_}
+use Prim.Native.Nat.{ℕ, suc, _≤_, _<_}
 use mathlib.Core.Bool.{true, false, false≢true}
 use mathlib.Core.List.{List, [], _∷_, _++_, append-assoc, append-nil, List·Memᴰ, List·Memᴰ·head, List·Memᴰ·tail, List·Memᴰ·not-nil}
 use mathlib.Core.Logic.{_≢_}
@@ -14,7 +14,7 @@ use Rattle.plans.specs.Rides.{latest}
 use Rattle.plans.specs.Worth.{Valued, firstOpen}
 use Rattle.plans.specs.Plan.{Window, wanted, windowsOf, extract}
 use Rattle.plans.proofs.Extracted.{on-taking}
-use Rattle.plans.proofs.Order.{Before, Ordered, ahead}
+use Rattle.plans.proofs.Order.{Ordered, ahead}
 use Rattle.plans.proofs.OwnWorth.{Moves, OwnWorth}
 use Rattle.plans.proofs.OwnWorth as own
 

@@ -1,5 +1,5 @@
 -- Marks change nothing of what the scan left in the cells behind them. Assumes nothing.
-use Prim.Native.Nat.{ℕ, zero, suc, _+_, _-_, _*_, _≤_, _<_}
+use Prim.Native.Nat.{ℕ, zero, suc, _+_, _-_, _*_, _≤_}
 use mathlib.Core.List.{List, _∷_}
 use mathlib.Core.Option.{Option, none, some}
 use mathlib.Core.Path.{_≡_, refl, sym, ap, ap₂, subst, _∙_}
@@ -8,7 +8,7 @@ use lib.ListN.{length, getD, drop, length-drop}
 use lib.Seq.{ext-getD, getD-drop}
 use Rattle.plans.specs.Worth.{Valued}
 use Rattle.plans.specs.Chosen.{Scan}
-use Rattle.cells.specs.Cells.{Entry, entryAt, stackAt, stackStart, stackSize, pairs, used}
+use Rattle.cells.specs.Cells.{Entry, stackAt, stackStart, stackSize, pairs, used}
 use Rattle.scan.specs.Scanned.{ScanHeld, PairHolds, bestIn}
 
 -- two slices that agree behind the marks

@@ -9,3 +9,4 @@ pub mod Wanting
 pub mod Writing
 pub mod Aboard
 pub mod Headed
+pub mod Settled

@@ -11,7 +11,7 @@ use lib.ListN.{length, getD, set, length-set}
 use lib.Seq.{getD-set-same, getD-set-other}
 use Rattle.laws.proofs.Tests.{ifb}
 use Rattle.cells.specs.Cells.{stackStart, stackSize}
-use Rattle.landing.specs.Landing.{departureAt, Falling, FirstOpenAt}
+use Rattle.landing.specs.Landing.{departureAt, FirstOpenAt}
 use Rattle.extract.specs.Marks.{entryRow, Caught, Catching, Passed, AllPassed}
 
 -- a cell that is set holds the value, the others what they held

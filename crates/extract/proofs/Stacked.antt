@@ -1,17 +1,17 @@
 -- A stop's stack and the chosen rides that board there: each entry is such a ride, and each such ride has an entry. Assumes nothing.
-use Prim.Native.Nat.{ℕ, suc, _+_, _-_, _*_, _/_, _%_, _≤_, _<_}
-use mathlib.Core.Bool.{true, cond}
+use Prim.Native.Nat.{ℕ, suc, _+_, _-_, _*_, _/_, _%_, _<_}
+use mathlib.Core.Bool.{cond}
 use mathlib.Core.List.{List, [], _∷_, List·Memᴰ, List·Memᴰ·head, List·Memᴰ·tail}
 use mathlib.Core.Path.{_≡_, refl, sym, ap, subst, _∙_}
 use native.Mathlib.Omega.{arith}
-use borrow.Author.Tests.{eqb-false, eq-eqb}
+use borrow.Author.Tests.{eqb-false}
 use lib.Dec.{eqb}
 use lib.ListN.{length, getD}
 use Rattle.laws.proofs.Members.{head-or-later}
 use Rattle.laws.proofs.Places.{member-at, place-of}
 use Rattle.laws.proofs.Tests.{ifb}
 use Rattle.plans.specs.Worth.{Valued}
-use Rattle.cells.specs.Cells.{Entry, keyOf, stackStart, stackSize}
+use Rattle.cells.specs.Cells.{Entry, stackStart, stackSize}
 use Rattle.landing.specs.Landing.{atStop, StackHolds, EntryFits, Climbing, departureAt}
 use Rattle.landing.proofs.AtStop.{at-stop-from, at-stop-member}
 use Rattle.landing.proofs.Stack.{stack-size, entry-at}

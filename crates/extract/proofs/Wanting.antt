@@ -1,27 +1,27 @@
 -- Marks and windows: the rows marked are those of the chosen rides that the windows want, and a landing's window wants the rides that it catches.
 -- Assumes nothing.
-use Prim.Native.Nat.{ℕ, suc, _+_, _*_, _≤_, _<_}
-use mathlib.Core.Bool.{true, false, false≢true, _&&_, _||_}
+use Prim.Native.Nat.{ℕ, _+_, _*_, _≤_, _<_}
+use mathlib.Core.Bool.{true, false}
 use mathlib.Core.List.{List, [], _∷_, _++_, List·Memᴰ}
 use mathlib.Core.Logic.{_⊎_, inl, inr, ⊎-elim, _≢_}
-use mathlib.Core.Option.{Option, none, some}
+use mathlib.Core.Option.{some}
 use mathlib.Core.Path.{_≡_, refl, sym, ap, subst, _∙_}
 use native.Mathlib.Nat.{eq-or-lt-of-le, lt-of-not-le}
 use native.Mathlib.Omega.{arith}
 use borrow.Author.Tests.{eq-eqb, ne-eqb, leb-true, leb-false, le-leb}
-use lib.Dec.{leb, eqb}
+use lib.Dec.{leb}
 use lib.ListN.{length, getD}
 use Rattle.laws.proofs.Alternatives.{or-left, or-right}
 use Rattle.laws.proofs.Tests.{ifb, both, both-left, both-right, either, cond-true, cond-false}
 use Rattle.plans.specs.Rides.{Ride, latest, boards}
 use Rattle.plans.specs.Worth.{Valued, firstOpen}
 use Rattle.plans.specs.Plan.{Window, inWindow, wanted, upTo, windowsOf}
-use Rattle.plans.proofs.Open.{boards-stop, boards-minute, can-board, boards-earlier, found-member, found-boards}
+use Rattle.plans.proofs.Open.{boards-stop, boards-minute, can-board, found-member, found-boards}
 use Rattle.plans.proofs.Order.{Before, Ordered, members-apart, first-before}
 use Rattle.plans.proofs.OwnWorth.{Moves}
 use Rattle.cells.specs.Cells.{stackStart, stackSize}
-use Rattle.landing.specs.Landing.{StackHolds, Climbing, departureAt, Falling}
-use Rattle.extract.specs.Marks.{entryRow, Caught, Catching, Passed, AllPassed}
+use Rattle.landing.specs.Landing.{StackHolds, Climbing, departureAt}
+use Rattle.extract.specs.Marks.{entryRow, Caught, Catching, AllPassed}
 use Rattle.extract.proofs.Stacked.{Stands, entry-ride, ride-entry, falls}
 
 -- of n rows, those marked are the chosen rows whose rides the windows want

@@ -1,8 +1,8 @@
 -- The pass forward over the rows: what the marks, the plan slice and the two counts hold at row i. Assumes nothing.
 use Prim.Native.Nat.{ℕ, zero, suc, max, _+_, _*_, _≤_, _<_}
-use mathlib.Core.Bool.{true, false, _&&_, _||_}
+use mathlib.Core.Bool.{true, false, _&&_}
 use mathlib.Core.List.{List, [], _∷_, _++_, List·Memᴰ}
-use mathlib.Core.Logic.{_⊎_, inl, inr, ⊎-elim, _≢_}
+use mathlib.Core.Logic.{⊎-elim, _≢_}
 use mathlib.Core.Option.{some}
 use mathlib.Core.Path.{_≡_, refl, sym, ap, subst, _∙_}
 use native.Mathlib.Omega.{arith}
@@ -12,8 +12,8 @@ use lib.ListN.{length, getD}
 use Rattle.laws.proofs.Options.{same-thing}
 use Rattle.laws.proofs.Tests.{ifb, both-left, both-right, either}
 use Rattle.plans.specs.Rides.{latest, boards}
-use Rattle.plans.specs.Worth.{Valued, firstOpen}
-use Rattle.plans.specs.Plan.{Window, inWindow, wanted, upTo, windowsOf, extract, latestOf}
+use Rattle.plans.specs.Worth.{Valued}
+use Rattle.plans.specs.Plan.{Window, inWindow, wanted, upTo, windowsOf, latestOf}
 use Rattle.plans.proofs.Extracted.{up-to-wants}
 use Rattle.plans.proofs.Open.{boards-stop, found-member, found-boards}
 use Rattle.plans.proofs.Order.{Ordered, members-apart, first-before}
@@ -22,7 +22,7 @@ use Rattle.landing.specs.Landing.{StackHolds, Climbing}
 use Rattle.extract.specs.Extracted.{FirstRide, ridesOf, written, over}
 use Rattle.extract.specs.Marks.{HeadAlone, AllPassed, put}
 use Rattle.extract.proofs.Going.{Going, Taken, going-start, going-pass, going-take, going-end}
-use Rattle.extract.proofs.Laid.{length-written, length-over, length-more, over-none, over-more}
+use Rattle.extract.proofs.Laid.{length-over, length-more, over-none, over-more}
 use Rattle.extract.proofs.Wanting.{Marking, Lands, unmarked, none-more, marking-on}
 
 latest-more : (past : List Valued) (v : Valued) → latestOf (past ++ v ∷ []) ≡ max (latestOf past) (latest (v .ride))

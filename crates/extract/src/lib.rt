@@ -140,5 +140,6 @@ fn want(land: usize, arrival: usize, landing: usize, work: &mut [u32])
         entry -= 2;
         key = work[entry];
     }
-    work[TRIPS + row_of(key)] = 1;
+    let safe = row_of(key);
+    work[TRIPS + safe] = 1;
 }

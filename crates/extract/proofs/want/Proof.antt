@@ -1,8 +1,7 @@
 -- `extract::want` meets its contract: the entries above the one that the loop is at are passed. Assumes nothing.
-use Prim.Native.Nat.{ℕ, _+_, _*_, _/_, _%_, _≤_, _<_}
-use mathlib.Core.Path.{_≡_, refl, sym, ap, subst, _∙_}
+use Prim.Native.Nat.{_+_, _*_, _/_, _%_, _≤_, _<_}
+use mathlib.Core.Path.{_≡_, sym, subst, _∙_}
 use native.Mathlib.Omega.{arith}
-use borrow.Author.Needs.{needs}
 use borrow.Author.Tests.{leb-true, leb-false, not-true, not-false}
 use Rattle.cells.specs.Cells.{stackStart, stackSize}
 use lib.ListN.{length-set}
@@ -11,13 +10,6 @@ use Rattle.extract.proofs.Passing.{Down}
 use Rattle.extract.proofs.Passing as passing
 use Rattle.extract.proofs.want.Statement.{statement}
 use Rattle.extract.proofs.want.Tie as tie
-use Rattle.extract.proofs.want.Reads as reads
-use Rattle.extract.proofs.want.Lts as lts
-use Rattle.cells.proofs.number.Reads as number-reads
-use Rattle.landing.proofs.departure_of.Reads as departure-of-reads
-use Rattle.landing.proofs.first_open.Reads as first-open-reads
-use Rattle.landing.proofs.row_of.Reads as row-of-reads
-use Rattle.reading.proofs.opens.Reads as opens-reads
 
 abbrev Inv-loop : tie.InvT-loop
 Inv-loop land arrival landing work₀ size start entry₀ key₀ work entry key =

@@ -1,9 +1,9 @@
 -- `extract::write_plan` meets its contract: the marks are cleared but for the first row's, and the pass begins there. Assumes nothing.
 use Prim.Native.Nat.{_+_, _*_, _<_}
-use mathlib.Core.Path.{_≡_, sym, subst, _∙_}
+use mathlib.Core.Path.{sym, subst, _∙_}
 use native.Mathlib.Nat.{zero-add}
 use native.Mathlib.Omega.{arith}
-use lib.ListN.{length, set}
+use lib.ListN.{set}
 use Rattle.plans.proofs.Open.{found-member}
 use Rattle.scan.specs.Scanned.{scanIn}
 use Rattle.extract.specs.Marks.{HeadAlone}

@@ -1,7 +1,7 @@
 -- `extract::write_wanted` meets its contract: at row i the plan is written as far as the rows before it. Assumes nothing.
 use Prim.Native.Nat.{ℕ, suc, max, _+_, _-_, _*_, _≤_, _<_}
 use mathlib.Core.List.{List, List·Memᴰ}
-use mathlib.Core.Path.{_≡_, refl, sym, ap, subst, _∙_}
+use mathlib.Core.Path.{_≡_, sym, ap, subst, _∙_}
 use native.Mathlib.Omega.{arith}
 use lib.ListN.{length, getD}
 use native.Mathlib.Nat.{zero-add}
@@ -24,14 +24,6 @@ use Rattle.extract.proofs.Passing as passing
 use mathlib.Core.Logic.{_≢_}
 use Rattle.extract.proofs.write_wanted.Statement.{statement}
 use Rattle.extract.proofs.write_wanted.Tie as tie
-use Rattle.extract.proofs.write_wanted.Reads as reads
-use Rattle.extract.proofs.write_wanted.Lts as lts
-use Rattle.cells.proofs.cell.Reads as cell-reads
-use Rattle.cells.proofs.number.Reads as number-reads
-use Rattle.extract.proofs.later.Reads as later-reads
-use Rattle.extract.proofs.want.Reads as want-reads
-use Rattle.extract.proofs.write_ride.Reads as write-ride-reads
-use Rattle.reading.proofs.nth_row.Reads as nth-row-reads
 
 abbrev Inv-loop : tie.InvT-loop
 Inv-loop file s tables goal first head end work₀ plan₀ rides₀ latest₀ i₀ work plan rides latest i =
