@@ -108,6 +108,10 @@ bool decided_by_row_number(const Sailings &sailings, Worths &worths,
 void count_features(const Sailings &sailings, const Query &query,
                     const Plan &plan) {
   Worths worths(sailings, query.target, plan.bound);
+  Query unbounded = query;
+  unbounded.code = 0;
+  if (plan_of(sailings, unbounded)->expected != plan.expected)
+    count("plans that the bound makes worse");
   for (const PlannedRide &planned : plan.rides) {
     const Ride &ride = planned.ride;
     if (ride.leaves != ride.boards) count("rides over several rows");
