@@ -105,23 +105,25 @@ bool decided_by_row_number(const Sailings &sailings, Worths &worths,
   return false;
 }
 
+const std::string LOOKED_INTO = "looked into: ";
+
 void count_features(const Sailings &sailings, const Query &query,
                     const Plan &plan) {
   Worths worths(sailings, query.target, plan.bound);
   Query unbounded = query;
   unbounded.code = 0;
   if (plan_of(sailings, unbounded)->expected != plan.expected)
-    count("plans that the bound makes worse");
+    count(LOOKED_INTO + "plans that the bound makes worse");
   for (const PlannedRide &planned : plan.rides) {
     const Ride &ride = planned.ride;
-    if (ride.leaves != ride.boards) count("rides over several rows");
-    if (passes(sailings, ride, query.target)) count("rides past the target");
-    if (passes(sailings, ride, query.source)) count("rides past the source");
+    if (ride.leaves != ride.boards) count(LOOKED_INTO + "rides over several rows");
+    if (passes(sailings, ride, query.target)) count(LOOKED_INTO + "rides past the target");
+    if (passes(sailings, ride, query.source)) count(LOOKED_INTO + "rides past the source");
     if (decided_by_row_number(sailings, worths, ride.boards))
-      count("rides chosen by row number among equals");
+      count(LOOKED_INTO + "rides chosen by row number among equals");
     if (left_row(sailings, ride).landing == query.target &&
         class_of(sailings, ride).maximum_delay > 0)
-      count("last rides with M above 0");
+      count(LOOKED_INTO + "last rides with M above 0");
   }
 }
 
@@ -196,9 +198,10 @@ bool is_meant_sound(const Sample &made) {
          made.shape != Shape::noise;
 }
 
+// A network has too many rides for demand 2 but often a short plan for 3.
 bool is_tiny(const Sample &made) {
   return made.shape == Shape::tiny || made.shape == Shape::relay ||
-         made.shape == Shape::passing;
+         made.shape == Shape::passing || made.shape == Shape::network;
 }
 
 void try_call(const Options &options, uint64_t seed, const Sample &made,

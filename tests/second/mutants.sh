@@ -1,6 +1,9 @@
 #!/bin/sh
 # Plants one plausible error after another in a copy of the definitions, takes
-# the copy as the subject, and expects the comparison to notice each.
+# the copy as the subject, and expects the comparison to notice each. Two
+# changes are left out because no answer shows them: choosing rows that board
+# at the target (nothing asks for a chosen row there), and the second house
+# formula at x = m (both give two thirds).
 set -u
 here=$(cd "$(dirname "$0")" && pwd)
 place=$(mktemp -d)
@@ -73,8 +76,8 @@ mutant "a ride caught only at share 0 left out" plan \
 mutant "lowest row number among equals" worths 's/other > row/other < row/'
 mutant "equal worth later does not hinder" worths \
   's/\*its <= \*own) return/*its < *own) return/'
-mutant "rows boarding at the target chosen" worths \
-  's/if (here.boarding == target_) return false;//'
+mutant "rows boarding at the target have no worth" worths \
+  's/  if (!next) return std::nullopt;/  if (!next || sailings_.rows[*next].boarding == target_) return std::nullopt;/'
 mutant "leaves at the first equal landing" plan \
   's/if (!next || /if (!next || worths.getting_off(ride.leaves) == worths.worth(row) || /'
 mutant "never passes the target" plan \
@@ -102,8 +105,16 @@ mutant "departures must rise" file_check \
   's/earlier.back().departure <= row.departure/earlier.back().departure < row.departure/'
 mutant "5 before 4" file_check \
   's/if (!row_is_right_alone(row, trailer)) return refused({4, number});/if (!departure_does_not_fall(rows, row)) return refused({5, number});\n&/'
+mutant "4 in all rows before 5 in any" file_check \
+  's/^  std::vector<Row> &rows = answer.sailings.rows;/&\n  for (uint32_t number = 0; number < trailer.rows; ++number)\n    if (!row_is_right_alone(read_row(file, trailer.row_offset + ROW_LENGTH * number), trailer)) return refused({4, number});/'
 mutant "joining before classes" file_check \
   's/  uint64_t place = trailer.table_offset;/  if (trailer.row_offset != 0 \&\& trailer.table_offset != 0) return refused({2, 0});\n&/'
+mutant "shares must fit before M is looked at" file_check \
+  's/  if (!maximum_in_range(read.maximum_delay)) return {3, number};/  if (place + 2 * (read.maximum_delay + 1) > trailer_start) return {2, 0};\n&/'
+mutant "M looked at before it fits" file_check \
+  's/  if (place + 2 > trailer_start) return {2, 0};/  if (place + 2 <= file.size() \&\& u16_at(file, place) > 120) return {3, number};\n&/'
+mutant "sums looked at after joining" file_check \
+  's/^constexpr uint32_t LAST_MINUTE.*/&\nuint32_t wrong_sums = 0, wrong_class = 0;/; s/  if (!shares_are_right(read.shares)) return {3, number};/  if (!shares_are_right(read.shares) \&\& wrong_sums++ == 0) wrong_class = number;/; s/^  std::vector<Row> &rows = answer.sailings.rows;/  if (wrong_sums > 0) return refused({3, wrong_class});\n&/; s/^  if (!length_in_range(file)) return refused({1, 0});/  wrong_sums = 0;\n&/'
 mutant "only rows first" file_check \
   's/follow_each_other(trailer.table_offset, table_end, trailer.row_offset,/false \&\& &/'
 mutant "end not compared" file_check \
@@ -136,6 +147,6 @@ mutant "plan slice may be one shorter" plan \
   's/slice.size() < 3 \* sailings.rows.size()/slice.size() + 1 < 3 * sailings.rows.size()/'
 mutant "earliest reads the bound code" plan 's/query.minute, 0};/query.minute, 3};/'
 mutant "house shares rounded up" house 's|4096 \* above / below|(4096 * above + below - 1) / below|'
-mutant "house change time by the second formula" house 's/x <= m/x < m/'
+mutant "house tail rising too slowly" house 's/31 \* (x - m)/30 * (x - m)/'
 echo "$noticed noticed, $missed missed"
 [ "$missed" = 0 ]
