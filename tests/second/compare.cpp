@@ -4,6 +4,9 @@
 //   compare [--self] [--files N] [--seed S] [--every E]
 //
 // --self needs no subject. Of the tiny files every E-th is enumerated.
+#include <unistd.h>
+
+#include <csignal>
 #include <cstdio>
 #include <cstdlib>
 #include <cstring>
@@ -68,6 +71,27 @@ void save(const Bytes &file, const std::string &text) {
   std::exit(1);
 }
 
+// A subject that dies or hangs is a difference, too.
+struct Watched {
+  uint64_t seed;
+  const Bytes *file;
+  const Call *call;
+} watched;
+
+constexpr unsigned LONGEST_CALL_SECONDS = 60;
+
+void subject_died(int signal_number) {
+  std::signal(signal_number, SIG_DFL);
+  if (!watched.file) std::exit(1);
+  complain(watched.seed, *watched.file, *watched.call,
+           "the call ended with signal " + std::to_string(signal_number));
+}
+
+void watch_signals() {
+  for (int number : {SIGABRT, SIGSEGV, SIGFPE, SIGILL, SIGBUS, SIGALRM})
+    std::signal(number, subject_died);
+}
+
 // --------------------------------------------------------- the definitions
 
 std::vector<Ride> rides_of(const Plan &plan) {
@@ -105,25 +129,27 @@ bool decided_by_row_number(const Sailings &sailings, Worths &worths,
   return false;
 }
 
-const std::string LOOKED_INTO = "looked into: ";
+void count_if(bool seen, const char *feature) {
+  if (seen) count(std::string("looked into: ") + feature);
+}
 
 void count_features(const Sailings &sailings, const Query &query,
                     const Plan &plan) {
   Worths worths(sailings, query.target, plan.bound);
   Query unbounded = query;
   unbounded.code = 0;
-  if (plan_of(sailings, unbounded)->expected != plan.expected)
-    count(LOOKED_INTO + "plans that the bound makes worse");
+  count_if(plan_of(sailings, unbounded)->expected != plan.expected,
+           "plans that the bound makes worse");
   for (const PlannedRide &planned : plan.rides) {
     const Ride &ride = planned.ride;
-    if (ride.leaves != ride.boards) count(LOOKED_INTO + "rides over several rows");
-    if (passes(sailings, ride, query.target)) count(LOOKED_INTO + "rides past the target");
-    if (passes(sailings, ride, query.source)) count(LOOKED_INTO + "rides past the source");
-    if (decided_by_row_number(sailings, worths, ride.boards))
-      count(LOOKED_INTO + "rides chosen by row number among equals");
-    if (left_row(sailings, ride).landing == query.target &&
-        class_of(sailings, ride).maximum_delay > 0)
-      count(LOOKED_INTO + "last rides with M above 0");
+    count_if(ride.leaves != ride.boards, "rides over several rows");
+    count_if(passes(sailings, ride, query.target), "rides past the target");
+    count_if(passes(sailings, ride, query.source), "rides past the source");
+    count_if(decided_by_row_number(sailings, worths, ride.boards),
+             "rides chosen by row number among equals");
+    count_if(left_row(sailings, ride).landing == query.target &&
+                 class_of(sailings, ride).maximum_delay > 0,
+             "last rides with M above 0");
   }
 }
 
@@ -209,7 +235,10 @@ void try_call(const Options &options, uint64_t seed, const Sample &made,
   const Seen defined = by_definitions(made.file, call);
   count_answer(call, defined.answer);
   if (!options.self) {
+    watched = {seed, &made.file, &call};
+    alarm(LONGEST_CALL_SECONDS);
     const Seen got = by_subject(made.file, call);
+    alarm(0);
     if (!same(defined, got))
       complain(seed, made.file, call,
                "difference\ndefinitions: " + text_of(defined, call) +
@@ -290,6 +319,7 @@ int main(int words, char **arguments) {
     std::fprintf(stderr, "built without a subject: only --self\n");
     return 2;
   }
+  watch_signals();
   try_house(options);
   try_files(options);
   print_tally();
