@@ -51,7 +51,7 @@ aboard-now row {before} trip-small room (boards in-time) =
           (λ _ v. absurd (never-both z v)) (λ _ v. sym v ∙ z);
       since =
           λ trip n. written (Since row before trip) before at (trips + trip) 1 inside
-          (λ e _. inr (omega arith, in-time)) (λ _ v. inl (λ z. n (v ∙ z)));
+          (λ e _. inr (omega arith, omega arith)) (λ _ v. inl (λ z. n (v ∙ z)));
     }
   where
     at : ℕ

@@ -34,7 +34,9 @@ abbrev sweep : tie.After-slice-known5 → tie.After-sail-until-arg
 sweep c = c .before .before .before .before
 
 blank : (c : tie.After-sail-until-arg) → Blank (entry c .args .work .now) (c .before .before .before .before .fill2 .last .0)
-blank c = blanked (entry c .pre .7) (c .before .before .before .before .before .before .before .before .fill .ensures) (c .before .before .before .before .fill2 .ensures)
+blank c =
+    let stops-filled = c .before .before .before .before in
+    blanked (entry c .pre .7) (stops-filled .before .before .before .before .fill .ensures) (stops-filled .fill2 .ensures)
 
 sail-until-requires : tie.Need-sail-until-requires
 sail-until-requires c κs =
