@@ -1,55 +1,62 @@
 -- `extract::write_wanted` meets its contract: at row i the plan is written as far as the rows before it. Assumes nothing.
-use Prim.Native.Nat.{ℕ, suc, max, _+_, _-_, _*_, _≤_, _<_}
+use Prim.Native.Nat.{_+_, _-_, _*_, _≤_, _<_}
 use mathlib.Core.List.{List, List·Memᴰ}
-use mathlib.Core.Path.{_≡_, sym, ap, subst, _∙_}
-use native.Mathlib.Omega.{arith}
-use lib.ListN.{length, getD}
+use mathlib.Core.Logic.{_≢_}
+use mathlib.Core.Path.{sym, ap, _∙_}
 use native.Mathlib.Nat.{zero-add}
-use Rattle.timetable.specs.Timetable.{rowOf}
-use Rattle.timetable.specs.declared.Row.{Row}
-use Rattle.plans.specs.Rides.{latest}
+use native.Mathlib.Omega.{arith}
+use lib.ListN.{getD}
 use Rattle.plans.specs.Worth.{Valued}
 use Rattle.plans.proofs.Open.{found-member}
-use Rattle.reading.specs.Reading.{rowsIn}
+use Rattle.plans.proofs.Order.{Ordered}
+use Rattle.plans.proofs.OwnWorth.{OwnWorth}
 use Rattle.scan.specs.Scanned.{scanIn}
-use Rattle.extract.specs.Extracted.{FirstRide, ridesOf}
-use Rattle.extract.specs.Marks.{put, Catching, AllPassed}
-use Rattle.extract.proofs.Kept.{Kept, kept-none, kept-on, kept-drop, kept-held}
+use Rattle.extract.specs.Marks.{Catching}
+use Rattle.extract.proofs.Kept.{Kept, kept-none, kept-on, kept-drop}
 use Rattle.extract.proofs.Timed.{ordered, own-worth, known}
-use Rattle.extract.proofs.Aboard.{Aboard, aboard}
-use Rattle.extract.proofs.Writing.{Writing}
-use Rattle.extract.proofs.Writing as writing
-use Rattle.extract.proofs.Wanting.{catching}
-use Rattle.extract.proofs.Passing as passing
-use mathlib.Core.Logic.{_≢_}
+use Rattle.extract.proofs.Passing.{kept as passed-kept}
+use Rattle.extract.proofs.Writing.{writing-start, writing-pass, writing-end, plan-length}
+use Rattle.extract.proofs.Turn.{AtRow, Turn, leave-inside, class-inside, landing-fits, met, arrived, changed}
 use Rattle.extract.proofs.write_wanted.Statement.{statement}
 use Rattle.extract.proofs.write_wanted.Tie as tie
 
 abbrev Inv-loop : tie.InvT-loop
 Inv-loop file s tables goal first head end work₀ plan₀ rides₀ latest₀ i₀ work plan rides latest i =
-    (i ≤ end) × (rides ≤ i) × (latest < 65536) × Kept work₀ work
-    × ((f : FirstRide (scanIn file s goal first end .chosen) head)
-    → Writing (goal .target) (s .rows) (ridesOf (goal .target) f) (scanIn file s goal first end .chosen) plan₀ work plan rides latest i)
+    (i ≤ end) × (rides ≤ i) × (latest < 65536) × Kept work₀ work × AtRow file s goal first head end plan₀ work plan rides latest i
 
 abbrev μ-loop : tie.MeasureT-loop
 μ-loop file s tables goal first head end work₀ plan₀ rides₀ latest₀ i₀ work plan rides latest i = end - i
 
+-- the chosen rides, in order, each worth what those behind it give
+abbrev chosen : tie.Start Inv-loop μ-loop → List Valued
+chosen a = scanIn (a .args .file .now) (a .args .s) (a .args .goal) (a .args .first) (a .args .end) .chosen
+
+scanned : (a : tie.Start Inv-loop μ-loop) → Ordered (chosen a) × OwnWorth (a .args .goal .target) (chosen a)
+scanned a =
+    (
+      ordered (a .args .file .now) (a .args .s) (a .pre .0) (a .args .end) (a .pre .3) (a .args .goal) (a .args .first) (a .pre .2),
+      own-worth (a .args .file .now) (a .args .s) (a .pre .0) (a .args .end) (a .pre .3) (a .args .goal) (a .args .first) (a .pre .2),
+    )
+
+before-end : (a : tie.Start Inv-loop μ-loop) → (v : Valued) → List·Memᴰ v (chosen a) → v .ride .board < a .args .end
+before-end a v m =
+    known (a .args .file .now) (a .args .s) (a .pre .0) (a .args .end) (a .pre .3) (a .args .goal) (a .args .first) (a .pre .2) v m .before-end
+
+head-inside : (a : tie.Start Inv-loop μ-loop) → a .args .head < a .args .end
+head-inside a =
+    let f = a .pre .7 in
+    omega (arith, before-end a (f .ride) (found-member (chosen a) (f .stop) (f .minute) (f .is-first)), f .boards-at)
+
 loop-holds : tie.Need-loop-holds Inv-loop μ-loop
 loop-holds c =
     let a = c .before .before .before .before in
-    let f = a .pre .7 in
-    let inside = known (a .args .file .now) (a .args .s) (a .pre .0) (a .args .end) (a .pre .3) (a .args .goal) (a .args .first) (a .pre .2) (f .ride)
-    (found-member (scanIn (a .args .file .now) (a .args .s) (a .args .goal) (a .args .first) (a .args .end) .chosen) (f .stop) (f .minute) (f .is-first)) in
+    let all = scanned a in
     (
-      omega (arith, inside .before-end, f .boards-at),
+      omega (arith, head-inside a),
       omega arith,
       omega arith,
       kept-none (a .args .work .now),
-      λ f. writing.writing-start (scanIn (a .args .file .now) (a .args .s) (a .args .goal) (a .args .first) (a .args .end) .chosen)
-      (ordered (a .args .file .now) (a .args .s) (a .pre .0) (a .args .end) (a .pre .3) (a .args .goal) (a .args .first) (a .pre .2)) f
-      (a .args .goal .target) (a .args .s .rows)
-      (own-worth (a .args .file .now) (a .args .s) (a .pre .0) (a .args .end) (a .pre .3) (a .args .goal) (a .args .first) (a .pre .2))
-      (a .args .plan .now) (a .args .work .now) (a .pre .8),
+      λ f. writing-start (chosen a) (all .0) f (a .args .goal .target) (a .args .s .rows) (all .1) (a .args .plan .now) (a .args .work .now) (a .pre .8),
     )
 
 add-i : tie.Need-add-i Inv-loop μ-loop
@@ -64,41 +71,47 @@ mul-if1 c = omega arith
 slice-read-if1 : tie.Need-slice-read-if1 Inv-loop μ-loop
 slice-read-if1 c = omega arith
 
--- the ride of a marked row
-boarded : (c : tie.Then1 Inv-loop μ-loop) → (v : Valued)
-    × List·Memᴰ v (scanIn (c .before .before .before .before .before .before .before .before .args .file .now) (c .before .before .before .before .before .before .before .before .args .s) (c .before .before .before .before .before .before .before .before .args .goal) (c .before .before .before .before .before .before .before .before .args .first) (c .before .before .before .before .before .before .before .before .args .end) .chosen)
-    × (v .ride .board ≡ c .before .before .before .loop .i)
-    × Aboard (c .before .before .before .before .before .before .before .before .args .file .now) (c .before .before .before .before .before .before .before .before .args .s) (c .before .before .before .before .before .before .before .before .args .tables .now) (c .before .before .before .loop .work) (c .before .before .before .loop .i) v
-boarded c =
-    let a = c .before .before .before .before .before .before .before .before in
+-- a turn at a marked row, from the place where the mark is read
+abbrev entered : tie.Then1 Inv-loop μ-loop → tie.Start Inv-loop μ-loop
+entered c = c .before .before .before .before .before .before .before .before
+
+abbrev TurnOf : tie.Then1 Inv-loop μ-loop → Type 0
+TurnOf c =
+    let a = entered c .args in
     let l = c .before .before .before .loop in
-    let mark : getD (l .work) (l .i) 0 ≡ 1 = ap (λ k. getD (l .work) k 0) (sym (zero-add (l .i))) ∙ c .if1 .taken in
-    let found = writing.marked-ride (l .inv .4 (a .pre .7)) (omega arith) mark in
-    (found .0, found .1, found .2,
-    aboard (a .pre .0) (a .pre .1) (a .args .goal) (a .args .first) (a .args .end) (a .pre .2) (a .pre .3) (kept-held (l .inv .3) (a .pre .6)) (found .0) (found .1) (l .i) (found .2))
+    Turn (a .file .now) (a .s) (a .tables .now) (a .goal) (a .first) (a .head) (a .end) (a .work .now) (a .plan .now) (l .work) (l .plan) (l .rides) (l .latest) (l .i)
+
+turn : (c : tie.Then1 Inv-loop μ-loop) → TurnOf c
+turn c =
+    let a = entered c in
+    let l = c .before .before .before .loop in
+    record {
+      stand = a .pre .0;
+      blocks = a .pre .1;
+      ahead = a .pre .2;
+      inside = a .pre .3;
+      cells = a .pre .4;
+      room = a .pre .5;
+      held = a .pre .6;
+      begun = a .pre .7;
+      below = c .before .before .loop-test .taken;
+      few = l .inv .1;
+      kept = l .inv .3;
+      at-row = l .inv .4;
+      mark = ap (λ k. getD (l .work) k 0) (sym (zero-add (l .i))) ∙ c .if1 .taken;
+    }
 
 write-ride-requires : tie.Need-write-ride-requires Inv-loop μ-loop
 write-ride-requires c κs =
     let a = c .before .before .before .before .before .before .before .before .before .before in
     let l = c .before .before .before .before .before .loop in
     let few : l .rides < a .args .s .rows = omega arith in
-    (omega arith, omega (arith, l .inv .3 .same-length), omega (arith, writing.plan-length (l .inv .4 (a .pre .7)) (omega arith)))
+    (omega arith, omega (arith, l .inv .3 .same-length), omega (arith, plan-length (l .inv .4 (a .pre .7)) (omega arith)))
 
 nth-row-requires : tie.Need-nth-row-requires Inv-loop μ-loop
 nth-row-requires c κs =
-    let v = boarded (c .before .before .before .before .before) in
-    (c .before .before .before .before .before .before .before .before .before .before .before .before .before .pre .0, omega (arith, c .before .before .write-ride .ensures .0, v .3 .leaves, v .3 .inside))
-
--- the row where it leaves
-left-at : (c : tie.After-nth-row Inv-loop μ-loop) → c .nth-row .result ≡ rowOf (rowsIn (c .before .before .before .before .before .before .before .before .before .before .before .before .before .before .args .file .now) (c .before .before .before .before .before .before .before .before .before .before .before .before .before .before .args .s)) (boarded (c .before .before .before .before .before .before) .0 .ride .leave)
-left-at c = c .nth-row .ensures .0 ∙ ap (rowOf (rowsIn (c .before .before .before .before .before .before .before .before .before .before .before .before .before .before .args .file .now) (c .before .before .before .before .before .before .before .before .before .before .before .before .before .before .args .s))) (c .before .before .before .write-ride .ensures .0 ∙ boarded (c .before .before .before .before .before .before) .3 .leaves)
-
--- the last minute at which it lands
-lands-by : (c : tie.After-number Inv-loop μ-loop) → c .before .before .before .nth-row .result .arrival + c .number .result ≡ latest (boarded (c .before .before .before .before .before .before .before .before .before) .0 .ride)
-lands-by c = 
-    let row = left-at (c .before .before .before) in
-    ap (λ k. c .before .before .before .nth-row .result .arrival + k) (c .number .ensures .0)
-    ∙ ap (λ (r : Row). r .arrival + getD (c .before .before .before .before .before .before .before .before .before .before .before .before .before .before .before .before .before .args .tables .now) (256 * r .class + 0) 0) row ∙ boarded (c .before .before .before .before .before .before .before .before .before) .3 .lands
+    let m = c .before .before .before .before .before in
+    (entered m .pre .0, leave-inside (turn m) (c .before .before .write-ride .result) (c .before .before .write-ride .ensures .0))
 
 mul-number : tie.Need-mul-number Inv-loop μ-loop
 mul-number c = omega arith
@@ -110,13 +123,24 @@ mul-number-2 : tie.Need-mul-number-2 Inv-loop μ-loop
 mul-number-2 c = omega arith
 
 shared-slice-read-number : tie.Need-shared-slice-read-number Inv-loop μ-loop
-shared-slice-read-number c = omega (arith, c .before .before .before .before .before .before .before .before .before .before .before .before .before .before .before .before .pre .1 .room, boarded (c .before .before .before .before .before .before .before .before) .3 .class, ap (λ (r : Row). r .class) (left-at (c .before .before)))
+shared-slice-read-number c =
+    let m = c .before .before .before .before .before .before .before .before in
+    let w = c .before .before .before .before .before .write-ride in
+    let n = c .before .before .nth-row in
+    omega (arith, entered m .pre .1 .room, class-inside (turn m) (w .result) (w .ensures .0) (n .result) (n .ensures .0))
 
 number-requires : tie.Need-number-requires Inv-loop μ-loop
 number-requires c κs = tt
 
+-- it lands in time, at a minute of 16 bits
+lands-soon : (c : tie.After-number Inv-loop μ-loop) → c .before .before .before .nth-row .result .arrival + c .number .result < 65536
+lands-soon c =
+    let w = c .before .before .before .before .before .before .write-ride in
+    let n = c .before .before .before .nth-row in
+    landing-fits (turn (c .before .before .before .before .before .before .before .before .before)) (w .result) (w .ensures .0) (n .result) (n .ensures .0) (c .number .result) (c .number .ensures .0)
+
 add-landing : tie.Need-add-landing Inv-loop μ-loop
-add-landing c = record { fits = omega (arith, lands-by (c .before), boarded (c .before .before .before .before .before .before .before .before .before .before) .3 .minute) }
+add-landing c = record { fits = omega (arith, lands-soon (c .before)) }
 
 add-rides : tie.Need-add-rides Inv-loop μ-loop
 add-rides c = omega arith
@@ -124,108 +148,76 @@ add-rides c = omega arith
 later-requires : tie.Need-later-requires Inv-loop μ-loop
 later-requires c κs = tt
 
--- the ride is laid down in the plan slice
-laid : (c : tie.After-write-ride Inv-loop μ-loop) → c .write-ride .last .1 .1 .1 .0
-    ≡ put (c .before .before .before .before .before .before .loop .plan) (c .before .before .before .before .before .before .loop .rides) (boarded (c .before .before .before) .0 .ride .board) (boarded (c .before .before .before) .0 .ride .leave) (boarded (c .before .before .before) .0 .worth)
-laid c =
-    let l = c .before .before .before .before .before .before .loop in
-    let v = boarded (c .before .before .before) in
-    c .write-ride .ensures .1 ∙ ap (λ k. put (l .plan) (l .rides) k (getD (l .work) (2400 + 2 * l .i + 1) 0) (getD (l .work) (2400 + 2 * l .i) 0)) (sym (v .2))
-    ∙ ap (λ k. put (l .plan) (l .rides) (v .0 .ride .board) k (getD (l .work) (2400 + 2 * l .i) 0)) (v .3 .leaves)
-    ∙ ap (λ k. put (l .plan) (l .rides) (v .0 .ride .board) (v .0 .ride .leave) k) (v .3 .worth)
-
--- where and when it lands
-lands-at : (c : tie.After-nth-row Inv-loop μ-loop) → boarded (c .before .before .before .before .before .before) .0 .ride .to ≡ c .nth-row .result .land
-lands-at c = boarded (c .before .before .before .before .before .before) .3 .to ∙ sym (ap (λ (r : Row). r .land) (left-at c))
-
-lands-from : (c : tie.After-nth-row Inv-loop μ-loop) → boarded (c .before .before .before .before .before .before) .0 .ride .arrives ≡ c .nth-row .result .arrival
-lands-from c = boarded (c .before .before .before .before .before .before) .3 .arrives ∙ sym (ap (λ (r : Row). r .arrival) (left-at c))
-
--- it ends at the target
-arrived : (c : tie.After-later Inv-loop μ-loop) → c .before .before .before .before .before .nth-row .result .land ≡ c .before .before .before .before .before .before .before .before .before .before .before .before .before .before .before .before .before .before .before .args .goal .target → (f : FirstRide (scanIn (c .before .before .before .before .before .before .before .before .before .before .before .before .before .before .before .before .before .before .before .args .file .now) (c .before .before .before .before .before .before .before .before .before .before .before .before .before .before .before .before .before .before .before .args .s) (c .before .before .before .before .before .before .before .before .before .before .before .before .before .before .before .before .before .before .before .args .goal) (c .before .before .before .before .before .before .before .before .before .before .before .before .before .before .before .before .before .before .before .args .first) (c .before .before .before .before .before .before .before .before .before .before .before .before .before .before .before .before .before .before .before .args .end) .chosen) (c .before .before .before .before .before .before .before .before .before .before .before .before .before .before .before .before .before .before .before .args .head))
-    → Writing (c .before .before .before .before .before .before .before .before .before .before .before .before .before .before .before .before .before .before .before .args .goal .target) (c .before .before .before .before .before .before .before .before .before .before .before .before .before .before .before .before .before .before .before .args .s .rows) (ridesOf (c .before .before .before .before .before .before .before .before .before .before .before .before .before .before .before .before .before .before .before .args .goal .target) f) (scanIn (c .before .before .before .before .before .before .before .before .before .before .before .before .before .before .before .before .before .before .before .args .file .now) (c .before .before .before .before .before .before .before .before .before .before .before .before .before .before .before .before .before .before .before .args .s) (c .before .before .before .before .before .before .before .before .before .before .before .before .before .before .before .before .before .before .before .args .goal) (c .before .before .before .before .before .before .before .before .before .before .before .before .before .before .before .before .before .before .before .args .first) (c .before .before .before .before .before .before .before .before .before .before .before .before .before .before .before .before .before .before .before .args .end) .chosen) (c .before .before .before .before .before .before .before .before .before .before .before .before .before .before .before .before .before .before .before .args .plan .now) (c .before .before .before .before .before .before .before .before .before .before .before .before .before .before .loop .work) (c .before .before .before .before .before .before .before .before .write-ride .last .1 .1 .1 .0) (c .before .before .before .before .before .before .before .before .before .before .before .before .before .before .loop .rides + 1) (c .later .result) (c .before .before .before .before .before .before .before .before .before .before .before .before .before .before .loop .i + 1)
-arrived c there f =
-    let a = c .before .before .before .before .before .before .before .before .before .before .before .before .before .before .before .before .before .before .before in
-    let l = c .before .before .before .before .before .before .before .before .before .before .before .before .before .before .loop in
-    let v = boarded (c .before .before .before .before .before .before .before .before .before .before .before) in
-    let mark : getD (l .work) (l .i) 0 ≡ 1 = ap (λ k. getD (l .work) k 0) (sym (zero-add (l .i))) ∙ c .before .before .before .before .before .before .before .before .before .before .before .if1 .taken in
-    let inside : l .i < a .args .s .rows = omega (arith, c .before .before .before .before .before .before .before .before .before .before .before .before .before .loop-test .taken, a .pre .3) in
-    let in-order = ordered (a .args .file .now) (a .args .s) (a .pre .0) (a .args .end) (a .pre .3) (a .args .goal) (a .args .first) (a .pre .2) in
-    let room : 3 * suc (l .rides) ≤ length (a .args .plan .now) = omega (arith, l .inv .1, a .pre .5) in
-    writing.writing-arrived (l .inv .4 f) in-order (v .0) (v .1) (v .2) inside mark room (c .before .before .before .before .before .before .before .before .write-ride .last .1 .1 .1 .0) (laid (c .before .before .before .before .before .before .before .before)) (c .later .result)
-    (c .later .ensures ∙ ap (max (l .latest)) (lands-by (c .before .before))) (lands-at (c .before .before .before .before .before) ∙ there)
-
--- it lands elsewhere: the stack there is met, and its rides are wanted
-met : (c : tie.After-later Inv-loop μ-loop) → c .before .before .before .before .before .nth-row .result .land ≢ c .before .before .before .before .before .before .before .before .before .before .before .before .before .before .before .before .before .before .before .args .goal .target
-    → Catching (c .before .before .before .before .before .before .before .before .before .before .before .before .before .before .loop .work) (c .before .before .before .before .before .nth-row .result .land) (c .before .before .before .before .before .nth-row .result .arrival) (c .before .before .before .before .before .nth-row .result .arrival + c .before .before .number .result)
-met c away =
-    let a = c .before .before .before .before .before .before .before .before .before .before .before .before .before .before .before .before .before .before .before in
-    let l = c .before .before .before .before .before .before .before .before .before .before .before .before .before .before .loop in
-    let v = boarded (c .before .before .before .before .before .before .before .before .before .before .before) in
-    let mark : getD (l .work) (l .i) 0 ≡ 1 = ap (λ k. getD (l .work) k 0) (sym (zero-add (l .i))) ∙ c .before .before .before .before .before .before .before .before .before .before .before .if1 .taken in
-    let inside : l .i < a .args .s .rows = omega (arith, c .before .before .before .before .before .before .before .before .before .before .before .before .before .loop-test .taken, a .pre .3) in
-    let in-order = ordered (a .args .file .now) (a .args .s) (a .pre .0) (a .args .end) (a .pre .3) (a .args .goal) (a .args .first) (a .pre .2) in
-    let held = kept-held (l .inv .3) (a .pre .6) in
-    let to = lands-at (c .before .before .before .before .before) in
-    let w = l .inv .4 (a .pre .7) in
-    subst (λ k. Catching (l .work) (c .before .before .before .before .before .nth-row .result .land) (c .before .before .before .before .before .nth-row .result .arrival) k) (sym (lands-by (c .before .before)))
-    (subst (λ k. Catching (l .work) (c .before .before .before .before .before .nth-row .result .land) k (latest (v .0 .ride))) (lands-from (c .before .before .before .before .before))
-    (subst (λ k. Catching (l .work) k (v .0 .ride .arrives) (latest (v .0 .ride))) to
-    (catching (writing.lands w in-order (v .0) (v .1) (v .2) inside mark (λ e. away (sym to ∙ e)) .1) (l .work)
-    (held .stack-holds (v .0 .ride .to) (v .3 .stop)) (held .climbing (v .0 .ride .to) (v .3 .stop)) (a .args .s .rows) (v .3 .stop)
-    (omega (arith, l .inv .3 .same-length, a .pre .4)) (omega (arith, l .inv .3 .same-length, a .pre .4, held .stack-inside (v .0 .ride .to) (v .3 .stop))) (a .pre .0 .few-rows)
-    (λ u m. omega (arith, known (a .args .file .now) (a .args .s) (a .pre .0) (a .args .end) (a .pre .3) (a .args .goal) (a .args .first) (a .pre .2) u m .before-end, a .pre .3)))))
-
-changed : (c : tie.After-later Inv-loop μ-loop) → c .before .before .before .before .before .nth-row .result .land ≢ c .before .before .before .before .before .before .before .before .before .before .before .before .before .before .before .before .before .before .before .args .goal .target → (new : List ℕ)
-    → AllPassed (c .before .before .before .before .before .before .before .before .before .before .before .before .before .before .loop .work) new (c .before .before .before .before .before .nth-row .result .land) (c .before .before .before .before .before .nth-row .result .arrival) (c .before .before .before .before .before .nth-row .result .arrival + c .before .before .number .result) → (f : FirstRide (scanIn (c .before .before .before .before .before .before .before .before .before .before .before .before .before .before .before .before .before .before .before .args .file .now) (c .before .before .before .before .before .before .before .before .before .before .before .before .before .before .before .before .before .before .before .args .s) (c .before .before .before .before .before .before .before .before .before .before .before .before .before .before .before .before .before .before .before .args .goal) (c .before .before .before .before .before .before .before .before .before .before .before .before .before .before .before .before .before .before .before .args .first) (c .before .before .before .before .before .before .before .before .before .before .before .before .before .before .before .before .before .before .before .args .end) .chosen) (c .before .before .before .before .before .before .before .before .before .before .before .before .before .before .before .before .before .before .before .args .head))
-    → Writing (c .before .before .before .before .before .before .before .before .before .before .before .before .before .before .before .before .before .before .before .args .goal .target) (c .before .before .before .before .before .before .before .before .before .before .before .before .before .before .before .before .before .before .before .args .s .rows) (ridesOf (c .before .before .before .before .before .before .before .before .before .before .before .before .before .before .before .before .before .before .before .args .goal .target) f) (scanIn (c .before .before .before .before .before .before .before .before .before .before .before .before .before .before .before .before .before .before .before .args .file .now) (c .before .before .before .before .before .before .before .before .before .before .before .before .before .before .before .before .before .before .before .args .s) (c .before .before .before .before .before .before .before .before .before .before .before .before .before .before .before .before .before .before .before .args .goal) (c .before .before .before .before .before .before .before .before .before .before .before .before .before .before .before .before .before .before .before .args .first) (c .before .before .before .before .before .before .before .before .before .before .before .before .before .before .before .before .before .before .before .args .end) .chosen) (c .before .before .before .before .before .before .before .before .before .before .before .before .before .before .before .before .before .before .before .args .plan .now) new (c .before .before .before .before .before .before .before .before .write-ride .last .1 .1 .1 .0) (c .before .before .before .before .before .before .before .before .before .before .before .before .before .before .loop .rides + 1) (c .later .result) (c .before .before .before .before .before .before .before .before .before .before .before .before .before .before .loop .i + 1)
-changed c away new passed f =
-    let a = c .before .before .before .before .before .before .before .before .before .before .before .before .before .before .before .before .before .before .before in
-    let l = c .before .before .before .before .before .before .before .before .before .before .before .before .before .before .loop in
-    let v = boarded (c .before .before .before .before .before .before .before .before .before .before .before) in
-    let mark : getD (l .work) (l .i) 0 ≡ 1 = ap (λ k. getD (l .work) k 0) (sym (zero-add (l .i))) ∙ c .before .before .before .before .before .before .before .before .before .before .before .if1 .taken in
-    let inside : l .i < a .args .s .rows = omega (arith, c .before .before .before .before .before .before .before .before .before .before .before .before .before .loop-test .taken, a .pre .3) in
-    let in-order = ordered (a .args .file .now) (a .args .s) (a .pre .0) (a .args .end) (a .pre .3) (a .args .goal) (a .args .first) (a .pre .2) in
-    let room : 3 * suc (l .rides) ≤ length (a .args .plan .now) = omega (arith, l .inv .1, a .pre .5) in
-    let held = kept-held (l .inv .3) (a .pre .6) in
-    let to = lands-at (c .before .before .before .before .before) in
-    writing.writing-changed (l .inv .4 f) in-order (v .0) (v .1) (v .2) inside mark room (c .before .before .before .before .before .before .before .before .write-ride .last .1 .1 .1 .0) (laid (c .before .before .before .before .before .before .before .before)) (c .later .result)
-    (c .later .ensures ∙ ap (max (l .latest)) (lands-by (c .before .before))) (λ e. away (sym to ∙ e)) (held .stack-holds (v .0 .ride .to) (v .3 .stop)) (held .climbing (v .0 .ride .to) (v .3 .stop)) new
-    (subst (λ k. AllPassed (l .work) new k (v .0 .ride .arrives) (latest (v .0 .ride))) (sym to)
-    (subst (λ k. AllPassed (l .work) new (c .before .before .before .before .before .nth-row .result .land) k (latest (v .0 .ride))) (sym (lands-from (c .before .before .before .before .before)))
-    (subst (λ k. AllPassed (l .work) new (c .before .before .before .before .before .nth-row .result .land) (c .before .before .before .before .before .nth-row .result .arrival) k) (lands-by (c .before .before)) passed)))
+-- away from the target the stack of the landing stop is met
+stack-met : (c : tie.After-later Inv-loop μ-loop) → c .before .before .before .before .before .nth-row .result .land ≢ entered (c .before .before .before .before .before .before .before .before .before .before .before) .args .goal .target
+    → Catching (c .before .before .before .before .before .before .before .before .before .before .before .before .before .before .loop .work) (c .before .before .before .before .before .nth-row .result .land) (c .before .before .before .before .before .nth-row .result .arrival)
+    (c .before .before .before .before .before .nth-row .result .arrival + c .before .before .number .result)
+stack-met c =
+    let w = c .before .before .before .before .before .before .before .before .write-ride in
+    let n = c .before .before .before .before .before .nth-row in
+    let d = c .before .before .number in
+    met (turn (c .before .before .before .before .before .before .before .before .before .before .before)) (w .result) (w .ensures .0) (n .result) (n .ensures .0) (d .result) (d .ensures .0)
 
 want-requires : tie.Need-want-requires Inv-loop μ-loop
-want-requires c κs = met (c .before .before .before .before) (c .before .if2 .taken)
+want-requires c κs = stack-met (c .before .before .before .before) (c .before .if2 .taken)
 
 loop-less : tie.Need-loop-less Inv-loop μ-loop
-loop-less c = omega (arith, c .before .before .before .before .before .before .before .before .before .before .before .before .before .before .before .before .before .before .before .before .loop-test .taken)
+loop-less c =
+    let test = c .before .before .before .before .before .before .before .before .before .before .before .before .before .before .before .before .before .before .before .before .loop-test in
+    omega (arith, test .taken)
 
 loop-again : tie.Need-loop-again Inv-loop μ-loop
 loop-again c =
-    let l = c .before .before .before .before .before .before .before .before .before .before .before .before .before .before .before .before .before .before .before .before .before .loop in
+    let r = c .before .before .before .before .before .before .before in
+    let m = r .before .before .before .before .before .before .before .before .before .before .before in
+    let l = m .before .before .before .loop in
+    let w = r .before .before .before .before .before .before .before .before .write-ride in
+    let n = r .before .before .before .before .before .nth-row in
+    let d = r .before .before .number in
     let away = c .before .before .before .before .if2 .taken in
     let passed = c .before .before .want .ensures in
-    (omega (arith, c .before .before .before .before .before .before .before .before .before .before .before .before .before .before .before .before .before .before .before .before .loop-test .taken), omega (arith, l .inv .1), omega (arith, c .before .before .before .before .before .before .before .later .ensures, lands-by (c .before .before .before .before .before .before .before .before .before), boarded (c .before .before .before .before .before .before .before .before .before .before .before .before .before .before .before .before .before .before) .3 .minute, l .inv .2),
-    kept-on (l .inv .3) (record { same-length = passed .same-length; same-cell = passing.kept (l .work) _ _ _ (met (c .before .before .before .before .before .before .before) away) passed }),
-    changed (c .before .before .before .before .before .before .before) away (c .before .before .want .last .1 .1 .1 .0) passed)
+    (
+      omega (arith, turn m .below),
+      omega (arith, l .inv .1),
+      omega (arith, r .later .ensures, lands-soon (r .before .before), l .inv .2),
+      kept-on (l .inv .3) (record { same-length = passed .same-length; same-cell = passed-kept (l .work) _ _ _ (stack-met r away) passed }),
+      changed (turn m) (w .result) (w .ensures .0) (n .result) (n .ensures .0) (d .result) (d .ensures .0) (w .last .1 .1 .1 .0) (w .ensures .1)
+      (r .later .result) (r .later .ensures) away (c .before .before .want .last .1 .1 .1 .0) passed,
+    )
 
 loop-less-2 : tie.Need-loop-less-2 Inv-loop μ-loop
 loop-less-2 c = omega arith
 
 loop-again-2 : tie.Need-loop-again-2 Inv-loop μ-loop
 loop-again-2 c =
-    let l = c .before .before .before .before .before .before .before .before .before .before .before .before .before .before .before .before .before .loop in
-    (omega (arith, c .before .before .before .before .before .before .before .before .before .before .before .before .before .before .before .before .loop-test .taken), omega (arith, l .inv .1), omega (arith, c .before .before .before .later .ensures, lands-by (c .before .before .before .before .before), boarded (c .before .before .before .before .before .before .before .before .before .before .before .before .before .before) .3 .minute, l .inv .2), l .inv .3, arrived (c .before .before .before) (c .if2 .left))
+    let r = c .before .before .before in
+    let m = r .before .before .before .before .before .before .before .before .before .before .before in
+    let l = m .before .before .before .loop in
+    let w = r .before .before .before .before .before .before .before .before .write-ride in
+    let n = r .before .before .before .before .before .nth-row in
+    let d = r .before .before .number in
+    (
+      omega (arith, turn m .below),
+      omega (arith, l .inv .1),
+      omega (arith, r .later .ensures, lands-soon (r .before .before), l .inv .2),
+      l .inv .3,
+      arrived (turn m) (w .result) (w .ensures .0) (n .result) (n .ensures .0) (d .result) (d .ensures .0) (w .last .1 .1 .1 .0) (w .ensures .1)
+      (r .later .result) (r .later .ensures) (c .if2 .left),
+    )
 
 loop-less-3 : tie.Need-loop-less-3 Inv-loop μ-loop
 loop-less-3 c = omega arith
 
 loop-again-3 : tie.Need-loop-again-3 Inv-loop μ-loop
 loop-again-3 c =
-    let a = c .before .before .before .before .before .before .before .before in
     let l = c .before .before .before .loop in
-    (omega arith, omega arith, l .inv .2, l .inv .3, λ f. writing.writing-pass (l .inv .4 f) (λ mark. c .if1 .left (ap (λ k. getD (l .work) k 0) (zero-add (l .i)) ∙ mark)))
+    (
+      omega arith,
+      omega arith,
+      l .inv .2,
+      l .inv .3,
+      λ f. writing-pass (l .inv .4 f) (λ mark. c .if1 .left (ap (λ k. getD (l .work) k 0) (zero-add (l .i)) ∙ mark)),
+    )
 
 cell-requires : tie.Need-cell-requires Inv-loop μ-loop
 cell-requires c κs = omega arith
@@ -234,15 +226,14 @@ same-length : tie.Need-same-length Inv-loop μ-loop
 same-length c = c .before .before .loop .inv .3 .same-length
 
 same-length-2 : tie.Need-same-length-2 Inv-loop μ-loop
-same-length-2 c = writing.plan-length (c .before .before .loop .inv .4 (c .before .before .before .before .before .before .before .pre .7)) (omega arith)
+same-length-2 c = plan-length (c .before .before .loop .inv .4 (c .before .before .before .before .before .before .before .pre .7)) (omega arith)
 
 returns : tie.Need-returns Inv-loop μ-loop
 returns c =
     let a = c .before .before .before .before .before .before .before in
     let l = c .before .before .loop in
     (
-      (λ f. let done = writing.writing-end (l .inv .4 f)
-      (λ v m. omega (arith, c .before .loop-test .left, known (a .args .file .now) (a .args .s) (a .pre .0) (a .args .end) (a .pre .3) (a .args .goal) (a .args .first) (a .pre .2) v m .before-end)) in
+      (λ f. let done = writing-end (l .inv .4 f) (λ v m. omega (arith, c .before .loop-test .left, before-end a v m)) in
       (done .0, done .1, c .cell .ensures ∙ done .2)),
       l .inv .3 .same-length,
       kept-drop (l .inv .3) (4 * a .args .s .rows + 2402) (omega arith),
