@@ -1,2 +1,3 @@
 -- Laws of the lent cells.
 pub mod Filled
+pub mod Settled

@@ -53,6 +53,6 @@ module _ {file : List ℕ} {s : Sailings} {tables work : List ℕ} (stand : Stan
         class = (let z : row .class < 16 = omega (arith, fits .class, stand .few-classes) in z);
         lands = lands;
         minute =
-          (let a : longest (v .ride .shares) ≡ longest (sharesOf (tablesIn file s) (row .class)) = ap longest (k .shares) in
-          let z : v .ride .arrives + longest (v .ride .shares) < 65536 = omega (arith, fits .lands, k .arrives) in z);
+            (let a : longest (v .ride .shares) ≡ longest (sharesOf (tablesIn file s) (row .class)) = ap longest (k .shares) in
+            let z : v .ride .arrives + longest (v .ride .shares) < 65536 = omega (arith, fits .lands, k .arrives) in z);
       }

@@ -70,18 +70,18 @@ module _ (target : ℕ) (whole chosen : List Valued) where
           record {
             rest = vs;
             splits =
-              e
-              ∙ ap (λ l. past ++ l)
-              (on-taking target (extract target ws (v ∷ vs) ≡ extract target ws vs) ws v vs
-              (λ t _. absurd (false≢true (sym (unwanted v (among v (List·Memᴰ·head refl)) here) ∙ t))) (λ _ p. p));
+                e
+                ∙ ap (λ l. past ++ l)
+                (on-taking target (extract target ws (v ∷ vs) ≡ extract target ws vs) ws v vs
+                (λ t _. absurd (false≢true (sym (unwanted v (among v (List·Memᴰ·head refl)) here) ∙ t))) (λ _ p. p));
             ordered = o;
             own-worth = w;
             among = λ u m. among u (List·Memᴰ·tail m);
             later = λ u m. omega (arith, before u m .rows);
             left =
-              λ u m h.
-              head-or-later (List·Memᴰ u vs) (left u m (omega arith))
-              (λ same. absurd (let z : ⊥ = omega (arith, ap (λ (x : Valued). x .ride .board) same) in z)) (λ n. n);
+                λ u m h.
+                head-or-later (List·Memᴰ u vs) (left u m (omega arith))
+                (λ same. absurd (let z : ⊥ = omega (arith, ap (λ (x : Valued). x .ride .board) same) in z)) (λ n. n);
           })
           (λ q. let apart : v .ride .board ≢ i = eqb-false (v .ride .board) i q in
           let from : i ≤ v .ride .board = later v (List·Memᴰ·head refl) in
@@ -92,9 +92,9 @@ module _ (target : ℕ) (whole chosen : List Valued) where
             own-worth = own.ahead moves worth on w;
             among = among;
             later =
-              λ u m.
-              head-or-later (suc i ≤ u .ride .board) m (λ same. omega (arith, ap (λ (x : Valued). x .ride .board) same))
-              (λ n. omega (arith, before u n .rows));
+                λ u m.
+                head-or-later (suc i ≤ u .ride .board) m (λ same. omega (arith, ap (λ (x : Valued). x .ride .board) same))
+                (λ n. omega (arith, before u n .rows));
             left = λ u m h. left u m (omega arith);
           })
 
@@ -122,20 +122,20 @@ module _ (target : ℕ) (whole chosen : List Valued) where
           record {
             behind = vs;
             going =
-              record {
-                rest = vs;
-                splits =
-                  e
-                  ∙ ap (λ l. past ++ l)
-                  (on-taking target (extract target ws (x ∷ vs) ≡ x ∷ extract target (windowsOf target (x .ride) vs ++ ws) vs) ws x vs (λ _ t. t)
-                  (λ p _. absurd (false≢true (sym p ∙ wants))))
-                  ∙ sym (append-assoc past (x ∷ []) (extract target (windowsOf target (x .ride) vs ++ ws) vs));
-                ordered = o;
-                own-worth = w;
-                among = λ u n. among u (List·Memᴰ·tail n);
-                later = λ u n. omega (arith, before u n .rows);
-                left = λ u n h. behind u n h;
-              };
+                record {
+                  rest = vs;
+                  splits =
+                      e
+                      ∙ ap (λ l. past ++ l)
+                      (on-taking target (extract target ws (x ∷ vs) ≡ x ∷ extract target (windowsOf target (x .ride) vs ++ ws) vs) ws x vs (λ _ t. t)
+                      (λ p _. absurd (false≢true (sym p ∙ wants))))
+                      ∙ sym (append-assoc past (x ∷ []) (extract target (windowsOf target (x .ride) vs ++ ws) vs));
+                  ordered = o;
+                  own-worth = w;
+                  among = λ u n. among u (List·Memᴰ·tail n);
+                  later = λ u n. omega (arith, before u n .rows);
+                  left = λ u n h. behind u n h;
+                };
             moves = moves;
             safe = on;
             ordered = o;

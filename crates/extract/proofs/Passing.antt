@@ -33,14 +33,14 @@ passed-on {old} {new} {start} {size} {arrival} {landing} {place} p caught inside
     record {
       same-length = length-set new row 1 ∙ p .same-length;
       marked =
-        λ k h c.
-        set-cell (λ x. x ≡ 1) new row (entryRow old start k) 1 fits (λ _. refl)
-        (λ apart.
-        ⊎-elim (λ same. absurd (apart (ap (entryRow old start) same))) (λ above. p .marked k above c) (eq-or-lt-of-le h));
+          λ k h c.
+          set-cell (λ x. x ≡ 1) new row (entryRow old start k) 1 fits (λ _. refl)
+          (λ apart.
+          ⊎-elim (λ same. absurd (apart (ap (entryRow old start) same))) (λ above. p .marked k above c) (eq-or-lt-of-le h));
       only =
-        λ i.
-        set-cell (λ x. (x ≡ getD old i 0) ⊎ ((k : ℕ) × Caught old start size arrival landing k × (i ≡ entryRow old start k))) new row i 1 fits
-        (λ here. inr (place, caught, sym here)) (λ _. p .only i);
+          λ i.
+          set-cell (λ x. (x ≡ getD old i 0) ⊎ ((k : ℕ) × Caught old start size arrival landing k × (i ≡ entryRow old start k))) new row i 1 fits
+          (λ here. inr (place, caught, sym here)) (λ _. p .only i);
     }
 
 -- the loop is at this entry, and has passed those above it
@@ -66,11 +66,11 @@ module _ (work : List ℕ) (land arrival landing : ℕ) (c : Catching work land 
         key-is = ap (λ k. getD work k 0) (f .stands);
         caught = record { inside = f .inside; opens = f .opens; needed = λ k above h. lt-of-lt-of-le (f .missed k above h) (c .late) };
         passed =
-          record {
-            same-length = refl;
-            marked = λ k above caught. absurd (let z : ⊥ = omega (arith, f .missed k above (caught .inside), caught .opens) in z);
-            only = λ i. inl refl;
-          };
+            record {
+              same-length = refl;
+              marked = λ k above caught. absurd (let z : ⊥ = omega (arith, f .missed k above (caught .inside), caught .opens) in z);
+              only = λ i. inl refl;
+            };
       }
 
   -- the marks stand ahead of the stacks
@@ -110,17 +110,17 @@ module _ (work : List ℕ) (land arrival landing : ℕ) (c : Catching work land 
           stands = below;
           key-is = kept marked (entry - 2) (let z : 2000 ≤ entry - 2 = omega (arith, below) in z) ∙ ap (λ k. getD work k 0) below;
           caught =
-            record {
-              inside = (let z : d .place - 1 < size = omega (arith, d .caught .inside) in z);
-              opens =
-                (let falls : departureAt work start (d .place) < departureAt work start (d .place - 1) =
-                c .falling .falls (d .place - 1) (d .place) (omega arith) (d .caught .inside) in
-                omega (arith, d .caught .opens));
-              needed =
-                λ k above h.
-                ⊎-elim (λ same. subst (λ p. departureAt work start p < landing) (sym next ∙ same) (subst (λ x. x < landing) departs-is early))
-                (λ higher. d .caught .needed k (let z : d .place < k = omega arith in z) h) (eq-or-lt-of-le above);
-            };
+              record {
+                inside = (let z : d .place - 1 < size = omega (arith, d .caught .inside) in z);
+                opens =
+                    (let falls : departureAt work start (d .place) < departureAt work start (d .place - 1) =
+                    c .falling .falls (d .place - 1) (d .place) (omega arith) (d .caught .inside) in
+                    omega (arith, d .caught .opens));
+                needed =
+                    λ k above h.
+                    ⊎-elim (λ same. subst (λ p. departureAt work start p < landing) (sym next ∙ same) (subst (λ x. x < landing) departs-is early))
+                    (λ higher. d .caught .needed k (let z : d .place < k = omega arith in z) h) (eq-or-lt-of-le above);
+              };
           passed = subst (λ p. Passed work (set new at 1) start size arrival landing p) (sym next) marked;
         }
 
@@ -130,9 +130,9 @@ module _ (work : List ℕ) (land arrival landing : ℕ) (c : Catching work land 
         record {
           same-length = marked .same-length;
           marked =
-            λ k _ caught.
-            marked .marked k
-            (ifb (λ _. d .place ≤ k) (leb (d .place) k) (leb-true (d .place) k)
-            (λ below. absurd (let z : ⊥ = omega (arith, caught .needed (d .place) (leb-false (d .place) k below) (d .caught .inside), departs-is) in z))) caught;
+              λ k _ caught.
+              marked .marked k
+              (ifb (λ _. d .place ≤ k) (leb (d .place) k) (leb-true (d .place) k)
+              (λ below. absurd (let z : ⊥ = omega (arith, caught .needed (d .place) (leb-false (d .place) k below) (d .caught .inside), departs-is) in z))) caught;
           only = marked .only;
         }

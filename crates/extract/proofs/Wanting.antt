@@ -128,16 +128,19 @@ module _ {chosen behind : List Valued} {v safe : Valued} (l : Lands chosen behin
         let boarded : boards (u .ride) (v .ride .to) (v .ride .arrives) ≡ true = both-left (boards (u .ride) (v .ride .to) (v .ride .arrives)) (leb (u .ride .departs) (safe .ride .departs)) e in
         let until : u .ride .departs ≤ safe .ride .departs = leb-true (u .ride .departs) (safe .ride .departs) (both-right (boards (u .ride) (v .ride .to) (v .ride .arrives)) (leb (u .ride .departs) (safe .ride .departs)) e) in
         let found = ride-entry work (v .ride .to) chosen holds climbing u m (boards-stop (u .ride) (v .ride .to) (v .ride .arrives) boarded) in
-        let k = found .0 in
-        (k, record {
-          inside = found .1 .inside;
-          opens = (let z : v .ride .arrives ≤ departureAt work start k = omega (arith, boards-minute (u .ride) (v .ride .to) (v .ride .arrives) boarded, found .1 .departs) in z);
-          needed =
-            λ q above below.
-            lt-of-not-le (λ late.
-            let other = entry-ride work (v .ride .to) chosen holds climbing v q below in
-            let z : ⊥ = omega (arith, fall k q above below, found .1 .departs, other .1 .departs, safe-least (other .0) (other .1 .member) (other .1 .from) (let y : latest (v .ride) ≤ other .0 .ride .departs = omega (arith, other .1 .departs) in y)) in z);
-        }, found .1 .row)
+        let k = found .0 in (
+          k,
+          record {
+            inside = found .1 .inside;
+            opens = (let z : v .ride .arrives ≤ departureAt work start k = omega (arith, boards-minute (u .ride) (v .ride .to) (v .ride .arrives) boarded, found .1 .departs) in z);
+            needed =
+                λ q above below.
+                lt-of-not-le (λ late.
+                let other = entry-ride work (v .ride .to) chosen holds climbing v q below in
+                let z : ⊥ = omega (arith, fall k q above below, found .1 .departs, other .1 .departs, safe-least (other .0) (other .1 .member) (other .1 .from) (let y : latest (v .ride) ≤ other .0 .ride .departs = omega (arith, other .1 .departs) in y)) in z);
+          },
+          found .1 .row,
+        )
 
     -- the stack of the landing stop, as catching asks for it
     pub catching : (n : ℕ) → v .ride .to < 200 → 2400 ≤ length work → start + 2 * size ≤ length work → n ≤ 2000
@@ -151,15 +154,15 @@ module _ {chosen behind : List Valued} {v safe : Valued} (l : Lands chosen behin
           stop = stop;
           cells = cells;
           falling =
-            record {
-              some-entry = (let z : 0 < size = omega (arith, safe-place .1 .inside) in z);
-              inside = room;
-              falls = fall;
-              bottom = (let z : v .ride .arrives ≤ departureAt work start 0 = omega arith in z);
-            };
+              record {
+                some-entry = (let z : 0 < size = omega (arith, safe-place .1 .inside) in z);
+                inside = room;
+                falls = fall;
+                bottom = (let z : v .ride .arrives ≤ departureAt work start 0 = omega arith in z);
+              };
           rows =
-            λ k h. let found = entry-ride work (v .ride .to) chosen holds climbing v k h in
-            (let z : entryRow work start k < 2000 = omega (arith, found .1 .row, rows (found .0) (found .1 .member)) in z);
+              λ k h. let found = entry-ride work (v .ride .to) chosen holds climbing v k h in
+              (let z : entryRow work start k < 2000 = omega (arith, found .1 .row, rows (found .0) (found .1 .member)) in z);
           late = (let z : v .ride .arrives ≤ latest (v .ride) = omega arith in z);
           safe = last;
         }
@@ -173,19 +176,19 @@ module _ {chosen behind : List Valued} {v safe : Valued} (l : Lands chosen behin
         subst (λ (x : List Window). Marking new n chosen x) (sym (one-more target (v .ride) behind ws safe away (l .first)))
         (record {
           marked =
-            λ u member e.
-            ⊎-elim
-            (λ w. let found = wanted-caught u member w in
-            ap (λ k. getD new k 0) (sym (found .2)) ∙ p .marked (found .0) (omega arith) (found .1))
-            (λ w. ⊎-elim (λ same. same ∙ m .marked u member w)
-            (λ k. ap (λ i. getD new i 0) (k .2) ∙ p .marked (k .0) (omega arith) (k .1)) (p .only (u .ride .board)))
-            (either (inWindow (window (v .ride) safe) (u .ride)) (wanted ws (u .ride)) e);
+              λ u member e.
+              ⊎-elim
+              (λ w. let found = wanted-caught u member w in
+              ap (λ k. getD new k 0) (sym (found .2)) ∙ p .marked (found .0) (omega arith) (found .1))
+              (λ w. ⊎-elim (λ same. same ∙ m .marked u member w)
+              (λ k. ap (λ i. getD new i 0) (k .2) ∙ p .marked (k .0) (omega arith) (k .1)) (p .only (u .ride .board)))
+              (either (inWindow (window (v .ride) safe) (u .ride)) (wanted ws (u .ride)) e);
           only =
-            λ i h e.
-            ⊎-elim
-            (λ same. let found = m .only i h (sym same ∙ e) in
-            (found .0, found .1, found .2, or-right (inWindow (window (v .ride) safe) (found .0 .ride)) (wanted ws (found .0 .ride)) (found .3)))
-            (λ k. let found = caught-wanted (k .0) (k .1) in
-            (found .0, found .1 .member, sym (found .1 .row) ∙ sym (k .2), or-left (inWindow (window (v .ride) safe) (found .0 .ride)) (wanted ws (found .0 .ride)) (found .2)))
-            (p .only i);
+              λ i h e.
+              ⊎-elim
+              (λ same. let found = m .only i h (sym same ∙ e) in
+              (found .0, found .1, found .2, or-right (inWindow (window (v .ride) safe) (found .0 .ride)) (wanted ws (found .0 .ride)) (found .3)))
+              (λ k. let found = caught-wanted (k .0) (k .1) in
+              (found .0, found .1 .member, sym (found .1 .row) ∙ sym (k .2), or-left (inWindow (window (v .ride) safe) (found .0 .ride)) (wanted ws (found .0 .ride)) (found .2)))
+              (p .only i);
         })

@@ -65,8 +65,11 @@ module _ (chosen : List Valued) (ordered : Ordered chosen) {head : ℕ} (f : Fir
       let found = first-before chosen ordered (f .stop) (f .minute) u m boarded in
       let same : f .ride ≡ found .0 = same-thing (sym (f .is-first) ∙ found .1) in
       ⊎-elim (λ q. sym (same ∙ q))
-      (λ b. absurd (let z : ⊥ = omega (arith, ap (λ (x : Valued). x .ride .departs) same,
-      b .apart (ap (λ (x : Valued). x .ride .from) (sym same) ∙ boards-stop (f .ride .ride) (f .stop) (f .minute) (found-boards chosen (f .stop) (f .minute) (f .is-first)) ∙ sym (boards-stop (u .ride) (f .stop) (f .minute) boarded))) in z)) (found .2)
+      (λ b. absurd (let z : ⊥ = omega (
+        arith,
+        ap (λ (x : Valued). x .ride .departs) same,
+        b .apart (ap (λ (x : Valued). x .ride .from) (sym same) ∙ boards-stop (f .ride .ride) (f .stop) (f .minute) (found-boards chosen (f .stop) (f .minute) (f .is-first)) ∙ sym (boards-stop (u .ride) (f .stop) (f .minute) boarded)),
+      ) in z)) (found .2)
 
   module _ (target n : ℕ) (own-worth : OwnWorth target chosen) (plan work : List ℕ) (alone : HeadAlone work n head) where
     going-to : (k : ℕ) → k ≤ head → Going target (ridesOf target f) chosen start [] k
@@ -85,11 +88,11 @@ module _ (chosen : List Valued) (ordered : Ordered chosen) {head : ℕ} (f : Fir
           past = [];
           going = going-to head (omega arith);
           marking =
-            record {
-              marked = λ v m e.
-                ap (λ (x : Valued). getD work (x .ride .board) 0) (first-alone v m e) ∙ ap (λ k. getD work k 0) (f .boards-at) ∙ alone .marked;
-              only = λ i h e. (f .ride, first-member, f .boards-at ∙ sym (alone .only i h e), first-wanted);
-            };
+              record {
+                marked = λ v m e.
+                    ap (λ (x : Valued). getD work (x .ride .board) 0) (first-alone v m e) ∙ ap (λ k. getD work k 0) (f .boards-at) ∙ alone .marked;
+                only = λ i h e. (f .ride, first-member, f .boards-at ∙ sym (alone .only i h e), first-wanted);
+              };
           plan-is = over-none plan;
           rides-is = refl;
           last-is = refl;
@@ -138,16 +141,18 @@ module _ {target n : ℕ} {whole chosen : List Valued} {plan₀ work plan : List
     -- it lands away from the target, and can be followed
     pub lands : v .ride .to ≢ target → (safe : Valued) × Lands chosen (taken .behind) v safe
     lands away =
-        let found = taken .safe away in
-        (found .0, record {
-          member = member;
-          ordered = ordered;
-          moves = taken .moves;
-          behind-ordered = taken .ordered;
-          among = taken .among;
-          left = λ u m h. taken .left u m (let z : i < u .ride .board = omega arith in z);
-          first = found .1;
-        })
+        let found = taken .safe away in (
+          found .0,
+          record {
+            member = member;
+            ordered = ordered;
+            moves = taken .moves;
+            behind-ordered = taken .ordered;
+            among = taken .among;
+            left = λ u m h. taken .left u m (let z : i < u .ride .board = omega arith in z);
+            first = found .1;
+          },
+        )
 
     module _ (room : 3 * suc rides ≤ length plan₀) (plan' : List ℕ) (laid : plan' ≡ put plan rides (v .ride .board) (v .ride .leave) (v .worth))
         (last' : ℕ) (later : last' ≡ max last (latest (v .ride))) where
@@ -161,8 +166,8 @@ module _ {target n : ℕ} {whole chosen : List Valued} {plan₀ work plan : List
             going = subst (λ k. Going target whole chosen (windowsOf target (v .ride) (taken .behind) ++ w .windows) (w .past ++ v ∷ []) k) next (taken .going);
             marking = marks;
             plan-is =
-              laid ∙ ap (λ l. put l rides (v .ride .board) (v .ride .leave) (v .worth)) (w .plan-is)
-              ∙ over-more (w .past) v plan₀ rides (w .rides-is) (let z : 3 * suc (length (w .past)) ≤ length plan₀ = omega (arith, w .rides-is) in z);
+                laid ∙ ap (λ l. put l rides (v .ride .board) (v .ride .leave) (v .worth)) (w .plan-is)
+                ∙ over-more (w .past) v plan₀ rides (w .rides-is) (let z : 3 * suc (length (w .past)) ≤ length plan₀ = omega (arith, w .rides-is) in z);
             rides-is = ap (λ k. k + 1) (w .rides-is) ∙ sym (length-more (w .past) v);
             last-is = later ∙ ap (λ k. max k (latest (v .ride))) (w .last-is) ∙ sym (latest-more (w .past) v);
           }

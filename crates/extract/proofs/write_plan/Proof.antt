@@ -24,8 +24,12 @@ add-work c = search needs
 head-inside : (c : tie.Start) → c .args .head < c .args .end
 head-inside c =
     let f = c .pre .7 in
-    omega (arith, f .boards-at, known (c .args .file .now) (c .args .s) (c .pre .0) (c .args .end) (c .pre .3) (c .args .goal) (c .args .first) (c .pre .2) (f .ride)
-    (found-member (scanIn (c .args .file .now) (c .args .s) (c .args .goal) (c .args .first) (c .args .end) .chosen) (f .stop) (f .minute) (f .is-first)) .before-end)
+    omega (
+      arith,
+      f .boards-at,
+      known (c .args .file .now) (c .args .s) (c .pre .0) (c .args .end) (c .pre .3) (c .args .goal) (c .args .first) (c .pre .2) (f .ride)
+          (found-member (scanIn (c .args .file .now) (c .args .s) (c .args .goal) (c .args .first) (c .args .end) .chosen) (f .stop) (f .minute) (f .is-first)) .before-end,
+    )
 
 kept : (c : tie.After-fill) → Kept (c .before .before .before .before .before .before .args .work .now) (set (c .fill .last .0) (0 + c .before .before .before .before .before .before .args .head) 1)
 kept c =
@@ -48,8 +52,7 @@ slice-write-work c = omega (arith, head-inside (c .before .before .before .befor
 write-wanted-requires : tie.Need-write-wanted-requires
 write-wanted-requires c κs =
     let a = c .before .before .before .before .before .before .before .before .before .before in
-    let k = kept (c .before .before .before .before) in
-    (
+    let k = kept (c .before .before .before .before) in (
       a .pre .0,
       a .pre .1,
       a .pre .2,

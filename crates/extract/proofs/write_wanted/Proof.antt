@@ -32,11 +32,10 @@ abbrev chosen : tie.Start Inv-loop μ-loop → List Valued
 chosen a = scanIn (a .args .file .now) (a .args .s) (a .args .goal) (a .args .first) (a .args .end) .chosen
 
 scanned : (a : tie.Start Inv-loop μ-loop) → Ordered (chosen a) × OwnWorth (a .args .goal .target) (chosen a)
-scanned a =
-    (
-      ordered (a .args .file .now) (a .args .s) (a .pre .0) (a .args .end) (a .pre .3) (a .args .goal) (a .args .first) (a .pre .2),
-      own-worth (a .args .file .now) (a .args .s) (a .pre .0) (a .args .end) (a .pre .3) (a .args .goal) (a .args .first) (a .pre .2),
-    )
+scanned a = (
+  ordered (a .args .file .now) (a .args .s) (a .pre .0) (a .args .end) (a .pre .3) (a .args .goal) (a .args .first) (a .pre .2),
+  own-worth (a .args .file .now) (a .args .s) (a .pre .0) (a .args .end) (a .pre .3) (a .args .goal) (a .args .first) (a .pre .2),
+)
 
 before-end : (a : tie.Start Inv-loop μ-loop) → (v : Valued) → List·Memᴰ v (chosen a) → v .ride .board < a .args .end
 before-end a v m =
@@ -50,8 +49,7 @@ head-inside a =
 loop-holds : tie.Need-loop-holds Inv-loop μ-loop
 loop-holds c =
     let a = c .before .before .before .before in
-    let all = scanned a in
-    (
+    let all = scanned a in (
       omega (arith, head-inside a),
       omega arith,
       omega arith,
@@ -175,14 +173,13 @@ loop-again c =
     let n = r .before .before .before .before .before .nth-row in
     let d = r .before .before .number in
     let away = c .before .before .before .before .if2 .taken in
-    let passed = c .before .before .want .ensures in
-    (
+    let passed = c .before .before .want .ensures in (
       omega (arith, turn m .below),
       omega (arith, l .inv .1),
       omega (arith, r .later .ensures, lands-soon (r .before .before), l .inv .2),
       kept-on (l .inv .3) (record { same-length = passed .same-length; same-cell = passed-kept (l .work) _ _ _ (stack-met r away) passed }),
       changed (turn m) (w .result) (w .ensures .0) (n .result) (n .ensures .0) (d .result) (d .ensures .0) (w .last .1 .1 .1 .0) (w .ensures .1)
-      (r .later .result) (r .later .ensures) away (c .before .before .want .last .1 .1 .1 .0) passed,
+          (r .later .result) (r .later .ensures) away (c .before .before .want .last .1 .1 .1 .0) passed,
     )
 
 loop-less-2 : tie.Need-loop-less-2 Inv-loop μ-loop
@@ -195,14 +192,13 @@ loop-again-2 c =
     let l = m .before .before .before .loop in
     let w = r .before .before .before .before .before .before .before .before .write-ride in
     let n = r .before .before .before .before .before .nth-row in
-    let d = r .before .before .number in
-    (
+    let d = r .before .before .number in (
       omega (arith, turn m .below),
       omega (arith, l .inv .1),
       omega (arith, r .later .ensures, lands-soon (r .before .before), l .inv .2),
       l .inv .3,
       arrived (turn m) (w .result) (w .ensures .0) (n .result) (n .ensures .0) (d .result) (d .ensures .0) (w .last .1 .1 .1 .0) (w .ensures .1)
-      (r .later .result) (r .later .ensures) (c .if2 .left),
+          (r .later .result) (r .later .ensures) (c .if2 .left),
     )
 
 loop-less-3 : tie.Need-loop-less-3 Inv-loop μ-loop
@@ -210,8 +206,7 @@ loop-less-3 c = omega arith
 
 loop-again-3 : tie.Need-loop-again-3 Inv-loop μ-loop
 loop-again-3 c =
-    let l = c .before .before .before .loop in
-    (
+    let l = c .before .before .before .loop in (
       omega arith,
       omega arith,
       l .inv .2,
@@ -231,10 +226,9 @@ same-length-2 c = plan-length (c .before .before .loop .inv .4 (c .before .befor
 returns : tie.Need-returns Inv-loop μ-loop
 returns c =
     let a = c .before .before .before .before .before .before .before in
-    let l = c .before .before .loop in
-    (
+    let l = c .before .before .loop in (
       (λ f. let done = writing-end (l .inv .4 f) (λ v m. omega (arith, c .before .loop-test .left, before-end a v m)) in
-      (done .0, done .1, c .cell .ensures ∙ done .2)),
+          (done .0, done .1, c .cell .ensures ∙ done .2)),
       l .inv .3 .same-length,
       kept-drop (l .inv .3) (4 * a .args .s .rows + 2402) (omega arith),
     )

@@ -1,0 +1,2 @@
+-- What the readers' contracts settle.
+pub mod Settled
