@@ -44,9 +44,12 @@ pub at-most-one : {minute departure seen : ℕ} → Look minute departure seen �
 at-most-one (boards e h) = omega arith
 at-most-one (gone e h) = omega arith
 
-pub few-steps : (step : ℕ) {minute d e f a b c : ℕ} → Look minute d a → Look minute e b → Look minute f c → step * (a + b + c) ≤ 3 * step
+-- three looks lead no further than three steps
+pub few-steps : (step : ℕ) {minute d e f a b c : ℕ} → Look minute d a → Look minute e b → Look minute f c
+    → step * (a + b + c) ≤ 3 * step
 few-steps step {a = a} {b = b} {c = c} first second third =
-    let few : a + b + c ≤ 3 = omega (arith, at-most-one first, at-most-one second, at-most-one third) in omega (arith, mul-le-mul-left step few)
+    let few : a + b + c ≤ 3 = omega (arith, at-most-one first, at-most-one second, at-most-one third) in
+    omega (arith, mul-le-mul-left step few)
 
 -- a look at the cell of a place
 pub looked-at : (work : List ℕ) (start minute place : ℕ) {at seen : ℕ} → at ≡ start + 2 * place → seen ≡ look minute (getD work at 0 / 2048)

@@ -14,41 +14,6 @@ Inv-loop work start minute low₀ left₀ low left =
 abbrev μ-loop : tie.MeasureT-loop
 μ-loop work start minute low₀ left₀ low left = left
 
--- the three looks of one turn
-first-look : (c : tie.After-open-at Inv-loop μ-loop) →
-    let l = c .before .before .loop in
-    let a = c .before .before .before .before .args in
-    Look (a .minute) (departureAt (a .work .now) (a .start) (l .low + l .left / 4)) (c .open-at .result)
-first-look c =
-    let l = c .before .before .loop in
-    let a = c .before .before .before .before .args in
-    looked (a .minute) (departureAt (a .work .now) (a .start) (l .low + l .left / 4)) (c .open-at .ensures)
-
-second-look : (c : tie.After-open-at2 Inv-loop μ-loop) →
-    let l = c .before .before .before .loop in
-    let a = c .before .before .before .before .before .args in
-    Look (a .minute) (departureAt (a .work .now) (a .start) (l .low + 2 * (l .left / 4))) (c .open-at2 .result)
-second-look c =
-    let l = c .before .before .before .loop in
-    let a = c .before .before .before .before .before .args in
-    looked (a .minute) (departureAt (a .work .now) (a .start) (l .low + 2 * (l .left / 4))) (c .open-at2 .ensures)
-
-third-look : (c : tie.After-open-at3 Inv-loop μ-loop) →
-    let l = c .before .before .before .before .loop in
-    let a = c .before .before .before .before .before .before .args in
-    Look (a .minute) (departureAt (a .work .now) (a .start) (l .low + 3 * (l .left / 4))) (c .open-at3 .result)
-third-look c =
-    let l = c .before .before .before .before .loop in
-    let a = c .before .before .before .before .before .before .args in
-    looked (a .minute) (departureAt (a .work .now) (a .start) (l .low + 3 * (l .left / 4))) (c .open-at3 .ensures)
-
--- they lead no further than three steps
-steps : (c : tie.After-open-at3 Inv-loop μ-loop) →
-    let step = c .before .before .before .before .loop .left / 4 in
-    step * (c .before .before .open-at .result + c .before .open-at2 .result + c .open-at3 .result) ≤ 3 * step
-steps c =
-    few-steps (c .before .before .before .before .loop .left / 4) (first-look (c .before .before)) (second-look (c .before)) (third-look c)
-
 loop-holds : tie.Need-loop-holds Inv-loop μ-loop
 loop-holds c =
     (omega (arith, c .shared-slice-known .given (c .before .args .start + 2 * 0)), whole-span (c .before .pre))
@@ -86,6 +51,40 @@ add-open-at-4 c = omega arith
 open-at-requires-2 : tie.Need-open-at-requires-2 Inv-loop μ-loop
 open-at-requires-2 c κs = (omega arith, c .before .before .loop .inv .0)
 
+-- the three looks of one turn
+first-look : (c : tie.After-open-at Inv-loop μ-loop) →
+    let l = c .before .before .loop in
+    let a = c .before .before .before .before .args in
+    Look (a .minute) (departureAt (a .work .now) (a .start) (l .low + l .left / 4)) (c .open-at .result)
+first-look c =
+    let l = c .before .before .loop in
+    let a = c .before .before .before .before .args in
+    looked (a .minute) (departureAt (a .work .now) (a .start) (l .low + l .left / 4)) (c .open-at .ensures)
+
+second-look : (c : tie.After-open-at2 Inv-loop μ-loop) →
+    let l = c .before .before .before .loop in
+    let a = c .before .before .before .before .before .args in
+    Look (a .minute) (departureAt (a .work .now) (a .start) (l .low + 2 * (l .left / 4))) (c .open-at2 .result)
+second-look c =
+    let l = c .before .before .before .loop in
+    let a = c .before .before .before .before .before .args in
+    looked (a .minute) (departureAt (a .work .now) (a .start) (l .low + 2 * (l .left / 4))) (c .open-at2 .ensures)
+
+third-look : (c : tie.After-open-at3 Inv-loop μ-loop) →
+    let l = c .before .before .before .before .loop in
+    let a = c .before .before .before .before .before .before .args in
+    Look (a .minute) (departureAt (a .work .now) (a .start) (l .low + 3 * (l .left / 4))) (c .open-at3 .result)
+third-look c =
+    let l = c .before .before .before .before .loop in
+    let a = c .before .before .before .before .before .before .args in
+    looked (a .minute) (departureAt (a .work .now) (a .start) (l .low + 3 * (l .left / 4))) (c .open-at3 .ensures)
+
+steps : (c : tie.After-open-at3 Inv-loop μ-loop) →
+    let step = c .before .before .before .before .loop .left / 4 in
+    step * (c .before .before .open-at .result + c .before .open-at2 .result + c .open-at3 .result) ≤ 3 * step
+steps c =
+    few-steps (c .before .before .before .before .loop .left / 4) (first-look (c .before .before)) (second-look (c .before)) (third-look c)
+
 add-low : tie.Need-add-low Inv-loop μ-loop
 add-low c = omega (arith, at-most-one (first-look (c .before)), at-most-one (second-look c))
 
@@ -118,11 +117,10 @@ loop-less c = omega arith
 
 loop-again : tie.Need-loop-again Inv-loop μ-loop
 loop-again c =
-    let l = c .before .before .before .before .loop in (
-      l .inv .0,
-      quartered (c .before .before .before .before .before .before .pre .falling) (l .left / 4) (l .inv .1) (omega arith) (omega arith) (first-look (c .before .before))
-          (second-look (c .before)) (third-look c),
-    )
+    let l = c .before .before .before .before .loop in
+    let p = c .before .before .before .before .before .before .pre in
+    let narrowed = quartered (p .falling) (l .left / 4) (l .inv .1) (omega arith) (omega arith) in
+    (l .inv .0, narrowed (first-look (c .before .before)) (second-look (c .before)) (third-look c))
 
 returns : tie.Need-returns Inv-loop μ-loop
 returns c = (c .before .loop .inv .1, c .loop-test .left)
