@@ -2,12 +2,14 @@
 ghost use mathlib.Core.Path.{_≡_};
 ghost use mathlib.Core.List.{List};
 ghost use Prim.Native.Nat.{ℕ, _+_, _*_, _/_, _%_, _<_};
+ghost use lib.ListN.{length, getD};
 ghost use Rattle.timetable.specs.Classes.{whole};
 ghost use Rattle.plans.specs.Journeys.{within};
 ghost use Rattle.plans.specs.Worth.{Valued, up, weigh};
 ghost use Rattle.plans.specs.Chosen.{offInTicks};
 ghost use Rattle.cells.specs.Cells.{cellOf};
 ghost use Rattle.landing.specs.Landing.{Ready, SomeReady, rideOff, Falling, FirstOpenAt};
+ghost use Rattle.landing.specs.Search.{look, Narrowed, Searched};
 ghost use Rattle.landing.specs.Boarding.{Boarding, SomeBoarding};
 use cells::NONE;
 use cells::PAIRS;
@@ -88,17 +90,75 @@ pub fn first_open(work: &[u32], start: usize, size: usize, minute: usize) -> usi
     requires { ⌜ Falling (now work) start size minute ⌝ }
     ensures { λ r. ⌜ FirstOpenAt (now (work .entry)) start size minute r ⌝ }
 {
-    let mut low = 0;
-    let mut left = size;
-    while 1 < left {
-        let half = left / 2;
-        let middle = low + half;
-        left -= half;
-        if opens(departure_of(work[start + 2 * middle]), minute) {
-            low = middle;
+    let span = span_from_top(work, start, size, minute);
+    let short = quarter(work, start, span, minute);
+    start + 2 * last_open(work, start, short, minute)
+}
+
+// Entries of a stack, `left` of them from place `low` on: the highest that can be boarded is among them.
+struct Span {
+    low: usize,
+    left: usize,
+}
+
+// In steps that double, from the top: most rides land soon, where the next rows leave.
+fn span_from_top(work: &[u32], start: usize, size: usize, minute: usize) -> Span
+    requires { ⌜ Falling (now work) start size minute ⌝ }
+    ensures { λ r. ⌜ Narrowed (now (work .entry)) start size minute (r .low) (r .left) ⌝ }
+{
+    let mut high = size;
+    let mut step = 1;
+    while step < high {
+        let low = high - step;
+        if open_at(work, start + 2 * low, minute) == 1 {
+            return Span { low, left: step };
         }
+        high = low;
+        step *= 2;
     }
-    start + 2 * low
+    Span { low: 0, left: high }
+}
+
+// By quarters, as long as a span has four entries: three looks at once and no branch on what they see.
+fn quarter(work: &[u32], start: usize, span: Span, minute: usize) -> Span
+    requires { ⌜ Searched (now work) start minute (span .low) (span .left) ⌝ }
+    ensures { λ r. ⌜ Narrowed (now (work .entry)) start (span .low + span .left) minute (r .low) (r .left) × (r .left < 4) ⌝ }
+{
+    let mut low = span.low;
+    let mut left = span.left;
+    while 4 <= left {
+        let step = left / 4;
+        left -= 3 * step;
+        low += step
+            * (open_at(work, start + 2 * (low + step), minute)
+                + open_at(work, start + 2 * (low + 2 * step), minute)
+                + open_at(work, start + 2 * (low + 3 * step), minute));
+    }
+    Span { low, left }
+}
+
+// The last entry that can be boarded in a span of at most three.
+fn last_open(work: &[u32], start: usize, span: Span, minute: usize) -> usize
+    requires { ⌜ Searched (now work) start minute (span .low) (span .left) × (span .left < 4) ⌝ }
+    ensures { λ r. ⌜ Narrowed (now (work .entry)) start (span .low + span .left) minute r 1 ⌝ }
+{
+    let low = span.low;
+    let at = start + 2 * low;
+    if span.left == 1 {
+        return low;
+    }
+    if span.left == 2 {
+        return low + open_at(work, at + 2, minute);
+    }
+    low + open_at(work, at + 2, minute) + open_at(work, at + 4, minute)
+}
+
+// 1 if the entry at cell `at` can be boarded at `minute`, else 0. Keys are compared: no division.
+fn open_at(work: &[u32], at: usize, minute: usize) -> usize
+    requires { ⌜ (at < length (now work)) × (minute < 4294967296) ⌝ }
+    ensures { λ r. ⌜ r ≡ look minute (getD (now (work .entry)) at 0 / 2048) ⌝ }
+{
+    opens(number(work[at]), KEY * minute) as usize
 }
 
 // The sum over delays of share x worth of the ride caught, in runs of delays that catch the same ride,

@@ -1,115 +1,42 @@
--- `landing::first_open` meets its contract: the entry at `low` opens, those from `low + left` up do not. Assumes nothing.
-use Prim.Native.Nat.{ℕ, _+_, _*_, _/_, _≤_, _<_}
-use mathlib.Core.Path.{refl, sym, subst, _∙_}
-use native.Mathlib.Omega.{arith}
-use borrow.Author.Tests.{leb-true, leb-false}
-use lib.ListN.{length}
-use Rattle.landing.specs.Landing.{departureAt}
-use Rattle.landing.proofs.Stack.{falls-behind}
+-- `landing::first_open` meets its contract: each search narrows what the one before it left. Assumes nothing.
+use borrow.Author.Needs.{needs}
+use Rattle.landing.specs.Search.{Searched}
+use Rattle.landing.proofs.Search.{onward, within, answered}
 use Rattle.landing.proofs.first_open.Statement.{statement}
 use Rattle.landing.proofs.first_open.Tie as tie
 
-abbrev Inv-loop : tie.InvT-loop
-Inv-loop work start size minute low₀ left₀ low left =
-    (1 ≤ left) × (low + left ≤ size) × (minute ≤ departureAt work start low) × (start + 2 * size ≤ length work)
-    × ((k : ℕ) → low + left ≤ k → k < size → departureAt work start k < minute)
+-- what the steps from the top leave can be searched
+left-over : (c : tie.After-span-from-top) →
+    let a = c .before .before .args in
+    let span = c .span-from-top .result in
+    Searched (a .work .now) (a .start) (a .minute) (span .low) (span .left)
+left-over c = onward (c .before .before .pre) (c .span-from-top .ensures)
 
-abbrev μ-loop : tie.MeasureT-loop
-μ-loop work start size minute low₀ left₀ low left = left
+span-from-top-requires : tie.Need-span-from-top-requires
+span-from-top-requires c κs = search needs
 
-loop-holds : tie.Need-loop-holds Inv-loop μ-loop
-loop-holds c =
-    let p = c .before .pre in
-    (omega (arith, p .some-entry), omega arith, p .bottom, p .inside, (λ k h l. absurd (let z : ⊥ = omega arith in z)))
+quarter-requires : tie.Need-quarter-requires
+quarter-requires c κs = left-over c
 
-add-middle : tie.Need-add-middle Inv-loop μ-loop
-add-middle c = omega arith
+last-open-requires : tie.Need-last-open-requires
+last-open-requires c κs = (onward (left-over (c .before) .falling) (c .quarter .ensures .0), c .quarter .ensures .1)
 
-sub-left : tie.Need-sub-left Inv-loop μ-loop
-sub-left c = omega arith
+mul-result : tie.Need-mul-result
+mul-result c = search needs
 
-mul-departure-of : tie.Need-mul-departure-of Inv-loop μ-loop
-mul-departure-of c = omega arith
+add-result : tie.Need-add-result
+add-result c = search needs
 
-add-departure-of : tie.Need-add-departure-of Inv-loop μ-loop
-add-departure-of c = omega arith
-
-mul-departure-of-2 : tie.Need-mul-departure-of-2 Inv-loop μ-loop
-mul-departure-of-2 c = omega arith
-
-shared-slice-read-departure-of : tie.Need-shared-slice-read-departure-of Inv-loop μ-loop
-shared-slice-read-departure-of c = omega arith
-
-departure-of-requires : tie.Need-departure-of-requires Inv-loop μ-loop
-departure-of-requires c κs = tt
-
-opens-requires : tie.Need-opens-requires Inv-loop μ-loop
-opens-requires c κs = tt
-
-loop-less : tie.Need-loop-less Inv-loop μ-loop
-loop-less c = omega arith
-
-loop-again : tie.Need-loop-again Inv-loop μ-loop
-loop-again c =
-    let a = c .before .before .before .before .before .before .before in
-    let l = c .before .before .before .before .before .loop in
-    let middle = l .low + l .left / 2 in
-    let opened : a .args .minute ≤ departureAt (a .args .work .now) (a .args .start) middle =
-    subst (λ d. a .args .minute ≤ d) (c .before .before .departure-of .ensures)
-    (leb-true (a .args .minute) (c .before .before .departure-of .result) (sym (c .before .opens .ensures) ∙ c .if1 .taken))
-    in
-    (omega arith, omega arith, opened, l .inv .3, λ k h below. l .inv .4 k (omega arith) below)
-
-loop-less-2 : tie.Need-loop-less-2 Inv-loop μ-loop
-loop-less-2 c = omega arith
-
-loop-again-2 : tie.Need-loop-again-2 Inv-loop μ-loop
-loop-again-2 c =
-    let a = c .before .before .before .before .before .before .before in
-    let l = c .before .before .before .before .before .loop in
-    let middle = l .low + l .left / 2 in
-    let missed : departureAt (a .args .work .now) (a .args .start) middle < a .args .minute =
-    subst (λ d. d < a .args .minute) (c .before .before .departure-of .ensures)
-    (leb-false (a .args .minute) (c .before .before .departure-of .result) (sym (c .before .opens .ensures) ∙ c .if1 .left))
-    in
-    (omega arith, omega arith, l .inv .2, l .inv .3, λ k h below. falls-behind (a .pre) missed k (omega arith) below)
-
-mul-result : tie.Need-mul-result Inv-loop μ-loop
-mul-result c = omega arith
-
-add-result : tie.Need-add-result Inv-loop μ-loop
-add-result c = omega arith
-
-returns : tie.Need-returns Inv-loop μ-loop
-returns c =
-    let l = c .before .loop in
-    record {
-      place = l .low;
-      inside = omega arith;
-      stands = refl;
-      opens = l .inv .2;
-      missed = λ k h below. l .inv .4 k (omega arith) below;
-    }
+returns : tie.Need-returns
+returns c = answered (within (c .before .before .span-from-top .ensures) (within (c .before .quarter .ensures .0) (c .last-open .ensures)))
 
 pub first-open-spec : {M : Type 1} → statement M
 first-open-spec =
     tie.close
     (tie.spec
-    Inv-loop
-    μ-loop
-    loop-holds
-    add-middle
-    sub-left
-    mul-departure-of
-    add-departure-of
-    mul-departure-of-2
-    shared-slice-read-departure-of
-    departure-of-requires
-    opens-requires
-    loop-less
-    loop-again
-    loop-less-2
-    loop-again-2
+    span-from-top-requires
+    quarter-requires
+    last-open-requires
     mul-result
     add-result
     returns)
