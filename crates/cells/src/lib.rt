@@ -6,7 +6,7 @@
 // | 2,000 .. 2,199 | a stop: its ready minute (journeys); where its stack starts, counted in pairs (scan, extract) | 200 stops |
 // | 2,200 .. 2,399 | a stop: the entries on its stack | |
 // | 2,400 + 2i | pair i, for row i up to n: its worth, its leaving row. Pair n holds NONE | a trip with no next row reads pair n, with no test |
-// | 2,402 + 2n + 2e | pair n + 1 + e, a stack's entry: 2,048 x departure + row, its worth | one region a stop, sized by its rows: no links to follow, and a search by halves |
+// | 2,402 + 2n + 2e | pair n + 1 + e, a stack's entry: 2,048 x departure + row, its worth | one region a stop, sized by its rows: no links to follow, and a search by quarters |
 //
 // In all 4n + 2,402 cells. Nothing is sized by a class's maximum.
 
