@@ -40,7 +40,8 @@ pub record Taken (target : ℕ) (whole chosen : List Valued) (ws : List Window) 
 
 module _ (target : ℕ) (whole chosen : List Valued) where
   -- all chosen rows are still ahead
-  pub going-start : (ws : List Window) → Ordered chosen → OwnWorth target chosen → whole ≡ extract target ws chosen → Going target whole chosen ws [] 0
+  pub going-start : (ws : List Window) → Ordered chosen → OwnWorth target chosen → whole ≡ extract target ws chosen
+      → Going target whole chosen ws [] 0
   going-start ws o w e =
       record { rest = chosen; splits = e; ordered = o; own-worth = w; among = λ v m. m; later = λ v m. omega arith; left = λ v m h. m }
 
@@ -70,18 +71,18 @@ module _ (target : ℕ) (whole chosen : List Valued) where
           record {
             rest = vs;
             splits =
-              e
-              ∙ ap (λ l. past ++ l)
-              (on-taking target (extract target ws (v ∷ vs) ≡ extract target ws vs) ws v vs
-              (λ t _. absurd (false≢true (sym (unwanted v (among v (List·Memᴰ·head refl)) here) ∙ t))) (λ _ p. p));
+                e
+                ∙ ap (λ l. past ++ l)
+                (on-taking target (extract target ws (v ∷ vs) ≡ extract target ws vs) ws v vs
+                (λ t _. absurd (false≢true (sym (unwanted v (among v (List·Memᴰ·head refl)) here) ∙ t))) (λ _ p. p));
             ordered = o;
             own-worth = w;
             among = λ u m. among u (List·Memᴰ·tail m);
             later = λ u m. omega (arith, before u m .rows);
             left =
-              λ u m h.
-              head-or-later (List·Memᴰ u vs) (left u m (omega arith))
-              (λ same. absurd (let z : ⊥ = omega (arith, ap (λ (x : Valued). x .ride .board) same) in z)) (λ n. n);
+                λ u m h.
+                head-or-later (List·Memᴰ u vs) (left u m (omega arith))
+                (λ same. absurd (let z : ⊥ = omega (arith, ap (λ (x : Valued). x .ride .board) same) in z)) (λ n. n);
           })
           (λ q. let apart : v .ride .board ≢ i = eqb-false (v .ride .board) i q in
           let from : i ≤ v .ride .board = later v (List·Memᴰ·head refl) in
@@ -92,9 +93,9 @@ module _ (target : ℕ) (whole chosen : List Valued) where
             own-worth = own.ahead moves worth on w;
             among = among;
             later =
-              λ u m.
-              head-or-later (suc i ≤ u .ride .board) m (λ same. omega (arith, ap (λ (x : Valued). x .ride .board) same))
-              (λ n. omega (arith, before u n .rows));
+                λ u m.
+                head-or-later (suc i ≤ u .ride .board) m (λ same. omega (arith, ap (λ (x : Valued). x .ride .board) same))
+                (λ n. omega (arith, before u n .rows));
             left = λ u m h. left u m (omega arith);
           })
 
@@ -103,7 +104,8 @@ module _ (target : ℕ) (whole chosen : List Valued) where
       {ws : List Window} {past : List Valued} {i : ℕ} → Going target whole chosen ws past i → (v : Valued) → List·Memᴰ v chosen → v .ride .board ≡ i
       → wanted ws (v .ride) ≡ true → Taken target whole chosen ws past i v
   going-take {ws} {past} {i} g v member here want =
-      go (g .rest) (g .splits) (g .ordered) (g .own-worth) (g .among) (g .later) (g .left) (g .left v member (let z : i ≤ v .ride .board = omega arith in z))
+      go (g .rest) (g .splits) (g .ordered) (g .own-worth) (g .among) (g .later) (g .left)
+      (g .left v member (let z : i ≤ v .ride .board = omega arith in z))
     where
       go :
           (rest : List Valued) → whole ≡ past ++ extract target ws rest → Ordered rest → OwnWorth target rest
@@ -122,20 +124,20 @@ module _ (target : ℕ) (whole chosen : List Valued) where
           record {
             behind = vs;
             going =
-              record {
-                rest = vs;
-                splits =
-                  e
-                  ∙ ap (λ l. past ++ l)
-                  (on-taking target (extract target ws (x ∷ vs) ≡ x ∷ extract target (windowsOf target (x .ride) vs ++ ws) vs) ws x vs (λ _ t. t)
-                  (λ p _. absurd (false≢true (sym p ∙ wants))))
-                  ∙ sym (append-assoc past (x ∷ []) (extract target (windowsOf target (x .ride) vs ++ ws) vs));
-                ordered = o;
-                own-worth = w;
-                among = λ u n. among u (List·Memᴰ·tail n);
-                later = λ u n. omega (arith, before u n .rows);
-                left = λ u n h. behind u n h;
-              };
+                record {
+                  rest = vs;
+                  splits =
+                      e
+                      ∙ ap (λ l. past ++ l)
+                      (on-taking target (extract target ws (x ∷ vs) ≡ x ∷ extract target (windowsOf target (x .ride) vs ++ ws) vs) ws x vs (λ _ t. t)
+                      (λ p _. absurd (false≢true (sym p ∙ wants))))
+                      ∙ sym (append-assoc past (x ∷ []) (extract target (windowsOf target (x .ride) vs ++ ws) vs));
+                  ordered = o;
+                  own-worth = w;
+                  among = λ u n. among u (List·Memᴰ·tail n);
+                  later = λ u n. omega (arith, before u n .rows);
+                  left = λ u n h. behind u n h;
+                };
             moves = moves;
             safe = on;
             ordered = o;

@@ -24,10 +24,10 @@ module _ (work : List ℕ) (n at head : ℕ) (here : at ≡ head) (inside : head
       record {
         same-length = length-set cleared at 1 ∙ cleared-length;
         same-cell = λ i h.
-          set-cell (λ x. x ≡ getD work i 0) cleared at i 1 (let z : at < length cleared = omega (arith, cleared-length) in z)
-          (λ same. absurd (let z : ⊥ = omega arith in z))
-          (λ _. let place : 0 + n + (i - n) ≡ i = omega arith in
-          subst (λ k. getD cleared k 0 ≡ getD work k 0) place (filled-behind work 0 n 0 (i - n) (omega arith)));
+            set-cell (λ x. x ≡ getD work i 0) cleared at i 1 (let z : at < length cleared = omega (arith, cleared-length) in z)
+            (λ same. absurd (let z : ⊥ = omega arith in z))
+            (λ _. let place : 0 + n + (i - n) ≡ i = omega arith in
+            subst (λ k. getD cleared k 0 ≡ getD work k 0) place (filled-behind work 0 n 0 (i - n) (omega arith)));
       }
 
   pub headed-alone : HeadAlone (set cleared at 1) n head
@@ -36,8 +36,8 @@ module _ (work : List ℕ) (n at head : ℕ) (here : at ≡ head) (inside : head
       record {
         marked = subst (λ k. getD (set cleared at 1) k 0 ≡ 1) here (getD-set-same cleared at 1 0 fits);
         only = λ i h.
-          set-cell (λ x. x ≡ 1 → i ≡ head) cleared at i 1 fits (λ same _. sym same ∙ here)
-          (λ _ marked. absurd (let none : getD cleared (0 + i) 0 ≡ 0 = filled-inside work 0 n 0 i (omega arith) h in
-          let place : getD cleared (0 + i) 0 ≡ getD cleared i 0 = ap (λ k. getD cleared k 0) (zero-add i) in
-          let z : ⊥ = omega arith in z));
+            set-cell (λ x. x ≡ 1 → i ≡ head) cleared at i 1 fits (λ same _. sym same ∙ here)
+            (λ _ marked. absurd (let none : getD cleared (0 + i) 0 ≡ 0 = filled-inside work 0 n 0 i (omega arith) h in
+            let place : getD cleared (0 + i) 0 ≡ getD cleared i 0 = ap (λ k. getD cleared k 0) (zero-add i) in
+            let z : ⊥ = omega arith in z));
       }

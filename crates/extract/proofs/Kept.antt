@@ -53,12 +53,12 @@ module _ {old new : List ℕ} (k : Kept old new) where
       record {
         pair-holds = λ i a b. same-pair i (bestIn sc first i) (held .pair-holds i a b);
         stack-holds = λ stop h.
-          ap₂ (λ a b. stackAt new a b) (same-start stop) (same-size stop)
-          ∙ same-stack (stackStart old stop) (stackSize old stop) (omega arith) ∙ held .stack-holds stop h;
+            ap₂ (λ a b. stackAt new a b) (same-start stop) (same-size stop)
+            ∙ same-stack (stackStart old stop) (stackSize old stop) (omega arith) ∙ held .stack-holds stop h;
         climbing = held .climbing;
         stack-behind = λ stop h. subst (λ a. pairs + 2 * suc n ≤ a) (sym (same-start stop)) (held .stack-behind stop h);
         stack-inside = λ stop h.
-          (let a : stackStart new stop ≡ stackStart old stop = same-start stop in
-          let b : stackSize new stop ≡ stackSize old stop = same-size stop in
-          let z : stackStart new stop + 2 * stackSize new stop ≤ used n = omega (arith, held .stack-inside stop h) in z);
+            (let a : stackStart new stop ≡ stackStart old stop = same-start stop in
+            let b : stackSize new stop ≡ stackSize old stop = same-size stop in
+            let z : stackStart new stop + 2 * stackSize new stop ≤ used n = omega (arith, held .stack-inside stop h) in z);
       }

@@ -68,8 +68,11 @@ module _ (work : List ℕ) (stop : ℕ) (chosen : List Valued) (holds : StackHol
   ride-entry v m from =
       let found = place-of there v (at-stop-holds stop chosen m from) in
       let place = stackSize work stop - suc (found .0) in
-      (place, subst (λ (u : Valued). Stands work stop chosen place u) (found .2)
-      (stands-at v (found .0) place (let z : found .0 + suc (stackSize work stop - suc (found .0)) ≡ stackSize work stop = omega (arith, found .1, size-is) in z)))
+      let down : found .0 + suc place ≡ stackSize work stop = omega (arith, found .1, size-is) in (
+        place,
+        subst (λ (u : Valued). Stands work stop chosen place u) (found .2)
+            (stands-at v (found .0) place down),
+      )
 
   -- departures fall from the bottom up
   pub falls : (d : Valued) (k l : ℕ) → k < l → l < stackSize work stop

@@ -52,16 +52,16 @@ module _ (file : List ℕ) (s : Sailings) (stand : Stand file s) (end : ℕ) (in
   timely =
       record {
         rising = λ i j h below.
-          let b : j < end = omega (arith, timed-length) in
-          subst (λ (r : Row). r .departure ≤ rowOf (timed .rows) j .departure) (sym (timed-row i (omega arith)))
-          (subst (λ (r : Row). rowOf (rowsIn file s) i .departure ≤ r .departure) (sym (timed-row j b)) (stand .departures i j h (omega arith)));
+            let b : j < end = omega (arith, timed-length) in
+            subst (λ (r : Row). r .departure ≤ rowOf (timed .rows) j .departure) (sym (timed-row i (omega arith)))
+            (subst (λ (r : Row). rowOf (rowsIn file s) i .departure ≤ r .departure) (sym (timed-row j b)) (stand .departures i j h (omega arith)));
         forward = λ i below.
-          let b : i < end = omega (arith, timed-length) in
-          subst (λ (r : Row). r .departure < r .arrival) (sym (timed-row i b)) (stand .row-fits i (omega arith) .onward);
+            let b : i < end = omega (arith, timed-length) in
+            subst (λ (r : Row). r .departure < r .arrival) (sym (timed-row i b)) (stand .row-fits i (omega arith) .onward);
         shared = λ i below.
-          let b : i < end = omega (arith, timed-length) in
-          subst (λ (r : Row). sum (sharesOf (tablesIn file s) (r .class)) ≡ whole) (sym (timed-row i b))
-          (stand .shares-fit (rowOf (rowsIn file s) i .class) (stand .row-fits i (omega arith) .class) .shares-whole);
+            let b : i < end = omega (arith, timed-length) in
+            subst (λ (r : Row). sum (sharesOf (tablesIn file s) (r .class)) ≡ whole) (sym (timed-row i b))
+            (stand .shares-fit (rowOf (rowsIn file s) i .class) (stand .row-fits i (omega arith) .class) .shares-whole);
       }
 
   -- what is known of a chosen ride
@@ -106,11 +106,11 @@ module _ (file : List ℕ) (s : Sailings) (stand : Stand file s) (end : ℕ) (in
           from-first = p .here;
           before-end = (let z : v .ride .board < end = omega (arith, p .inside, timed-length) in z);
           best =
-            ap (λ (x : Scan). bestIn x first (v .ride .board)) scan-is
-            ∙ weighed-at off (goal .target) timed (v .ride .board - first) first (record { trip = 0; best = none })
-            (let z : first + (v .ride .board - first) < length (timed .rows) = omega (arith, p .inside, p .here) in z)
-            ∙ ap (bestAt off (goal .target) timed) far
-            ∙ p .best;
+              ap (λ (x : Scan). bestIn x first (v .ride .board)) scan-is
+              ∙ weighed-at off (goal .target) timed (v .ride .board - first) first (record { trip = 0; best = none })
+              (let z : first + (v .ride .board - first) < length (timed .rows) = omega (arith, p .inside, p .here) in z)
+              ∙ ap (bestAt off (goal .target) timed) far
+              ∙ p .best;
           leaves = leaving;
           to = ap (λ (r : Ride). r .to) (is .as-timed) ∙ ap (λ (r : Row). r .land) row;
           arrives = ap (λ (r : Ride). r .arrives) (is .as-timed) ∙ ap (λ (r : Row). r .arrival) row;

@@ -97,7 +97,10 @@ fn write_wanted(
             }
         }
     }
-    Written { rides, latest: cell(latest) }
+    Written {
+        rides,
+        latest: cell(latest),
+    }
 }
 
 // The later of two minutes.
