@@ -24,7 +24,9 @@ pub record Aboard (file : List ℕ) (s : Sailings) (tables work : List ℕ) (i :
   pub arrives : v .ride .arrives ≡ rowOf (rowsIn file s) (v .ride .leave) .arrival
   pub stop : v .ride .to < 200
   pub class : rowOf (rowsIn file s) (v .ride .leave) .class < 16
-  pub lands : rowOf (rowsIn file s) (v .ride .leave) .arrival + getD tables (256 * rowOf (rowsIn file s) (v .ride .leave) .class + 0) 0 ≡ latest (v .ride)
+  pub lands :
+      rowOf (rowsIn file s) (v .ride .leave) .arrival + getD tables (256 * rowOf (rowsIn file s) (v .ride .leave) .class + 0) 0
+      ≡ latest (v .ride)
   pub minute : latest (v .ride) < 65536
 
 module _ {file : List ℕ} {s : Sailings} {tables work : List ℕ} (stand : Stand file s) (blocks : TablesHeld tables (tablesIn file s)) (goal : Goal)
@@ -37,7 +39,8 @@ module _ {file : List ℕ} {s : Sailings} {tables work : List ℕ} (stand : Stan
       let fits = stand .row-fits (v .ride .leave) below in
       let pair : PairHolds work i (some v) =
       subst (λ j. PairHolds work j (some v)) here
-      (subst (λ (o : Option Valued). PairHolds work (v .ride .board) o) (k .best) (held .pair-holds (v .ride .board) (k .from-first) (k .before-end))) in
+      (subst (λ (o : Option Valued). PairHolds work (v .ride .board) o) (k .best)
+      (held .pair-holds (v .ride .board) (k .from-first) (k .before-end))) in
       let lands : row .arrival + getD tables (256 * row .class + 0) 0 ≡ latest (v .ride) =
       ap₂ (λ a b. a + b) (sym (k .arrives))
       (ap (λ j. getD tables j 0) (add-zero (256 * row .class))

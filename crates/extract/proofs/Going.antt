@@ -40,7 +40,8 @@ pub record Taken (target : ℕ) (whole chosen : List Valued) (ws : List Window) 
 
 module _ (target : ℕ) (whole chosen : List Valued) where
   -- all chosen rows are still ahead
-  pub going-start : (ws : List Window) → Ordered chosen → OwnWorth target chosen → whole ≡ extract target ws chosen → Going target whole chosen ws [] 0
+  pub going-start : (ws : List Window) → Ordered chosen → OwnWorth target chosen → whole ≡ extract target ws chosen
+      → Going target whole chosen ws [] 0
   going-start ws o w e =
       record { rest = chosen; splits = e; ordered = o; own-worth = w; among = λ v m. m; later = λ v m. omega arith; left = λ v m h. m }
 
@@ -103,7 +104,8 @@ module _ (target : ℕ) (whole chosen : List Valued) where
       {ws : List Window} {past : List Valued} {i : ℕ} → Going target whole chosen ws past i → (v : Valued) → List·Memᴰ v chosen → v .ride .board ≡ i
       → wanted ws (v .ride) ≡ true → Taken target whole chosen ws past i v
   going-take {ws} {past} {i} g v member here want =
-      go (g .rest) (g .splits) (g .ordered) (g .own-worth) (g .among) (g .later) (g .left) (g .left v member (let z : i ≤ v .ride .board = omega arith in z))
+      go (g .rest) (g .splits) (g .ordered) (g .own-worth) (g .among) (g .later) (g .left)
+      (g .left v member (let z : i ≤ v .ride .board = omega arith in z))
     where
       go :
           (rest : List Valued) → whole ≡ past ++ extract target ws rest → Ordered rest → OwnWorth target rest

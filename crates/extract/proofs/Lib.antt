@@ -5,6 +5,7 @@ pub mod Going
 pub mod Timed
 pub mod Kept
 pub mod Stacked
+pub mod Windows
 pub mod Wanting
 pub mod Writing
 pub mod Aboard

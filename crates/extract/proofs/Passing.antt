@@ -3,15 +3,16 @@ use Prim.Native.Nat.{ℕ, zero, suc, _+_, _-_, _*_, _/_, _%_, _≤_, _<_}
 use mathlib.Core.List.{List}
 use mathlib.Core.Logic.{_⊎_, inl, inr, ⊎-elim, _≢_}
 use mathlib.Core.Path.{_≡_, refl, sym, ap, subst, _∙_}
-use native.Mathlib.Nat.{eq-or-lt-of-le, lt-of-lt-of-le}
+use native.Mathlib.Nat.{eq-or-lt-of-le}
 use native.Mathlib.Omega.{arith}
-use borrow.Author.Tests.{eqb-true, eqb-false, leb-true, leb-false}
+use mathlib.Core.Bool.{Bool, true, false, not}
+use borrow.Author.Tests.{eqb-true, eqb-false, leb-true, leb-false, not-true, not-false}
 use lib.Dec.{eqb, leb}
 use lib.ListN.{length, getD, set, length-set}
 use lib.Seq.{getD-set-same, getD-set-other}
 use Rattle.laws.proofs.Tests.{ifb}
 use Rattle.cells.specs.Cells.{stackStart, stackSize}
-use Rattle.landing.specs.Landing.{departureAt, FirstOpenAt}
+use Rattle.landing.specs.Landing.{departureAt, Falling, FirstOpenAt}
 use Rattle.extract.specs.Marks.{entryRow, Caught, Catching, Passed, AllPassed}
 
 -- a cell that is set holds the value, the others what they held
@@ -21,6 +22,17 @@ set-cell P l i j v h here other =
     (λ e. let same : i ≡ j = eqb-true i j e in
     subst (λ k. P (getD (set l i v) k 0)) same (subst P (sym (getD-set-same l i v 0 h)) (here same)))
     (λ e. let apart : i ≢ j = eqb-false i j e in subst P (sym (getD-set-other l i j v 0 (λ q. apart (sym q)))) (other apart))
+
+-- what the test of an entry's departure says
+pub missed : (landing key departure : ℕ) (opened : Bool) → opened ≡ leb landing departure → departure ≡ key / 2048 → not opened ≡ true
+    → key / 2048 < landing
+missed landing key departure opened test departs shut =
+    subst (λ k. k < landing) departs (leb-false landing departure (sym test ∙ not-true opened shut))
+
+pub reached : (landing key departure : ℕ) (opened : Bool) → opened ≡ leb landing departure → departure ≡ key / 2048 → not opened ≡ false
+    → landing ≤ key / 2048
+reached landing key departure opened test departs shut =
+    subst (λ k. landing ≤ k) departs (leb-true landing departure (sym test ∙ not-false opened shut))
 
 -- one entry more
 passed-on :
@@ -58,13 +70,20 @@ module _ (work : List ℕ) (land arrival landing : ℕ) (c : Catching work land 
   abbrev size : ℕ
   size = stackSize work land
 
-  pub down-first : {at : ℕ} → FirstOpenAt work start size arrival at → Down work work start size arrival landing at (getD work at 0)
-  down-first {at} f =
+  -- the stack as the code finds it
+  pub falling-there : {from count : ℕ} → from ≡ start → count ≡ size → Falling work from count arrival
+  falling-there {from} {count} e n =
+      subst (λ k. Falling work k count arrival) (sym e) (subst (λ k. Falling work start k arrival) (sym n) (c .falling))
+
+  pub down-first : {from count at : ℕ} → from ≡ start → count ≡ size → FirstOpenAt work from count arrival at
+      → Down work work start size arrival landing at (getD work at 0)
+  down-first {from} {count} {at} e n found =
+      let f = subst (λ k. FirstOpenAt work start k arrival at) n (subst (λ k. FirstOpenAt work k count arrival at) e found) in
       record {
         place = f .place;
         stands = f .stands;
         key-is = ap (λ k. getD work k 0) (f .stands);
-        caught = record { inside = f .inside; opens = f .opens; needed = λ k above h. lt-of-lt-of-le (f .missed k above h) (c .late) };
+        caught = record { inside = f .inside; opens = f .opens; needed = λ k above h. omega (arith, f .missed k above h, c .late) };
         passed =
             record {
               same-length = refl;
@@ -85,7 +104,8 @@ module _ (work : List ℕ) (land arrival landing : ℕ) (c : Catching work land 
     down-marked : (at : ℕ) → at ≡ key % 2048 → Passed work (set new at 1) start size arrival landing (d .place)
     down-marked at here =
         subst (λ k. Passed work (set new k 1) start size arrival landing (d .place)) (sym (here ∙ row-is))
-        (passed-on (d .passed) (d .caught) (let z : entryRow work start (d .place) < length work = omega (arith, c .rows (d .place) (d .caught .inside), c .cells) in z))
+        (let row = c .rows (d .place) (d .caught .inside) in
+        passed-on (d .passed) (d .caught) (let z : entryRow work start (d .place) < length work = omega (arith, c .cells) in z))
 
     departs-is : key / 2048 ≡ departureAt work start (d .place)
     departs-is = ap (λ k. k / 2048) (d .key-is)
@@ -118,7 +138,7 @@ module _ (work : List ℕ) (land arrival landing : ℕ) (c : Catching work land 
                     omega (arith, d .caught .opens));
                 needed =
                     λ k above h.
-                    ⊎-elim (λ same. subst (λ p. departureAt work start p < landing) (sym next ∙ same) (subst (λ x. x < landing) departs-is early))
+                    ⊎-elim (λ same. omega (arith, ap (departureAt work start) (sym next ∙ same), departs-is))
                     (λ higher. d .caught .needed k (let z : d .place < k = omega arith in z) h) (eq-or-lt-of-le above);
               };
           passed = subst (λ p. Passed work (set new at 1) start size arrival landing p) (sym next) marked;
@@ -133,6 +153,7 @@ module _ (work : List ℕ) (land arrival landing : ℕ) (c : Catching work land 
               λ k _ caught.
               marked .marked k
               (ifb (λ _. d .place ≤ k) (leb (d .place) k) (leb-true (d .place) k)
-              (λ below. absurd (let z : ⊥ = omega (arith, caught .needed (d .place) (leb-false (d .place) k below) (d .caught .inside), departs-is) in z))) caught;
+              (λ below. absurd (let early = caught .needed (d .place) (leb-false (d .place) k below) (d .caught .inside) in
+              let z : ⊥ = omega (arith, departs-is) in z))) caught;
           only = marked .only;
         }

@@ -20,7 +20,8 @@ pub write-plan-settled :
     → reads.Pre κs arguments → reads.Post κs arguments one ending → reads.Post κs arguments other another
     → (one ≡ other) × (now (ending .1 .1 .1 .1 .1 .1 .1 .1 .0) ≡ now (another .1 .1 .1 .1 .1 .1 .1 .1 .0))
     × (length (now (ending .1 .1 .1 .1 .1 .1 .1 .0)) ≡ length (now (another .1 .1 .1 .1 .1 .1 .1 .0)))
-    × (drop (used (arguments .1 .0 .rows)) (now (ending .1 .1 .1 .1 .1 .1 .1 .0)) ≡ drop (used (arguments .1 .0 .rows)) (now (another .1 .1 .1 .1 .1 .1 .1 .0)))
+    × (drop (used (arguments .1 .0 .rows)) (now (ending .1 .1 .1 .1 .1 .1 .1 .0))
+    ≡ drop (used (arguments .1 .0 .rows)) (now (another .1 .1 .1 .1 .1 .1 .1 .0)))
 write-plan-settled κs arguments one other ending another asked first second =
     let a = first .0 (asked .7) in
     let b = second .0 (asked .7) in (

@@ -67,10 +67,11 @@ module _ (work : List ℕ) (stop : ℕ) (chosen : List Valued) (holds : StackHol
   pub ride-entry : (v : Valued) → List·Memᴰ v chosen → v .ride .from ≡ stop → (place : ℕ) × Stands work stop chosen place v
   ride-entry v m from =
       let found = place-of there v (at-stop-holds stop chosen m from) in
-      let place = stackSize work stop - suc (found .0) in (
+      let place = stackSize work stop - suc (found .0) in
+      let down : found .0 + suc place ≡ stackSize work stop = omega (arith, found .1, size-is) in (
         place,
         subst (λ (u : Valued). Stands work stop chosen place u) (found .2)
-            (stands-at v (found .0) place (let z : found .0 + suc (stackSize work stop - suc (found .0)) ≡ stackSize work stop = omega (arith, found .1, size-is) in z)),
+            (stands-at v (found .0) place down),
       )
 
   -- departures fall from the bottom up

@@ -2,26 +2,28 @@
 -- Assumes nothing.
 use Prim.Native.Nat.{ℕ, _+_, _*_, _≤_, _<_}
 use mathlib.Core.Bool.{true, false}
-use mathlib.Core.List.{List, [], _∷_, _++_, List·Memᴰ}
+use mathlib.Core.List.{List, _++_, List·Memᴰ}
 use mathlib.Core.Logic.{_⊎_, inl, inr, ⊎-elim, _≢_}
 use mathlib.Core.Option.{some}
 use mathlib.Core.Path.{_≡_, refl, sym, ap, subst, _∙_}
 use native.Mathlib.Nat.{eq-or-lt-of-le, lt-of-not-le}
 use native.Mathlib.Omega.{arith}
-use borrow.Author.Tests.{eq-eqb, ne-eqb, leb-true, leb-false, le-leb}
+use borrow.Author.Tests.{leb-true, leb-false}
 use lib.Dec.{leb}
 use lib.ListN.{length, getD}
 use Rattle.laws.proofs.Alternatives.{or-left, or-right}
-use Rattle.laws.proofs.Tests.{ifb, both, both-left, both-right, either, cond-true, cond-false}
-use Rattle.plans.specs.Rides.{Ride, latest, boards}
+use Rattle.laws.proofs.Tests.{ifb, either}
+use Rattle.plans.specs.Rides.{latest}
 use Rattle.plans.specs.Worth.{Valued, firstOpen}
-use Rattle.plans.specs.Plan.{Window, inWindow, wanted, upTo, windowsOf}
+use Rattle.plans.specs.Plan.{Window, inWindow, wanted, windowsOf}
 use Rattle.plans.proofs.Open.{boards-stop, boards-minute, can-board, found-member, found-boards}
 use Rattle.plans.proofs.Order.{Before, Ordered, members-apart, first-before}
 use Rattle.plans.proofs.OwnWorth.{Moves}
 use Rattle.cells.specs.Cells.{stackStart, stackSize}
 use Rattle.landing.specs.Landing.{StackHolds, Climbing, departureAt}
 use Rattle.extract.specs.Marks.{entryRow, Caught, Catching, AllPassed}
+use Rattle.extract.proofs.Windows.{window, window-boards, window-until, in-window, one-more}
+use Rattle.laws.proofs.Options.{same-thing}
 use Rattle.extract.proofs.Stacked.{Stands, entry-ride, ride-entry, falls}
 
 -- of n rows, those marked are the chosen rows whose rides the windows want
@@ -36,24 +38,6 @@ pub unmarked : {work : List ℕ} {n : ℕ} {chosen : List Valued} {ws : List Win
 unmarked {work} {ws = ws} m i unset v member here =
     ifb (λ b. wanted ws (v .ride) ≡ b → b ≡ false) (wanted ws (v .ride))
     (λ _ e. absurd (unset (ap (λ k. getD work k 0) (sym here) ∙ m .marked v member e))) (λ _ _. refl) refl
-
--- a ride that ends at the target opens no window
-pub none-more : (target : ℕ) (r : Ride) (behind : List Valued) (ws : List Window) → r .to ≡ target → windowsOf target r behind ++ ws ≡ ws
-unfolding windowsOf
-none-more target r behind ws e =
-    ap (λ (l : List Window). l ++ ws) (cond-true [] (upTo (r .to) (r .arrives) (firstOpen behind (r .to) (latest r))) (eq-eqb (r .to) target e))
-
--- any other opens one, up to and including the first ride at or after its last landing
-abbrev window : Ride → Valued → Window
-window r safe = record { stop = r .to; minute = r .arrives; until = safe .ride .departs }
-
-one-more : (target : ℕ) (r : Ride) (behind : List Valued) (ws : List Window) (safe : Valued) → r .to ≢ target
-    → firstOpen behind (r .to) (latest r) ≡ some safe → windowsOf target r behind ++ ws ≡ window r safe ∷ ws
-unfolding windowsOf upTo
-one-more target r behind ws safe away e =
-    ap (λ (l : List Window). l ++ ws)
-    (cond-false [] (upTo (r .to) (r .arrives) (firstOpen behind (r .to) (latest r))) (ne-eqb (r .to) target away)
-    ∙ ap (upTo (r .to) (r .arrives)) e)
 
 -- a ride v of row i, away from the target, whose landing is met by a first safe ride
 pub record Lands (chosen behind : List Valued) (v safe : Valued) : Type 0 where
@@ -81,14 +65,13 @@ module _ {chosen behind : List Valued} {v safe : Valued} (l : Lands chosen behin
   safe-least u m from late =
       members-apart chosen (l .ordered) v u (l .member) m
       (λ same. absurd (let z : ⊥ = omega (arith, ap (λ (x : Valued). x .ride .departs) same, l .moves .forward) in z))
-      (λ before. let found = first-before behind (l .behind-ordered) (v .ride .to) (latest (v .ride)) u (l .left u m (before .rows)) (can-board (u .ride) (v .ride .to) (latest (v .ride)) from late) in
-      let same : safe ≡ found .0 = some-same (sym (l .first) ∙ found .1) in
+      (λ before.
+      let boarded = can-board (u .ride) (v .ride .to) (latest (v .ride)) from late in
+      let found = first-before behind (l .behind-ordered) (v .ride .to) (latest (v .ride)) u (l .left u m (before .rows)) boarded in
+      let same : safe ≡ found .0 = same-thing (sym (l .first) ∙ found .1) in
       subst (λ (x : Valued). x .ride .departs ≤ u .ride .departs) (sym same) (no-later (found .0) u (found .2)))
       (λ after. absurd (let z : ⊥ = omega (arith, after .minutes, l .moves .forward) in z))
     where
-      some-same : {a b : Valued} → some a ≡ some b → a ≡ b
-      some-same e = cc
-
       no-later : (x y : Valued) → (x ≡ y) ⊎ Before x y → x .ride .departs ≤ y .ride .departs
       no-later x y (inl q) = subst (λ (z : Valued). x .ride .departs ≤ z .ride .departs) q (omega arith)
       no-later x y (inr b) = b .minutes
@@ -106,50 +89,63 @@ module _ {chosen behind : List Valued} {v safe : Valued} (l : Lands chosen behin
     safe-place : (place : ℕ) × Stands work (v .ride .to) chosen place safe
     safe-place = ride-entry work (v .ride .to) chosen holds climbing safe safe-member safe-from
 
+    -- an entry from the safe one up departs no later
+    no-later : (k : ℕ) → safe-place .0 ≤ k → k < size → departureAt work start k ≤ safe .ride .departs
+    no-later k above below =
+        ⊎-elim (λ same. omega (arith, ap (departureAt work start) same, safe-place .1 .departs))
+        (λ higher. omega (arith, fall (safe-place .0) k higher below, safe-place .1 .departs)) (eq-or-lt-of-le above)
+
+    -- an entry caught is not below the safe one
+    caught-above : (k : ℕ) → Caught work start size (v .ride .arrives) (latest (v .ride)) k → safe-place .0 ≤ k
+    caught-above k c =
+        ifb (λ _. safe-place .0 ≤ k) (leb (safe-place .0) k) (leb-true (safe-place .0) k)
+        (λ e. absurd (let needed = c .needed (safe-place .0) (leb-false (safe-place .0) k e) (safe-place .1 .inside) in
+        let z : ⊥ = omega (arith, safe-place .1 .departs, safe-late) in z))
+
     -- the entries caught are the rides in the window
     caught-wanted : (k : ℕ) → Caught work start size (v .ride .arrives) (latest (v .ride)) k
         → (u : Valued) × Stands work (v .ride .to) chosen k u × (inWindow (window (v .ride) safe) (u .ride) ≡ true)
-    unfolding inWindow
     caught-wanted k c =
         let found = entry-ride work (v .ride .to) chosen holds climbing v k (c .inside) in
         let u = found .0 in
-        let q = safe-place .0 in
-        let until : u .ride .departs ≤ safe .ride .departs =
-        ifb (λ _. u .ride .departs ≤ safe .ride .departs) (leb q k)
-        (λ e. ⊎-elim (λ same. let z : departureAt work start q ≡ departureAt work start k = ap (departureAt work start) same in omega (arith, found .1 .departs, safe-place .1 .departs))
-        (λ above. omega (arith, fall q k above (c .inside), found .1 .departs, safe-place .1 .departs)) (eq-or-lt-of-le (leb-true q k e)))
-        (λ e. absurd (let z : ⊥ = omega (arith, c .needed q (leb-false q k e) (safe-place .1 .inside), safe-place .1 .departs, safe-late) in z)) in
-        (u, found .1, both (can-board (u .ride) (v .ride .to) (v .ride .arrives) (found .1 .from) (let z : v .ride .arrives ≤ u .ride .departs = omega (arith, c .opens, found .1 .departs) in z)) (le-leb (u .ride .departs) (safe .ride .departs) until))
+        let late : v .ride .arrives ≤ u .ride .departs = omega (arith, c .opens, found .1 .departs) in
+        let until : u .ride .departs ≤ safe .ride .departs = omega (arith, no-later k (caught-above k c) (c .inside), found .1 .departs) in
+        (u, found .1, in-window (window (v .ride) safe) (u .ride) (can-board (u .ride) (v .ride .to) (v .ride .arrives) (found .1 .from) late) until)
 
     wanted-caught : (u : Valued) → List·Memᴰ u chosen → inWindow (window (v .ride) safe) (u .ride) ≡ true
         → (k : ℕ) × Caught work start size (v .ride .arrives) (latest (v .ride)) k × (entryRow work start k ≡ u .ride .board)
-    unfolding inWindow
     wanted-caught u m e =
-        let boarded : boards (u .ride) (v .ride .to) (v .ride .arrives) ≡ true = both-left (boards (u .ride) (v .ride .to) (v .ride .arrives)) (leb (u .ride .departs) (safe .ride .departs)) e in
-        let until : u .ride .departs ≤ safe .ride .departs = leb-true (u .ride .departs) (safe .ride .departs) (both-right (boards (u .ride) (v .ride .to) (v .ride .arrives)) (leb (u .ride .departs) (safe .ride .departs)) e) in
-        let found = ride-entry work (v .ride .to) chosen holds climbing u m (boards-stop (u .ride) (v .ride .to) (v .ride .arrives) boarded) in
-        let k = found .0 in (
-          k,
+        let boarded = window-boards (window (v .ride) safe) (u .ride) e in
+        let until : u .ride .departs ≤ safe .ride .departs = window-until (window (v .ride) safe) (u .ride) e in
+        let late : v .ride .arrives ≤ u .ride .departs = boards-minute (u .ride) (v .ride .to) (v .ride .arrives) boarded in
+        let found = ride-entry work (v .ride .to) chosen holds climbing u m (boards-stop (u .ride) (v .ride .to) (v .ride .arrives) boarded) in (
+          found .0,
           record {
             inside = found .1 .inside;
-            opens = (let z : v .ride .arrives ≤ departureAt work start k = omega (arith, boards-minute (u .ride) (v .ride .to) (v .ride .arrives) boarded, found .1 .departs) in z);
+            opens = (let z : v .ride .arrives ≤ departureAt work start (found .0) = omega (arith, found .1 .departs) in z);
             needed =
                 λ q above below.
-                lt-of-not-le (λ late.
+                lt-of-not-le (λ open'.
                 let other = entry-ride work (v .ride .to) chosen holds climbing v q below in
-                let z : ⊥ = omega (arith, fall k q above below, found .1 .departs, other .1 .departs, safe-least (other .0) (other .1 .member) (other .1 .from) (let y : latest (v .ride) ≤ other .0 .ride .departs = omega (arith, other .1 .departs) in y)) in z);
+                let after : latest (v .ride) ≤ other .0 .ride .departs = omega (arith, other .1 .departs) in
+                let least = safe-least (other .0) (other .1 .member) (other .1 .from) after in
+                let z : ⊥ = omega (arith, fall (found .0) q above below, found .1 .departs, other .1 .departs) in z);
           },
           found .1 .row,
         )
+
+    -- no entry departs after the bottom one
+    bottom-last : (k : ℕ) → k < size → departureAt work start k ≤ departureAt work start 0
+    bottom-last k below =
+        ⊎-elim (λ same. omega (arith, ap (departureAt work start) same)) (λ above. omega (arith, fall 0 k above below))
+        (eq-or-lt-of-le (let z : 0 ≤ k = omega arith in z))
 
     -- the stack of the landing stop, as catching asks for it
     pub catching : (n : ℕ) → v .ride .to < 200 → 2400 ≤ length work → start + 2 * size ≤ length work → n ≤ 2000
         → ((u : Valued) → List·Memᴰ u chosen → u .ride .board < n) → Catching work (v .ride .to) (v .ride .arrives) (latest (v .ride))
     catching n stop cells room few rows =
-        let q = safe-place .0 in
-        let last : latest (v .ride) ≤ departureAt work start 0 =
-        ⊎-elim (λ same. let z : departureAt work start 0 ≡ departureAt work start q = ap (departureAt work start) same in omega (arith, safe-place .1 .departs, safe-late))
-        (λ above. omega (arith, fall 0 q above (safe-place .1 .inside), safe-place .1 .departs, safe-late)) (eq-or-lt-of-le (let z : 0 ≤ q = omega arith in z)) in
+        let lowest = bottom-last (safe-place .0) (safe-place .1 .inside) in
+        let last : latest (v .ride) ≤ departureAt work start 0 = omega (arith, safe-place .1 .departs, safe-late) in
         record {
           stop = stop;
           cells = cells;
@@ -187,8 +183,10 @@ module _ {chosen behind : List Valued} {v safe : Valued} (l : Lands chosen behin
               λ i h e.
               ⊎-elim
               (λ same. let found = m .only i h (sym same ∙ e) in
-              (found .0, found .1, found .2, or-right (inWindow (window (v .ride) safe) (found .0 .ride)) (wanted ws (found .0 .ride)) (found .3)))
+              let u = found .0 .ride in
+              (found .0, found .1, found .2, or-right (inWindow (window (v .ride) safe) u) (wanted ws u) (found .3)))
               (λ k. let found = caught-wanted (k .0) (k .1) in
-              (found .0, found .1 .member, sym (found .1 .row) ∙ sym (k .2), or-left (inWindow (window (v .ride) safe) (found .0 .ride)) (wanted ws (found .0 .ride)) (found .2)))
+              let u = found .0 .ride in
+              (found .0, found .1 .member, sym (found .1 .row) ∙ sym (k .2), or-left (inWindow (window (v .ride) safe) u) (wanted ws u) (found .2)))
               (p .only i);
         })

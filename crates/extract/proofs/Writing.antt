@@ -1,17 +1,15 @@
 -- The pass forward over the rows: what the marks, the plan slice and the two counts hold at row i. Assumes nothing.
 use Prim.Native.Nat.{ℕ, zero, suc, max, _+_, _*_, _≤_, _<_}
-use mathlib.Core.Bool.{true, false, _&&_}
+use mathlib.Core.Bool.{true, false, false≢true}
 use mathlib.Core.List.{List, [], _∷_, _++_, List·Memᴰ}
 use mathlib.Core.Logic.{⊎-elim, _≢_}
 use mathlib.Core.Option.{some}
 use mathlib.Core.Path.{_≡_, refl, sym, ap, subst, _∙_}
 use native.Mathlib.Omega.{arith}
-use borrow.Author.Tests.{leb-true}
-use lib.Dec.{leb}
 use lib.ListN.{length, getD}
 use Rattle.laws.proofs.Options.{same-thing}
-use Rattle.laws.proofs.Tests.{ifb, both-left, both-right, either}
-use Rattle.plans.specs.Rides.{latest, boards}
+use Rattle.laws.proofs.Tests.{ifb, either}
+use Rattle.plans.specs.Rides.{Ride, latest, boards}
 use Rattle.plans.specs.Worth.{Valued}
 use Rattle.plans.specs.Plan.{Window, inWindow, wanted, upTo, windowsOf, latestOf}
 use Rattle.plans.proofs.Extracted.{up-to-wants}
@@ -23,7 +21,8 @@ use Rattle.extract.specs.Extracted.{FirstRide, ridesOf, written, over}
 use Rattle.extract.specs.Marks.{HeadAlone, AllPassed, put}
 use Rattle.extract.proofs.Going.{Going, Taken, going-start, going-pass, going-take, going-end}
 use Rattle.extract.proofs.Laid.{length-over, length-more, over-none, over-more}
-use Rattle.extract.proofs.Wanting.{Marking, Lands, unmarked, none-more, marking-on}
+use Rattle.extract.proofs.Windows.{window-boards, window-until, none-more}
+use Rattle.extract.proofs.Wanting.{Marking, Lands, unmarked, marking-on}
 
 latest-more : (past : List Valued) (v : Valued) → latestOf (past ++ v ∷ []) ≡ max (latestOf past) (latest (v .ride))
 unfolding latestOf
@@ -31,9 +30,11 @@ latest-more [] v = omega arith
 latest-more (u ∷ past) v = let rest = latest-more past v in omega arith
 
 -- chosen rides of one row are one
-same-row : (chosen : List Valued) → Ordered chosen → (u v : Valued) → List·Memᴰ u chosen → List·Memᴰ v chosen → u .ride .board ≡ v .ride .board → u ≡ v
+same-row : (chosen : List Valued) → Ordered chosen → (u v : Valued) → List·Memᴰ u chosen → List·Memᴰ v chosen → u .ride .board ≡ v .ride .board
+    → u ≡ v
 same-row chosen o u v m n e =
-    members-apart chosen o u v m n (λ same. same) (λ b. absurd (let z : ⊥ = omega (arith, b .rows) in z)) (λ b. absurd (let z : ⊥ = omega (arith, b .rows) in z))
+    members-apart chosen o u v m n (λ same. same) (λ b. absurd (let z : ⊥ = omega (arith, b .rows) in z))
+    (λ b. absurd (let z : ⊥ = omega (arith, b .rows) in z))
 
 -- at row i: what is written so far and what the windows still take are the whole plan
 pub record Writing (target n : ℕ) (whole chosen : List Valued) (plan₀ work plan : List ℕ) (rides last i : ℕ) : Type 0 where
@@ -53,23 +54,28 @@ module _ (chosen : List Valued) (ordered : Ordered chosen) {head : ℕ} (f : Fir
   first-member = found-member chosen (f .stop) (f .minute) (f .is-first)
 
   -- the first window wants the first ride, and no other
+  first-boards : boards (f .ride .ride) (f .stop) (f .minute) ≡ true
+  first-boards = found-boards chosen (f .stop) (f .minute) (f .is-first)
+
   first-wanted : wanted start (f .ride .ride) ≡ true
-  first-wanted = up-to-wants (f .stop) (f .minute) (f .ride) refl (f .ride .ride) (found-boards chosen (f .stop) (f .minute) (f .is-first)) (omega arith)
+  first-wanted = up-to-wants (f .stop) (f .minute) (f .ride) refl (f .ride .ride) first-boards (omega arith)
+
+  one-window : (r : Ride) → wanted start r ≡ true
+      → inWindow (record { stop = f .stop; minute = f .minute; until = f .ride .ride .departs }) r ≡ true
+  unfolding upTo wanted
+  one-window r e = ⊎-elim (λ k. k) (λ k. absurd (false≢true k)) (either _ false e)
 
   first-alone : (u : Valued) → List·Memᴰ u chosen → wanted start (u .ride) ≡ true → u ≡ f .ride
-  unfolding upTo wanted inWindow
   first-alone u m e =
-      let inside = ⊎-elim (λ k. k) (λ k. absurd (let z : _≡_ {A = ℕ} 0 1 = cc in let y : ⊥ = omega arith in y)) (either (boards (u .ride) (f .stop) (f .minute) && leb (u .ride .departs) (f .ride .ride .departs)) false e) in
-      let boarded : boards (u .ride) (f .stop) (f .minute) ≡ true = both-left (boards (u .ride) (f .stop) (f .minute)) (leb (u .ride .departs) (f .ride .ride .departs)) inside in
-      let until : u .ride .departs ≤ f .ride .ride .departs = leb-true (u .ride .departs) (f .ride .ride .departs) (both-right (boards (u .ride) (f .stop) (f .minute)) (leb (u .ride .departs) (f .ride .ride .departs)) inside) in
+      let boarded = window-boards _ (u .ride) (one-window (u .ride) e) in
+      let until : u .ride .departs ≤ f .ride .ride .departs = window-until _ (u .ride) (one-window (u .ride) e) in
       let found = first-before chosen ordered (f .stop) (f .minute) u m boarded in
       let same : f .ride ≡ found .0 = same-thing (sym (f .is-first) ∙ found .1) in
+      let from : found .0 .ride .from ≡ u .ride .from =
+      ap (λ (x : Valued). x .ride .from) (sym same) ∙ boards-stop (f .ride .ride) (f .stop) (f .minute) first-boards
+      ∙ sym (boards-stop (u .ride) (f .stop) (f .minute) boarded) in
       ⊎-elim (λ q. sym (same ∙ q))
-      (λ b. absurd (let z : ⊥ = omega (
-        arith,
-        ap (λ (x : Valued). x .ride .departs) same,
-        b .apart (ap (λ (x : Valued). x .ride .from) (sym same) ∙ boards-stop (f .ride .ride) (f .stop) (f .minute) (found-boards chosen (f .stop) (f .minute) (f .is-first)) ∙ sym (boards-stop (u .ride) (f .stop) (f .minute) boarded)),
-      ) in z)) (found .2)
+      (λ b. absurd (let z : ⊥ = omega (arith, ap (λ (x : Valued). x .ride .departs) same, b .apart from) in z)) (found .2)
 
   module _ (target n : ℕ) (own-worth : OwnWorth target chosen) (plan work : List ℕ) (alone : HeadAlone work n head) where
     going-to : (k : ℕ) → k ≤ head → Going target (ridesOf target f) chosen start [] k
@@ -77,7 +83,8 @@ module _ (chosen : List Valued) (ordered : Ordered chosen) {head : ℕ} (f : Fir
     going-to (suc k) h =
         going-pass target (ridesOf target f) chosen (going-to k (omega arith))
         (λ v m here. ifb (λ b. wanted start (v .ride) ≡ b → b ≡ false) (wanted start (v .ride))
-        (λ _ e. absurd (let same = first-alone v m e in let z : ⊥ = omega (arith, ap (λ (x : Valued). x .ride .board) same, f .boards-at) in z)) (λ _ _. refl) refl)
+        (λ _ e. absurd (let same = ap (λ (x : Valued). x .ride .board) (first-alone v m e) in let z : ⊥ = omega (arith, f .boards-at) in z))
+        (λ _ _. refl) refl)
 
     -- nothing is written yet, and the first ride alone is wanted
     pub writing-start : Writing target n (ridesOf target f) chosen plan work plan 0 0 head
@@ -107,7 +114,9 @@ module _ {target n : ℕ} {whole chosen : List Valued} {plan₀ work plan : List
       record {
         windows = w .windows;
         past = w .past;
-        going = subst (λ k. Going target whole chosen (w .windows) (w .past) k) next (going-pass target whole chosen (w .going) (unmarked (w .marking) i unset));
+        going =
+            subst (λ k. Going target whole chosen (w .windows) (w .past) k) next
+            (going-pass target whole chosen (w .going) (unmarked (w .marking) i unset));
         marking = w .marking;
         plan-is = w .plan-is;
         rides-is = w .rides-is;
@@ -129,11 +138,13 @@ module _ {target n : ℕ} {whole chosen : List Valued} {plan₀ work plan : List
   plan-length room =
       ap length (w .plan-is) ∙ length-over (w .past) plan₀ (let z : 3 * length (w .past) ≤ length plan₀ = omega (arith, w .rides-is) in z)
 
-  module _ (ordered : Ordered chosen) (v : Valued) (member : List·Memᴰ v chosen) (here : v .ride .board ≡ i) (inside : i < n) (mark : getD work i 0 ≡ 1) where
+  module _ (ordered : Ordered chosen) (v : Valued) (member : List·Memᴰ v chosen) (here : v .ride .board ≡ i) (inside : i < n)
+      (mark : getD work i 0 ≡ 1) where
     is-wanted : wanted (w .windows) (v .ride) ≡ true
     is-wanted =
         let found = w .marking .only i inside mark in
-        subst (λ (u : Valued). wanted (w .windows) (u .ride) ≡ true) (same-row chosen ordered (found .0) v (found .1) member (found .2 ∙ sym here)) (found .3)
+        let same = same-row chosen ordered (found .0) v (found .1) member (found .2 ∙ sym here) in
+        subst (λ (u : Valued). wanted (w .windows) (u .ride) ≡ true) same (found .3)
 
     pub taken : Taken target whole chosen (w .windows) (w .past) i v
     taken = going-take target whole chosen (w .going) v member here is-wanted
@@ -163,11 +174,14 @@ module _ {target n : ℕ} {whole chosen : List Valued} {plan₀ work plan : List
           record {
             windows = windowsOf target (v .ride) (taken .behind) ++ w .windows;
             past = w .past ++ v ∷ [];
-            going = subst (λ k. Going target whole chosen (windowsOf target (v .ride) (taken .behind) ++ w .windows) (w .past ++ v ∷ []) k) next (taken .going);
+            going =
+                subst (λ k. Going target whole chosen (windowsOf target (v .ride) (taken .behind) ++ w .windows) (w .past ++ v ∷ []) k) next
+                (taken .going);
             marking = marks;
             plan-is =
                 laid ∙ ap (λ l. put l rides (v .ride .board) (v .ride .leave) (v .worth)) (w .plan-is)
-                ∙ over-more (w .past) v plan₀ rides (w .rides-is) (let z : 3 * suc (length (w .past)) ≤ length plan₀ = omega (arith, w .rides-is) in z);
+                ∙ over-more (w .past) v plan₀ rides (w .rides-is)
+                (let z : 3 * suc (length (w .past)) ≤ length plan₀ = omega (arith, w .rides-is) in z);
             rides-is = ap (λ k. k + 1) (w .rides-is) ∙ sym (length-more (w .past) v);
             last-is = later ∙ ap (λ k. max k (latest (v .ride))) (w .last-is) ∙ sym (latest-more (w .past) v);
           }

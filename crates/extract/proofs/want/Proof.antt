@@ -1,11 +1,9 @@
 -- `extract::want` meets its contract: the entries above the one that the loop is at are passed. Assumes nothing.
-use Prim.Native.Nat.{_+_, _*_, _/_, _%_, _≤_, _<_}
-use mathlib.Core.Path.{_≡_, sym, subst, _∙_}
+use Prim.Native.Nat.{_+_, _*_, _%_}
+use mathlib.Core.Path.{_≡_, ap}
 use native.Mathlib.Omega.{arith}
-use borrow.Author.Tests.{leb-true, leb-false, not-true, not-false}
 use Rattle.cells.specs.Cells.{stackStart, stackSize}
 use lib.ListN.{length-set}
-use Rattle.landing.specs.Landing.{Falling, FirstOpenAt}
 use Rattle.extract.proofs.Passing.{Down}
 use Rattle.extract.proofs.Passing as passing
 use Rattle.extract.proofs.want.Statement.{statement}
@@ -51,8 +49,8 @@ add-start c = omega arith
 first-open-requires : tie.Need-first-open-requires Inv-loop μ-loop
 first-open-requires c κs =
     let a = c .before .before .before .before .before .before in
-    subst (λ k. Falling (a .args .work .now) (2400 + 2 * k) (c .before .before .before .number .result) (a .args .arrival)) (sym (c .before .number2 .ensures .0))
-    (subst (λ n. Falling (a .args .work .now) (stackStart (a .args .work .now) (a .args .land)) n (a .args .arrival)) (sym (c .before .before .before .number .ensures .0)) (a .pre .falling))
+    passing.falling-there (a .args .work .now) (a .args .land) (a .args .arrival) (a .args .landing) (a .pre)
+    (ap (λ k. 2400 + 2 * k) (c .before .number2 .ensures .0)) (c .before .before .before .number .ensures .0)
 
 mul-key : tie.Need-mul-key Inv-loop μ-loop
 mul-key c = omega arith
@@ -63,10 +61,9 @@ slice-read-key c = omega arith
 loop-holds : tie.Need-loop-holds Inv-loop μ-loop
 loop-holds c =
     let a = c .before .before .before .before .before .before .before .before in
-    let f = c .before .first-open in
     passing.down-first (a .args .work .now) (a .args .land) (a .args .arrival) (a .args .landing) (a .pre)
-    (subst (λ k. FirstOpenAt (a .args .work .now) (2400 + 2 * k) (stackSize (a .args .work .now) (a .args .land)) (a .args .arrival) (f .result)) (c .before .before .before .number2 .ensures .0)
-    (subst (λ n. FirstOpenAt (a .args .work .now) (2400 + 2 * c .before .before .before .number2 .result) n (a .args .arrival) (f .result)) (c .before .before .before .before .before .number .ensures .0) (f .ensures)))
+    (ap (λ k. 2400 + 2 * k) (c .before .before .before .number2 .ensures .0)) (c .before .before .before .before .before .number .ensures .0)
+    (c .before .first-open .ensures)
 
 departure-of-requires : tie.Need-departure-of-requires Inv-loop μ-loop
 departure-of-requires c κs = tt
@@ -100,14 +97,13 @@ loop-less c = omega arith
 
 loop-again : tie.Need-loop-again Inv-loop μ-loop
 loop-again c =
-    let l = c .before .before .before .before .before .loop in
     let a = c .before .before .before .before .before .before .before .before .before .before .before .before .before .before in
+    let l = c .before .before .before .before .before .loop in
+    let d = c .before .before .before .before .departure-of in
+    let o = c .before .before .before .opens in
     let here : 0 + c .before .row-of .result ≡ l .key % 2048 = omega (arith, c .before .row-of .ensures) in
-    let early : l .key / 2048 < a .args .landing =
-    subst (λ d. d < a .args .landing) (c .before .before .before .before .departure-of .ensures)
-    (leb-false (a .args .landing) (c .before .before .before .before .departure-of .result) (sym (c .before .before .before .opens .ensures) ∙ not-true (c .before .before .before .opens .result) (c .before .before .if1 .taken)))
-    in
-    passing.down-on (a .args .work .now) (a .args .land) (a .args .arrival) (a .args .landing) (a .pre) (l .inv) (0 + c .before .row-of .result) here early
+    passing.down-on (a .args .work .now) (a .args .land) (a .args .arrival) (a .args .landing) (a .pre) (l .inv) (0 + c .before .row-of .result)
+    here (passing.missed (a .args .landing) (l .key) (d .result) (o .result) (o .ensures) (d .ensures) (c .before .before .if1 .taken))
 
 row-of-requires-2 : tie.Need-row-of-requires-2 Inv-loop μ-loop
 row-of-requires-2 c κs = tt
@@ -122,19 +118,17 @@ slice-write-work-2 : tie.Need-slice-write-work-2 Inv-loop μ-loop
 slice-write-work-2 c = omega arith
 
 same-length : tie.Need-same-length Inv-loop μ-loop
-same-length c =
-    length-set (c .before .before .before .before .loop .work) (0 + c .row-of2 .result) 1 ∙ c .before .before .before .before .loop .inv .passed .same-length
+same-length c = simp length-set (c .before .before .before .before .loop .inv .passed .same-length)
 
 returns : tie.Need-returns Inv-loop μ-loop
 returns c =
-    let l = c .before .before .before .before .loop in
     let a = c .before .before .before .before .before .before .before .before .before .before .before .before .before in
+    let l = c .before .before .before .before .loop in
+    let d = c .before .before .before .departure-of in
+    let o = c .before .before .opens in
     let here : 0 + c .row-of2 .result ≡ l .key % 2048 = omega (arith, c .row-of2 .ensures) in
-    let late : a .args .landing ≤ l .key / 2048 =
-    subst (λ d. a .args .landing ≤ d) (c .before .before .before .departure-of .ensures)
-    (leb-true (a .args .landing) (c .before .before .before .departure-of .result) (sym (c .before .before .opens .ensures) ∙ not-false (c .before .before .opens .result) (c .before .if1 .left)))
-    in
-    passing.down-last (a .args .work .now) (a .args .land) (a .args .arrival) (a .args .landing) (a .pre) (l .inv) (0 + c .row-of2 .result) here late
+    passing.down-last (a .args .work .now) (a .args .land) (a .args .arrival) (a .args .landing) (a .pre) (l .inv) (0 + c .row-of2 .result) here
+    (passing.reached (a .args .landing) (l .key) (d .result) (o .result) (o .ensures) (d .ensures) (c .before .if1 .left))
 
 pub want-spec : {M : Type 1} → statement M
 want-spec =

@@ -6,6 +6,7 @@ use mathlib.Core.Path.{sym, ap, _∙_}
 use native.Mathlib.Nat.{zero-add}
 use native.Mathlib.Omega.{arith}
 use lib.ListN.{getD}
+use Rattle.timetable.specs.declared.Row.{Row}
 use Rattle.plans.specs.Worth.{Valued}
 use Rattle.plans.proofs.Open.{found-member}
 use Rattle.plans.proofs.Order.{Ordered}
@@ -49,12 +50,14 @@ head-inside a =
 loop-holds : tie.Need-loop-holds Inv-loop μ-loop
 loop-holds c =
     let a = c .before .before .before .before in
-    let all = scanned a in (
+    let all = scanned a in
+    let w = a .args .work .now in
+    let p = a .args .plan .now in (
       omega (arith, head-inside a),
       omega arith,
       omega arith,
       kept-none (a .args .work .now),
-      λ f. writing-start (chosen a) (all .0) f (a .args .goal .target) (a .args .s .rows) (all .1) (a .args .plan .now) (a .args .work .now) (a .pre .8),
+      λ f. writing-start (chosen a) (all .0) f (a .args .goal .target) (a .args .s .rows) (all .1) p w (a .pre .8),
     )
 
 add-i : tie.Need-add-i Inv-loop μ-loop
@@ -77,7 +80,8 @@ abbrev TurnOf : tie.Then1 Inv-loop μ-loop → Type 0
 TurnOf c =
     let a = entered c .args in
     let l = c .before .before .before .loop in
-    Turn (a .file .now) (a .s) (a .tables .now) (a .goal) (a .first) (a .head) (a .end) (a .work .now) (a .plan .now) (l .work) (l .plan) (l .rides) (l .latest) (l .i)
+    Turn (a .file .now) (a .s) (a .tables .now) (a .goal) (a .first) (a .head) (a .end) (a .work .now) (a .plan .now) (l .work) (l .plan)
+    (l .rides) (l .latest) (l .i)
 
 turn : (c : tie.Then1 Inv-loop μ-loop) → TurnOf c
 turn c =
@@ -133,9 +137,10 @@ number-requires c κs = tt
 -- it lands in time, at a minute of 16 bits
 lands-soon : (c : tie.After-number Inv-loop μ-loop) → c .before .before .before .nth-row .result .arrival + c .number .result < 65536
 lands-soon c =
+    let m = c .before .before .before .before .before .before .before .before .before in
     let w = c .before .before .before .before .before .before .write-ride in
     let n = c .before .before .before .nth-row in
-    landing-fits (turn (c .before .before .before .before .before .before .before .before .before)) (w .result) (w .ensures .0) (n .result) (n .ensures .0) (c .number .result) (c .number .ensures .0)
+    landing-fits (turn m) (w .result) (w .ensures .0) (n .result) (n .ensures .0) (c .number .result) (c .number .ensures .0)
 
 add-landing : tie.Need-add-landing Inv-loop μ-loop
 add-landing c = record { fits = omega (arith, lands-soon (c .before)) }
@@ -146,28 +151,35 @@ add-rides c = omega arith
 later-requires : tie.Need-later-requires Inv-loop μ-loop
 later-requires c κs = tt
 
+-- the turn that wrote a ride, and the row where that leaves
+abbrev boarded : tie.After-later Inv-loop μ-loop → tie.Then1 Inv-loop μ-loop
+boarded c = c .before .before .before .before .before .before .before .before .before .before .before
+
+abbrev leaving : tie.After-later Inv-loop μ-loop → Row
+leaving c = c .before .before .before .before .before .nth-row .result
+
 -- away from the target the stack of the landing stop is met
-stack-met : (c : tie.After-later Inv-loop μ-loop) → c .before .before .before .before .before .nth-row .result .land ≢ entered (c .before .before .before .before .before .before .before .before .before .before .before) .args .goal .target
-    → Catching (c .before .before .before .before .before .before .before .before .before .before .before .before .before .before .loop .work) (c .before .before .before .before .before .nth-row .result .land) (c .before .before .before .before .before .nth-row .result .arrival)
-    (c .before .before .before .before .before .nth-row .result .arrival + c .before .before .number .result)
+stack-met : (c : tie.After-later Inv-loop μ-loop) → leaving c .land ≢ entered (boarded c) .args .goal .target
+    → Catching (boarded c .before .before .before .loop .work) (leaving c .land) (leaving c .arrival)
+    (leaving c .arrival + c .before .before .number .result)
 stack-met c =
     let w = c .before .before .before .before .before .before .before .before .write-ride in
     let n = c .before .before .before .before .before .nth-row in
     let d = c .before .before .number in
-    met (turn (c .before .before .before .before .before .before .before .before .before .before .before)) (w .result) (w .ensures .0) (n .result) (n .ensures .0) (d .result) (d .ensures .0)
+    met (turn (boarded c)) (w .result) (w .ensures .0) (n .result) (n .ensures .0) (d .result) (d .ensures .0)
 
 want-requires : tie.Need-want-requires Inv-loop μ-loop
 want-requires c κs = stack-met (c .before .before .before .before) (c .before .if2 .taken)
 
 loop-less : tie.Need-loop-less Inv-loop μ-loop
 loop-less c =
-    let test = c .before .before .before .before .before .before .before .before .before .before .before .before .before .before .before .before .before .before .before .before .loop-test in
-    omega (arith, test .taken)
+    let r = c .before .before .before .before .before .before .before in
+    omega (arith, turn (boarded r) .below)
 
 loop-again : tie.Need-loop-again Inv-loop μ-loop
 loop-again c =
     let r = c .before .before .before .before .before .before .before in
-    let m = r .before .before .before .before .before .before .before .before .before .before .before in
+    let m = boarded r in
     let l = m .before .before .before .loop in
     let w = r .before .before .before .before .before .before .before .before .write-ride in
     let n = r .before .before .before .before .before .nth-row in
@@ -188,7 +200,7 @@ loop-less-2 c = omega arith
 loop-again-2 : tie.Need-loop-again-2 Inv-loop μ-loop
 loop-again-2 c =
     let r = c .before .before .before in
-    let m = r .before .before .before .before .before .before .before .before .before .before .before in
+    let m = boarded r in
     let l = m .before .before .before .loop in
     let w = r .before .before .before .before .before .before .before .before .write-ride in
     let n = r .before .before .before .before .before .nth-row in
