@@ -28,9 +28,9 @@ same-cell cells others c shares one other (suc (suc v)) h =
 pub read-tables-settled :
     (κs : Lfts 2) (arguments : Dens κs kinds.ps) (one other : resT kinds.r κs .Denot)
     (ending another : AtExit (endedOf 2 kinds.ps kinds.r) κs) → reads.Post κs arguments one ending → reads.Post κs arguments other another
-    → (c : ℕ) → c < length (tablesIn (now (arguments .0)) (arguments .1)) → (i : ℕ)
-    → i < 2 + length (sharesOf (tablesIn (now (arguments .0)) (arguments .1)) c)
+    → (c : ℕ) → c < length (tablesIn (now (arguments .0)) (arguments .1 .0)) → (i : ℕ)
+    → i < 2 + length (sharesOf (tablesIn (now (arguments .0)) (arguments .1 .0)) c)
     → getD (now (ending .1 .1 .0)) (blockCell c + i) 0 ≡ getD (now (another .1 .1 .0)) (blockCell c + i) 0
 read-tables-settled κs arguments one other ending another first second c h i inside =
-    same-cell (now (ending .1 .1 .0)) (now (another .1 .1 .0)) c (sharesOf (tablesIn (now (arguments .0)) (arguments .1)) c) (first .held c h)
+    same-cell (now (ending .1 .1 .0)) (now (another .1 .1 .0)) c (sharesOf (tablesIn (now (arguments .0)) (arguments .1 .0)) c) (first .held c h)
     (second .held c h) i inside

@@ -1,0 +1,3 @@
+-- What a sound file gives planning, and the part of its rows that planning looks at.
+pub mod Departed
+pub mod Cuts
