@@ -61,9 +61,9 @@ module _ (off : GettingOff) (target : ℕ) (t : Timetable) where
             ∙ idle .none-chosen;
         no-next =
             λ trip.
-                next-row off target t i trip h
-                ∙ ap₂ (λ (a b : Option Valued). cond (eqb (rowOf (t .rows) i .trip) trip) a b) (worthless i later h) (idle .no-next trip)
-                ∙ either-none (eqb (rowOf (t .rows) i .trip) trip);
+            next-row off target t i trip h
+            ∙ ap₂ (λ (a b : Option Valued). cond (eqb (rowOf (t .rows) i .trip) trip) a b) (worthless i later h) (idle .no-next trip)
+            ∙ either-none (eqb (rowOf (t .rows) i .trip) trip);
       }) end inside (le-refl end)
     where
       nothing : Option Valued
@@ -95,7 +95,7 @@ module _ (off : GettingOff) (target : ℕ) (t : Timetable) where
         (same .0) (same .1 (r .trip))
         in (
           ap (λ (sc : Scan). sc .chosen) cut ∙ ap₂ (λ (o : Option Valued) (vs : List Valued). choose target o vs) best (same .0)
-          ∙ sym (chosen-row off target t i within),
+              ∙ sym (chosen-row off target t i within),
           λ trip.
               ap (λ (sc : Scan). nextOf (sc .weighed) trip) cut
               ∙ ap₂ (λ (a b : Option Valued). cond (eqb (r .trip) trip) a b) best (same .1 trip) ∙ sym (next-row off target t i trip within),

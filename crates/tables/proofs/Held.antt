@@ -31,7 +31,7 @@ block-kept cells cells' k c shares same earlier few held =
       expected-held = same .kept (blockCell c + 1) (inl (let z : blockCell c + 1 < blockCell k = omega arith in z)) ∙ held .expected-held;
       cumulative-held =
           λ v h.
-              same .kept (blockCell c + 2 + v) (inl (let z : blockCell c + 2 + v < blockCell k = omega arith in z)) ∙ held .cumulative-held v h;
+          same .kept (blockCell c + 2 + v) (inl (let z : blockCell c + 2 + v < blockCell k = omega arith in z)) ∙ held .cumulative-held v h;
     }
 
 -- the blocks of the classes below k are held, and the next one starts at `block`

@@ -25,9 +25,11 @@ read-table-requires : tie.Need-read-table-requires Inv-loop μ-loop
 read-table-requires c κs =
     let l = c .before .before .before in
     let a = l .before .before .before in
-    let inside : l .loop .k < a .args .s .classes = omega arith in
-    (subst (BlockStands (a .args .file .now)) (sym (l .loop .inv .next)) (block-stands (a .args .file .now) (a .args .s) (a .pre .0) (l .loop .k) inside),
-    omega (arith, a .pre .0 .few-classes), l .loop .inv .room)
+    let inside : l .loop .k < a .args .s .classes = omega arith in (
+      subst (BlockStands (a .args .file .now)) (sym (l .loop .inv .next)) (block-stands (a .args .file .now) (a .args .s) (a .pre .0) (l .loop .k) inside),
+      omega (arith, a .pre .0 .few-classes),
+      l .loop .inv .room,
+    )
 
 add-k : tie.Need-add-k Inv-loop μ-loop
 add-k c = omega arith
