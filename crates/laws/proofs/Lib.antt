@@ -6,3 +6,4 @@ pub mod Options
 pub mod Downward
 pub mod Members
 pub mod Alternatives
+pub mod Places
