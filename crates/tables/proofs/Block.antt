@@ -1,5 +1,5 @@
 -- A class's block of cells: its running sums, then its longest and its expected delay. Assumes nothing.
-use Prim.Native.Nat.{ℕ, suc, _+_, _*_, _≤_, _<_}
+use Prim.Native.Nat.{ℕ, suc, pred, _+_, _*_, _/_, _≤_, _<_}
 use mathlib.Core.List.{List}
 use mathlib.Core.Logic.{_⊎_, inl, inr, ⊎-elim}
 use mathlib.Core.Path.{_≡_, refl, sym, ap, subst, _∙_}
@@ -82,3 +82,45 @@ unfolding weigh sum
 late-bound mathlib.Core.List.[] minute top h = omega arith
 late-bound (mathlib.Core.List._∷_ p shares) minute top h =
     omega (arith, late-bound shares (suc minute) top (omega arith), native.Mathlib.Nat.mul-le-mul-left {m = minute} {n = top} p (omega arith))
+
+-- what is read of a standing block, as the code leaves it
+module _
+    (file : List ℕ)
+    (at longest' late : ℕ)
+    (stands : BlockStands file at)
+    (read : longest' ≡ u16At file at)
+    (summed-late : late ≡ weigh (sharesFrom file (at + 2) (suc longest')) 0 (λ v. v))
+  where
+    same-shares : sharesFrom file (at + 2) (suc longest') ≡ tableAt file at
+    unfolding tableAt
+    same-shares = ap (λ n. sharesFrom file (at + 2) (suc n)) read
+
+    counted : suc longest' ≡ length (tableAt file at)
+    counted = ap suc read ∙ sym (table-has file at)
+
+    late-of-table : late ≡ weigh (tableAt file at) 0 (λ v. v)
+    late-of-table = summed-late ∙ ap (λ xs. weigh xs 0 (λ v. v)) same-shares
+
+    -- the sum of delay × share is no more than 254 wholes
+    pub late-small : late ≤ 254 * whole
+    late-small =
+        omega (arith, late-of-table, late-bound (tableAt file at) 0 254 (omega (arith, stands .shares-fit .few-shares)), ap (λ n. 254 * n) (stands .shares-fit .shares-whole))
+
+    pub block-ends : at + 4 + 2 * longest' ≡ blockEnd file at
+    unfolding blockEnd
+    block-ends = omega (arith, read)
+
+    pub table-held : (cells cells' : List ℕ) (k longest-cell expected-cell : ℕ) → k < 16 → length cells ≡ 4096
+        → Summed cells cells' (256 * k + 2) (sharesFrom file (at + 2) (suc longest')) (suc longest') → longest-cell ≡ longest' → expected-cell ≡ (late + 15) / 16
+        → BlockHeld (set (set cells' (256 * k + 0) longest-cell) (256 * k + 1) expected-cell) k (tableAt file at)
+        × SameOutside cells (set (set cells' (256 * k + 0) longest-cell) (256 * k + 1) expected-cell) k
+    table-held cells cells' k longest-cell expected-cell inside room summed l e =
+        let held : Summed cells cells' (blockCell k + 2) (tableAt file at) (length (tableAt file at)) =
+        subst (Summed cells cells' (blockCell k + 2) (tableAt file at)) counted
+        (subst (λ xs. Summed cells cells' (blockCell k + 2) xs (suc longest')) same-shares summed)
+        in
+        let fits : blockCell (suc k) ≤ length cells = omega arith in (
+          block-held cells cells' k (tableAt file at) (stands .shares-fit .few-shares) fits held longest-cell expected-cell
+              (l ∙ ap pred counted) (e ∙ ap (λ n. (n + 15) / 16) late-of-table),
+          others-kept cells cells' k (tableAt file at) (stands .shares-fit .few-shares) fits held longest-cell expected-cell,
+        )

@@ -1,0 +1,28 @@
+-- `planner::sailings_in` meets its contract: the head that the check read. Assumes nothing.
+use mathlib.Core.Path.{ap}
+use Rattle.layout.specs.Decode.{headOf, trailerAt}
+use Rattle.reading.specs.Sections.{sailingsOf}
+use borrow.Author.Needs.{needs}
+use Rattle.planner.proofs.sailings_in.Statement.{statement}
+use Rattle.planner.proofs.sailings_in.Tie as tie
+use Rattle.planner.proofs.sailings_in.Reads as reads
+use Rattle.planner.proofs.sailings_in.Lts as lts
+use Rattle.layout.proofs.head_at.Reads as head-at-reads
+
+-- src/rt:182:30
+sub-head-at : tie.Need-sub-head-at
+sub-head-at c = search needs
+
+-- src/rt:182:9
+head-at-requires : tie.Need-head-at-requires
+head-at-requires c κs = search needs
+
+-- src/rt:178:1
+returns : tie.Need-returns
+unfolding headOf trailerAt
+returns c =
+    let a = c .before .before .before .args in
+    ap (sailingsOf (a .f)) (c .head-at .ensures .0)
+
+pub sailings-in-spec : {M : Type 1} → statement M
+sailings-in-spec = tie.close (tie.spec sub-head-at head-at-requires returns)
