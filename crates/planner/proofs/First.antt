@@ -164,25 +164,28 @@ module _ (file : List ℕ) (s : Sailings) (tables : List ℕ) (q : Query) (first
         held .climbing (q .source) (laid .source) .fits ahead (member-at here 0 someone some-here)
 
     told : Told (q .target)
-    told = (none-here, λ h.
-        let entry = top-entry h in
-        let fits = entry-fits h in
-        let key : getD work top 0 ≡ 2048 * ahead .ride .departs + ahead .ride .board = ap (λ (x : Entry). x .key) entry in
-        record {
-          ride = ahead;
-          row = (let z : getD work top 0 % 2048 ≡ ahead .ride .board = omega (arith, key, fits .row) in z);
-          worth = ap (λ (x : Entry). x .worth) entry;
-          first-here = is-first h;
-          is-plan = first-plan ahead (is-first h);
-          few =
-              (let z : length (rides (q .target) ahead) ≤ 2000 = omega (
-                arith,
-                extract-few (q .target) (upTo (q .source) (q .minute) (some ahead)) (chosen (q .target)),
-                chosen-few (offInTicks (q .target) bound) (q .target) (t .tables) first (slice first end (t .rows)),
-                length-slice first end (t .rows) (let y : end ≤ length (t .rows) = omega (arith, laid .stand .rows-count) in y),
-                laid .stand .few-rows,
-              ) in z);
-        })
+    told = (
+      none-here,
+      λ h.
+          let entry = top-entry h in
+          let fits = entry-fits h in
+          let key : getD work top 0 ≡ 2048 * ahead .ride .departs + ahead .ride .board = ap (λ (x : Entry). x .key) entry in
+          record {
+            ride = ahead;
+            row = (let z : getD work top 0 % 2048 ≡ ahead .ride .board = omega (arith, key, fits .row) in z);
+            worth = ap (λ (x : Entry). x .worth) entry;
+            first-here = is-first h;
+            is-plan = first-plan ahead (is-first h);
+            few =
+                (let z : length (rides (q .target) ahead) ≤ 2000 = omega (
+                  arith,
+                  extract-few (q .target) (upTo (q .source) (q .minute) (some ahead)) (chosen (q .target)),
+                  chosen-few (offInTicks (q .target) bound) (q .target) (t .tables) first (slice first end (t .rows)),
+                  length-slice first end (t .rows) (let y : end ≤ length (t .rows) = omega (arith, laid .stand .rows-count) in y),
+                  laid .stand .few-rows,
+                ) in z);
+          },
+    )
 
   -- the same of a goal whose target is the query's
   pub goal-told : (target : ℕ) → target ≡ q .target → ScanHeld work (s .rows) first end (scanPart (offInTicks target bound) target t first end)

@@ -51,7 +51,7 @@ module _ (f : Format) (stops : ℕ) (q : Query) where
         ltb-true (q .source) stops (both-left source (ltb (q .target) stops) e₂),
         ltb-true (q .target) stops (both-right source (ltb (q .target) stops) e₂),
         eqb-false (q .source) (q .target)
-        (not-true (eqb (q .source) (q .target)) (both-right target (not (eqb (q .source) (q .target))) e₃)),
+            (not-true (eqb (q .source) (q .target)) (both-right target (not (eqb (q .source) (q .target))) e₃)),
         leb-true (q .minute) (f .latest) (both-right apart (leb (q .minute) (f .latest)) e),
       )
 
@@ -71,10 +71,13 @@ code-decides q some-code h = simp (ne-eqb _ _ some-code, le-leb _ _ h)
 pub code-gives : (q : Query) → codeRule q ≡ true → (q .code ≡ 0) ⊎ ((4 ≤ q .code) × (q .code ≤ 16))
 unfolding codeRule
 code-gives q e =
-    elim (either (eqb (q .code) 0) (leb 4 (q .code) && leb (q .code) 16) e)
-    [ inl p ↦ inl (eqb-true (q .code) 0 p)
-    | inr p ↦ inr (leb-true 4 (q .code) (both-left (leb 4 (q .code)) (leb (q .code) 16) p),
-    leb-true (q .code) 16 (both-right (leb 4 (q .code)) (leb (q .code) 16) p)) ]
+    elim (either (eqb (q .code) 0) (leb 4 (q .code) && leb (q .code) 16) e) [
+      | inl p ↦ inl (eqb-true (q .code) 0 p)
+      | inr p ↦ inr (
+        leb-true 4 (q .code) (both-left (leb 4 (q .code)) (leb (q .code) 16) p),
+        leb-true (q .code) 16 (both-right (leb 4 (q .code)) (leb (q .code) 16) p),
+      )
+    ]
 
 -- no code is above 16
 pub code-most : (q : Query) → codeRule q ≡ true → q .code ≤ 16

@@ -5,8 +5,6 @@ use Rattle.planner.proofs.Bounds.{no-bound, real-bound, quarters-fit}
 use borrow.Author.Needs.{needs}
 use Rattle.planner.proofs.bound_of.Statement.{statement}
 use Rattle.planner.proofs.bound_of.Tie as tie
-use Rattle.planner.proofs.bound_of.Reads as reads
-use Rattle.planner.proofs.bound_of.Lts as lts
 
 -- src/rt:216:9
 returns : tie.Need-returns

@@ -4,8 +4,6 @@ use native.Mathlib.Omega.{arith}
 use Rattle.planner.proofs.Rules.{no-code, code-small, code-decides}
 use Rattle.planner.proofs.code_rule.Statement.{statement}
 use Rattle.planner.proofs.code_rule.Tie as tie
-use Rattle.planner.proofs.code_rule.Reads as reads
-use Rattle.planner.proofs.code_rule.Lts as lts
 
 -- src/rt:136:9
 returns : tie.Need-returns

@@ -7,13 +7,6 @@ use Rattle.planner.proofs.Laying.{rows-stand, tables-stand, lays, earli
 use borrow.Author.Needs.{needs}
 use Rattle.planner.proofs.earliest_in_room.Statement.{statement}
 use Rattle.planner.proofs.earliest_in_room.Tie as tie
-use Rattle.planner.proofs.earliest_in_room.Reads as reads
-use Rattle.planner.proofs.earliest_in_room.Lts as lts
-use Rattle.cells.proofs.number.Reads as number-reads
-use Rattle.planner.proofs.reach.Reads as reach-reads
-use Rattle.planner.proofs.sailings_in.Reads as sailings-in-reads
-use Rattle.reading.proofs.rows_before.Reads as rows-before-reads
-use Rattle.tables.proofs.read_tables.Reads as read-tables-reads
 
 -- src/rt:363:9
 sailings-in-requires : tie.Need-sailings-in-requires
@@ -46,10 +39,12 @@ slice-aggregate-reach c = search needs
 -- src/rt:366:5
 reach-requires : tie.Need-reach-requires
 reach-requires c κs =
-    let a = c .before .before .before .before .before .before .before .before .before .before in
-    (lays (a .args .f) (a .args .file .now) (a .args .q) (a .pre .0) (c .before .before .before .before .before .before .before .sailings-in .result) (c .before .before .before .before .before .before .before .sailings-in .ensures)
-    (c .before .before .before .before .before .read-tables .last .1 .1 .0) (c .before .before .rows-before .result) (c .before .before .before .number .result)
-    (c .before .before .before .before .before .read-tables .ensures) (c .before .before .before .number .ensures .0) (c .before .before .rows-before .ensures), omega (arith, a .pre .1))
+    let a = c .before .before .before .before .before .before .before .before .before .before in (
+      lays (a .args .f) (a .args .file .now) (a .args .q) (a .pre .0) (c .before .before .before .before .before .before .before .sailings-in .result) (c .before .before .before .before .before .before .before .sailings-in .ensures)
+          (c .before .before .before .before .before .read-tables .last .1 .1 .0) (c .before .before .rows-before .result) (c .before .before .before .number .result)
+          (c .before .before .before .before .before .read-tables .ensures) (c .before .before .before .number .ensures .0) (c .before .before .rows-before .ensures),
+      omega (arith, a .pre .1),
+    )
 
 -- src/rt:358:1
 same-length : tie.Need-same-length
@@ -59,9 +54,11 @@ same-length c = search needs
 returns : tie.Need-returns
 returns c =
     let a = c .before .before .before .before .before .before .before .before .before .before .before .before .before in
-    let r = c .before .before .reach .ensures in
-    (r .0 ∙ ap cellOf (sym (earliest-there (a .args .f) (a .args .file .now) (a .args .q) (a .pre .0) (c .before .before .before .before .before .before .before .before .before .before .sailings-in .result)
-    (c .before .before .before .before .before .before .before .before .before .before .sailings-in .ensures))), r .1)
+    let r = c .before .before .reach .ensures in (
+      r .0 ∙ ap cellOf (sym (earliest-there (a .args .f) (a .args .file .now) (a .args .q) (a .pre .0) (c .before .before .before .before .before .before .before .before .before .before .sailings-in .result)
+          (c .before .before .before .before .before .before .before .before .before .before .sailings-in .ensures))),
+      r .1,
+    )
 
 pub earliest-in-room-spec : {M : Type 1} → statement M
 earliest-in-room-spec =

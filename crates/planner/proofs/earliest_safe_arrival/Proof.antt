@@ -15,11 +15,6 @@ use Rattle.planner.proofs.Answered.{
 use borrow.Author.Needs.{needs}
 use Rattle.planner.proofs.earliest_safe_arrival.Statement.{statement}
 use Rattle.planner.proofs.earliest_safe_arrival.Tie as tie
-use Rattle.planner.proofs.earliest_safe_arrival.Reads as reads
-use Rattle.planner.proofs.earliest_safe_arrival.Lts as lts
-use Rattle.cells.proofs.cell.Reads as cell-reads
-use Rattle.planner.proofs.earliest_sound.Reads as earliest-sound-reads
-use Rattle.sailings.proofs.check.Reads as check-reads
 
 -- src/rt:309:9
 check-requires : tie.Need-check-requires

@@ -30,13 +30,6 @@ use Rattle.planner.proofs.Answered.{
 use borrow.Author.Needs.{needs}
 use Rattle.planner.proofs.earliest_sound.Statement.{statement}
 use Rattle.planner.proofs.earliest_sound.Tie as tie
-use Rattle.planner.proofs.earliest_sound.Reads as reads
-use Rattle.planner.proofs.earliest_sound.Lts as lts
-use Rattle.cells.proofs.fill.Reads as fill-reads
-use Rattle.planner.proofs.earliest_in_room.Reads as earliest-in-room-reads
-use Rattle.planner.proofs.journey_rule.Reads as journey-rule-reads
-use Rattle.planner.proofs.no_arrival.Reads as no-arrival-reads
-use Rattle.planner.proofs.work_room.Reads as work-room-reads
 
 -- the rule of 6 at the stops that the file decodes to
 ruled : (c : tie.After-journey-rule)
@@ -64,10 +57,11 @@ settled c =
     let r = c .before .before .before .before .before .before .before in
     let room : r .work-room .result ≡ workRoom n = r .work-room .ensures ∙ ap workRoom (a .pre .rows-are) in
     let fits : workRoom n ≤ length (a .args .work .now) = omega arith in
-    let kept = kept-later 2400 (workRoom n) (a .args .work .now) (p .last .1 .1 .1 .0) (omega arith) (p .ensures .1) in
-    (c .fill .ensures ∙ ap (λ k. filled (p .last .1 .1 .1 .0) 0 k 0) room ∙ cleared-behind (workRoom n) (a .args .work .now) (p .last .1 .1 .1 .0) kept,
-    not-refused-earliest (a .args .f) (decode (a .args .f) (a .args .file .now)) (a .args .q) (a .args .work .now) []
-    (ruled (r .before .before) ∙ not-false _ (r .before .if1 .left)) (le-leb (workRoom n) (length (a .args .work .now)) fits))
+    let kept = kept-later 2400 (workRoom n) (a .args .work .now) (p .last .1 .1 .1 .0) (omega arith) (p .ensures .1) in (
+      c .fill .ensures ∙ ap (λ k. filled (p .last .1 .1 .1 .0) 0 k 0) room ∙ cleared-behind (workRoom n) (a .args .work .now) (p .last .1 .1 .1 .0) kept,
+      not-refused-earliest (a .args .f) (decode (a .args .f) (a .args .file .now)) (a .args .q) (a .args .work .now) []
+          (ruled (r .before .before) ∙ not-false _ (r .before .if1 .left)) (le-leb (workRoom n) (length (a .args .work .now)) fits),
+    )
 
 -- src/rt:336:9
 journey-rule-requires : tie.Need-journey-rule-requires
@@ -106,9 +100,10 @@ returns-2 c =
 earliest-in-room-requires : tie.Need-earliest-in-room-requires
 earliest-in-room-requires c κs =
     let a = c .before .before .before .before .before .before .before in
-    let rows = a .pre .rows-are ∙ a .pre .sound .rows-count in
-    (asks (a .args .f) (a .args .file .now) (a .args .stops) (a .args .count) (a .args .q) (a .pre) (sym (c .before .before .before .before .journey-rule .ensures) ∙ not-false _ (c .before .before .before .if1 .left)),
-    omega (arith, c .before .before .work-room .ensures, rows))
+    let rows = a .pre .rows-are ∙ a .pre .sound .rows-count in (
+      asks (a .args .f) (a .args .file .now) (a .args .stops) (a .args .count) (a .args .q) (a .pre) (sym (c .before .before .before .before .journey-rule .ensures) ∙ not-false _ (c .before .before .before .if1 .left)),
+      omega (arith, c .before .before .work-room .ensures, rows),
+    )
 
 -- src/rt:344:5
 fill-requires : tie.Need-fill-requires

@@ -7,9 +7,6 @@ use Rattle.planner.proofs.Rules.{source-outside, target-outside, one-st
 use borrow.Author.Needs.{needs}
 use Rattle.planner.proofs.journey_rule.Statement.{statement}
 use Rattle.planner.proofs.journey_rule.Tie as tie
-use Rattle.planner.proofs.journey_rule.Reads as reads
-use Rattle.planner.proofs.journey_rule.Lts as lts
-use Rattle.cells.proofs.number.Reads as number-reads
 
 -- src/rt:117:9
 number-requires : tie.Need-number-requires

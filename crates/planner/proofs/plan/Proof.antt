@@ -8,11 +8,6 @@ use Rattle.planner.proofs.Answered.{refusal-fits, refused-checked-as, r
 use borrow.Author.Needs.{needs}
 use Rattle.planner.proofs.plan.Statement.{statement}
 use Rattle.planner.proofs.plan.Tie as tie
-use Rattle.planner.proofs.plan.Reads as reads
-use Rattle.planner.proofs.plan.Lts as lts
-use Rattle.cells.proofs.cell.Reads as cell-reads
-use Rattle.planner.proofs.plan_sound.Reads as plan-sound-reads
-use Rattle.sailings.proofs.check.Reads as check-reads
 
 -- src/rt:66:9
 check-requires : tie.Need-check-requires

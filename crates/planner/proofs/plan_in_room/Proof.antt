@@ -16,16 +16,6 @@ use Rattle.planner.proofs.Laying.{rows-stand, tables-stand, lays, plan-
 use borrow.Author.Needs.{needs}
 use Rattle.planner.proofs.plan_in_room.Statement.{statement}
 use Rattle.planner.proofs.plan_in_room.Tie as tie
-use Rattle.planner.proofs.plan_in_room.Reads as reads
-use Rattle.planner.proofs.plan_in_room.Lts as lts
-use Rattle.cells.proofs.number.Reads as number-reads
-use Rattle.planner.proofs.bound_of.Reads as bound-of-reads
-use Rattle.planner.proofs.no_plan.Reads as no-plan-reads
-use Rattle.planner.proofs.plan_within.Reads as plan-within-reads
-use Rattle.planner.proofs.reach.Reads as reach-reads
-use Rattle.planner.proofs.sailings_in.Reads as sailings-in-reads
-use Rattle.reading.proofs.rows_before.Reads as rows-before-reads
-use Rattle.tables.proofs.read_tables.Reads as read-tables-reads
 
 laid : (c : tie.After-rows-before)
     → Laid (c .before .before .before .before .before .before .before .before .before .args .file .now) (c .before .before .before .before .before .sailings-in .result)
@@ -102,11 +92,12 @@ returns c =
     let s = c .before .before .before .before .before .before .before .before .before .before .before .before .sailings-in in
     let r = c .before .before .before .before .reach in
     let gone = no-arrival-cell (earliest (timetableIn (a .args .file .now) (s .result)) (a .args .q)) (r .result) (r .ensures .0)
-    (λ e found. arrival-fits (c .before .before .before .before .before .before .before) e found .1) (omega arith) in
-    (no-plan-answers (planned (decode (a .args .f) (a .args .file .now)) (a .args .q)) (c .no-plan .result) (a .args .plan .now)
-    (plan-there (a .args .f) (a .args .file .now) (a .args .q) (a .pre .0) (s .result) (s .ensures)
-    ∙ no-plan-of (timetableIn (a .args .file .now) (s .result)) (a .args .q) gone) (c .no-plan .ensures),
-    kept-later 2400 (used (headOf (a .args .f) (a .args .file .now) .rows)) (a .args .work .now) (r .last .1 .1 .1 .1 .1 .0) (omega arith) (r .ensures .1))
+    (λ e found. arrival-fits (c .before .before .before .before .before .before .before) e found .1) (omega arith) in (
+      no-plan-answers (planned (decode (a .args .f) (a .args .file .now)) (a .args .q)) (c .no-plan .result) (a .args .plan .now)
+          (plan-there (a .args .f) (a .args .file .now) (a .args .q) (a .pre .0) (s .result) (s .ensures)
+          ∙ no-plan-of (timetableIn (a .args .file .now) (s .result)) (a .args .q) gone) (c .no-plan .ensures),
+      kept-later 2400 (used (headOf (a .args .f) (a .args .file .now) .rows)) (a .args .work .now) (r .last .1 .1 .1 .1 .1 .0) (omega arith) (r .ensures .1),
+    )
 
 -- src/rt:173:9
 bound-of-requires : tie.Need-bound-of-requires
@@ -124,10 +115,12 @@ plan-within-requires : tie.Need-plan-within-requires
 plan-within-requires c κs =
     let a = c .before .before .before .before .before .before .before .before .before .before .before .before .before .before .before .before .before .before .before in
     let s = c .before .before .before .before .before .before .before .before .before .before .before .before .before .before .before .sailings-in in
-    let rows = rows-there (a .args .f) (a .args .file .now) (a .args .q) (a .pre .0) (s .result) (s .ensures) in
-    (laid (c .before .before .before .before .before .before .before .before .before .before), subst (Reaches (a .args .q .minute)) (sym (c .before .before .before .bound-of .ensures)) (bound-reaches (a .args .q) (c .before .before .before .before .before .before .before .reach .result)),
-    (let z : used (s .result .rows) ≤ length (c .before .before .before .before .before .before .before .reach .last .1 .1 .1 .1 .1 .0) = omega (arith, a .pre .2, rows, c .before .before .before .before .before .before .before .reach .ensures .1 .same-length) in z),
-    omega (arith, a .pre .3, rows))
+    let rows = rows-there (a .args .f) (a .args .file .now) (a .args .q) (a .pre .0) (s .result) (s .ensures) in (
+      laid (c .before .before .before .before .before .before .before .before .before .before),
+      subst (Reaches (a .args .q .minute)) (sym (c .before .before .before .bound-of .ensures)) (bound-reaches (a .args .q) (c .before .before .before .before .before .before .before .reach .result)),
+      (let z : used (s .result .rows) ≤ length (c .before .before .before .before .before .before .before .reach .last .1 .1 .1 .1 .1 .0) = omega (arith, a .pre .2, rows, c .before .before .before .before .before .before .before .reach .ensures .1 .same-length) in z),
+      omega (arith, a .pre .3, rows),
+    )
 
 -- src/rt:159:1
 same-length-2 : tie.Need-same-length-2
@@ -149,11 +142,12 @@ returns-2 c =
     let same : planIn (a .args .file .now) (s .result) (a .args .q) (c .before .before .before .before .before .before .before .before .bound-of .result) ≡ planned (decode (a .args .f) (a .args .file .now)) (a .args .q) =
     ap (planIn (a .args .file .now) (s .result) (a .args .q)) (c .before .before .before .before .before .before .before .before .bound-of .ensures)
     ∙ sym (plan-by-arrival (a .args .f) (a .args .file .now) (a .args .q) (a .pre .0) (s .result) (s .ensures) (r .result) found)
-    in
-    (subst (λ (o : Option Plan). Answers o (p .result) (a .args .plan .now) (p .last .1 .1 .1 .1 .1 .1 .1 .0)) same (p .ensures .0),
-    kept-both (used (headOf (a .args .f) (a .args .file .now) .rows)) (a .args .work .now) (r .last .1 .1 .1 .1 .1 .0) (p .last .1 .1 .1 .1 .1 .1 .0)
-    (kept-later 2400 (used (headOf (a .args .f) (a .args .file .now) .rows)) (a .args .work .now) (r .last .1 .1 .1 .1 .1 .0) (omega arith) (r .ensures .1))
-    (subst (λ n. KeptBehind (used n) (r .last .1 .1 .1 .1 .1 .0) (p .last .1 .1 .1 .1 .1 .1 .0)) rows (p .ensures .1)))
+    in (
+      subst (λ (o : Option Plan). Answers o (p .result) (a .args .plan .now) (p .last .1 .1 .1 .1 .1 .1 .1 .0)) same (p .ensures .0),
+      kept-both (used (headOf (a .args .f) (a .args .file .now) .rows)) (a .args .work .now) (r .last .1 .1 .1 .1 .1 .0) (p .last .1 .1 .1 .1 .1 .1 .0)
+          (kept-later 2400 (used (headOf (a .args .f) (a .args .file .now) .rows)) (a .args .work .now) (r .last .1 .1 .1 .1 .1 .0) (omega arith) (r .ensures .1))
+          (subst (λ n. KeptBehind (used n) (r .last .1 .1 .1 .1 .1 .0) (p .last .1 .1 .1 .1 .1 .1 .0)) rows (p .ensures .1)),
+    )
 
 pub plan-in-room-spec : {M : Type 1} → statement M
 plan-in-room-spec =

@@ -12,13 +12,6 @@ use Rattle.planner.proofs.Answered.{no-plan-answers, plan-answers}
 use borrow.Author.Needs.{needs}
 use Rattle.planner.proofs.plan_scanned.Statement.{statement}
 use Rattle.planner.proofs.plan_scanned.Tie as tie
-use Rattle.planner.proofs.plan_scanned.Reads as reads
-use Rattle.planner.proofs.plan_scanned.Lts as lts
-use Rattle.cells.proofs.cell.Reads as cell-reads
-use Rattle.cells.proofs.number.Reads as number-reads
-use Rattle.extract.proofs.write_plan.Reads as write-plan-reads
-use Rattle.landing.proofs.row_of.Reads as row-of-reads
-use Rattle.planner.proofs.no_plan.Reads as no-plan-reads
 
 -- what the source's stack tells
 told : (a : tie.Start)
@@ -94,9 +87,11 @@ no-plan-requires c κs = search needs
 returns : tie.Need-returns
 returns c =
     let a = c .before .before .before .before .before .before .before .before .before in
-    let none-here : stackSize (a .args .work .now) (a .args .q .source) ≡ 0 = sym (sized (c .before .before)) ∙ (let z : c .before .before .number2 .result ≡ 0 = omega arith in z) in
-    (no-plan-answers (planIn (a .args .file .now) (a .args .s) (a .args .q) (a .args .goal .bound)) (c .no-plan .result) (a .args .plan .now)
-    (told a .0 none-here) (c .no-plan .ensures), record { same-length = refl; kept = refl })
+    let none-here : stackSize (a .args .work .now) (a .args .q .source) ≡ 0 = sym (sized (c .before .before)) ∙ (let z : c .before .before .number2 .result ≡ 0 = omega arith in z) in (
+      no-plan-answers (planIn (a .args .file .now) (a .args .s) (a .args .q) (a .args .goal .bound)) (c .no-plan .result) (a .args .plan .now)
+          (told a .0 none-here) (c .no-plan .ensures),
+      record { same-length = refl; kept = refl },
+    )
 
 -- src/rt:280:40
 add-number-2 : tie.Need-add-number-2
@@ -158,7 +153,7 @@ slice-read-expected c = omega (arith, top-inside (c .before .before .before), c 
 write-plan-requires : tie.Need-write-plan-requires
 write-plan-requires c κs =
     let a = c .before .before .before .before .before .before .before .before .before .before .before .before .before .before .before in
-    (a .pre .0 .stand, a .pre .0 .held, a .pre .1 .ordered, a .pre .1 .inside, a .pre .2, a .pre .3, a .pre .4, first-ride (c .before .before .before), ?)
+    (a .pre .0 .stand, a .pre .0 .held, a .pre .1 .ordered, a .pre .1 .inside, a .pre .2, a .pre .3, a .pre .4, first-ride (c .before .before .before))
 
 -- src/rt:285:16
 cell-requires : tie.Need-cell-requires
@@ -189,10 +184,11 @@ returns-2 c =
     let a = c .before .before .before .before .before .before .before .before .before .before .before .before .before .before .before .before .before .before .before .before .before .before in
     let w = c .before .before .before .before .before .before .write-plan in
     let made = w .ensures .0 (first-ride (c .before .before .before .before .before .before .before .before .before .before)) in
-    let t = top-of (c .before .before .before .before .before .before .before .before .before .before .before .before) in
-    (plan-answers (planIn (a .args .file .now) (a .args .s) (a .args .q) (a .args .goal .bound)) _ _ _ _ _ (a .args .plan .now) _ (t .is-plan)
-    (c .before .cell .ensures ∙ made .1) (ap (λ n. getD (a .args .work .now) (n + 1) 0) (same-top (c .before .before .before .before .before .before .before .before .before .before .before .before)) ∙ t .worth) (made .2) (c .cell2 .ensures) (made .0),
-    record { same-length = w .ensures .1; kept = w .ensures .2 })
+    let t = top-of (c .before .before .before .before .before .before .before .before .before .before .before .before) in (
+      plan-answers (planIn (a .args .file .now) (a .args .s) (a .args .q) (a .args .goal .bound)) _ _ _ _ _ (a .args .plan .now) _ (t .is-plan)
+          (c .before .cell .ensures ∙ made .1) (ap (λ n. getD (a .args .work .now) (n + 1) 0) (same-top (c .before .before .before .before .before .before .before .before .before .before .before .before)) ∙ t .worth) (made .2) (c .cell2 .ensures) (made .0),
+      record { same-length = w .ensures .1; kept = w .ensures .2 },
+    )
 
 pub plan-scanned-spec : {M : Type 1} → statement M
 plan-scanned-spec =

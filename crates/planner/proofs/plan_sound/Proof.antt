@@ -16,14 +16,6 @@ use Rattle.planner.proofs.Answered.{broken-left, broken-right, refused-
 use borrow.Author.Needs.{needs}
 use Rattle.planner.proofs.plan_sound.Statement.{statement}
 use Rattle.planner.proofs.plan_sound.Tie as tie
-use Rattle.planner.proofs.plan_sound.Reads as reads
-use Rattle.planner.proofs.plan_sound.Lts as lts
-use Rattle.cells.proofs.fill.Reads as fill-reads
-use Rattle.planner.proofs.code_rule.Reads as code-rule-reads
-use Rattle.planner.proofs.journey_rule.Reads as journey-rule-reads
-use Rattle.planner.proofs.no_plan.Reads as no-plan-reads
-use Rattle.planner.proofs.plan_in_room.Reads as plan-in-room-reads
-use Rattle.planner.proofs.work_room.Reads as work-room-reads
 
 -- the rule of 6 at the stops that the file decodes to
 ruled : (c : tie.After-journey-rule)
@@ -115,9 +107,12 @@ returns-4 c =
 plan-in-room-requires : tie.Need-plan-in-room-requires
 plan-in-room-requires c κs =
     let a = c .before .before .before .before .before .before .before .before .before .before .before .before in
-    let rows = a .pre .rows-are ∙ a .pre .sound .rows-count in
-    (asks (a .args .f) (a .args .file .now) (a .args .stops) (a .args .count) (a .args .q) (a .pre) (sym (c .before .before .before .before .before .before .before .before .journey-rule .ensures) ∙ not-false _ (c .before .before .before .before .before .before .before .if1 .left)),
-    sym (c .before .before .before .before .before .before .code-rule .ensures) ∙ not-false _ (c .before .before .before .before .before .if2 .left), omega (arith, c .before .before .before .before .work-room .ensures, rows), omega (arith, rows))
+    let rows = a .pre .rows-are ∙ a .pre .sound .rows-count in (
+      asks (a .args .f) (a .args .file .now) (a .args .stops) (a .args .count) (a .args .q) (a .pre) (sym (c .before .before .before .before .before .before .before .before .journey-rule .ensures) ∙ not-false _ (c .before .before .before .before .before .before .before .if1 .left)),
+      sym (c .before .before .before .before .before .before .code-rule .ensures) ∙ not-false _ (c .before .before .before .before .before .if2 .left),
+      omega (arith, c .before .before .before .before .work-room .ensures, rows),
+      omega (arith, rows),
+    )
 
 -- src/rt:109:5
 fill-requires : tie.Need-fill-requires

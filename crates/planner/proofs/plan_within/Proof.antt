@@ -11,12 +11,6 @@ use Rattle.planner.proofs.Answered.{kept-both}
 use borrow.Author.Needs.{needs}
 use Rattle.planner.proofs.plan_within.Statement.{statement}
 use Rattle.planner.proofs.plan_within.Tie as tie
-use Rattle.planner.proofs.plan_within.Reads as reads
-use Rattle.planner.proofs.plan_within.Lts as lts
-use Rattle.cells.proofs.number.Reads as number-reads
-use Rattle.planner.proofs.plan_scanned.Reads as plan-scanned-reads
-use Rattle.planner.proofs.rows_within.Reads as rows-within-reads
-use Rattle.scan.proofs.scan_back.Reads as scan-back-reads
 
 -- the rows that are scanned, for the goal
 looked-at : (c : tie.After-number2)
@@ -48,15 +42,19 @@ scan-back-requires : tie.Need-scan-back-requires
 scan-back-requires c κs =
     let a = c .before .before .before .before .before .before .before .before in
     let part = looked-at (c .before) in
-    (a .pre .0 .stand, a .pre .0 .held, part .ordered, part .inside, a .pre .2, ?)
+    (a .pre .0 .stand, a .pre .0 .held, part .ordered, part .inside, a .pre .2)
 
 -- src/rt:243:5
 plan-scanned-requires : tie.Need-plan-scanned-requires
 plan-scanned-requires c κs =
     let a = c .before .before .before .before .before .before .before .before .before .before .before .before .before in
-    let scanned = c .before .before .before .before .scan-back in
-    (a .pre .0, looked-at (c .before .before .before .before .before .before),
-    (let z : used (a .args .s .rows) ≤ length (scanned .last .1 .1 .1 .1 .1 .1 .0) = omega (arith, a .pre .2, scanned .ensures .1) in z), a .pre .3, scanned .ensures .0)
+    let scanned = c .before .before .before .before .scan-back in (
+      a .pre .0,
+      looked-at (c .before .before .before .before .before .before),
+      (let z : used (a .args .s .rows) ≤ length (scanned .last .1 .1 .1 .1 .1 .1 .0) = omega (arith, a .pre .2, scanned .ensures .1) in z),
+      a .pre .3,
+      scanned .ensures .0,
+    )
 
 -- src/rt:222:1
 same-length : tie.Need-same-length
@@ -71,11 +69,12 @@ returns : tie.Need-returns
 returns c =
     let a = c .before .before .before .before .before .before .before .before .before .before .before .before .before .before .before .before .before .before in
     let scanned = c .before .before .before .before .before .before .before .before .before .scan-back in
-    let p = c .before .before .before .before .plan-scanned in
-    (subst (λ n. Answers (planIn (a .args .file .now) (a .args .s) (a .args .q) n) (p .result) (a .args .plan .now) (p .last .1 .1 .1 .1 .1 .1 .1 .1 .0))
-    (c .before .before .before .before .before .before .before .before .before .before .before .number2 .ensures .0) (p .ensures .0),
-    kept-both (used (a .args .s .rows)) (a .args .work .now) (scanned .last .1 .1 .1 .1 .1 .1 .0) (p .last .1 .1 .1 .1 .1 .1 .1 .0)
-    (record { same-length = scanned .ensures .1; kept = scanned .ensures .2 }) (p .ensures .1))
+    let p = c .before .before .before .before .plan-scanned in (
+      subst (λ n. Answers (planIn (a .args .file .now) (a .args .s) (a .args .q) n) (p .result) (a .args .plan .now) (p .last .1 .1 .1 .1 .1 .1 .1 .1 .0))
+          (c .before .before .before .before .before .before .before .before .before .before .before .number2 .ensures .0) (p .ensures .0),
+      kept-both (used (a .args .s .rows)) (a .args .work .now) (scanned .last .1 .1 .1 .1 .1 .1 .0) (p .last .1 .1 .1 .1 .1 .1 .1 .0)
+          (record { same-length = scanned .ensures .1; kept = scanned .ensures .2 }) (p .ensures .1),
+    )
 
 pub plan-within-spec : {M : Type 1} → statement M
 plan-within-spec =

@@ -10,10 +10,6 @@ use Rattle.planner.proofs.Laying.{as-asked}
 use borrow.Author.Needs.{needs}
 use Rattle.planner.proofs.reach.Statement.{statement}
 use Rattle.planner.proofs.reach.Tie as tie
-use Rattle.planner.proofs.reach.Reads as reads
-use Rattle.planner.proofs.reach.Lts as lts
-use Rattle.cells.proofs.number.Reads as number-reads
-use Rattle.journeys.proofs.earliest_arrival.Reads as earliest-arrival-reads
 
 -- src/rt:204:9
 number-requires : tie.Need-number-requires
@@ -34,10 +30,16 @@ earliest-arrival-requires c κs =
     let laid = a .pre .0 in
     let source = c .before .before .before .number .ensures .0 in
     let target = c .before .before .number2 .ensures .0 in
-    let minute = c .before .number3 .ensures .0 in
-    (laid .stand, laid .held, omega (arith, laid .source, source), omega (arith, laid .target, target), (λ e. laid .apart (sym source ∙ e ∙ target)),
-    omega (arith, laid .minute, minute),
-    subst (λ m. Cut (rowsIn (a .args .file .now) (a .args .s)) m (a .args .first)) (sym minute) (laid .cut), a .pre .1)
+    let minute = c .before .number3 .ensures .0 in (
+      laid .stand,
+      laid .held,
+      omega (arith, laid .source, source),
+      omega (arith, laid .target, target),
+      (λ e. laid .apart (sym source ∙ e ∙ target)),
+      omega (arith, laid .minute, minute),
+      subst (λ m. Cut (rowsIn (a .args .file .now) (a .args .s)) m (a .args .first)) (sym minute) (laid .cut),
+      a .pre .1,
+    )
 
 -- src/rt:193:1
 same-length : tie.Need-same-length
@@ -47,9 +49,10 @@ same-length c = search needs
 returns : tie.Need-returns
 returns c =
     let a = c .before .before .before .before .before .before .before .before .before .before .args in
-    let r = c .before .before .earliest-arrival in
-    (r .ensures .0 (a .q .code) ∙ ap (λ (x : Query). cellOf (earliest (timetableIn (a .file .now) (a .s)) x)) (as-asked (a .q) _ _ _ (c .before .before .before .before .before .before .number .ensures .0) (c .before .before .before .before .before .number2 .ensures .0) (c .before .before .before .before .number3 .ensures .0)),
-    record { same-length = r .ensures .1; kept = r .ensures .2 })
+    let r = c .before .before .earliest-arrival in (
+      r .ensures .0 (a .q .code) ∙ ap (λ (x : Query). cellOf (earliest (timetableIn (a .file .now) (a .s)) x)) (as-asked (a .q) _ _ _ (c .before .before .before .before .before .before .number .ensures .0) (c .before .before .before .before .before .number2 .ensures .0) (c .before .before .before .before .number3 .ensures .0)),
+      record { same-length = r .ensures .1; kept = r .ensures .2 },
+    )
 
 pub reach-spec : {M : Type 1} → statement M
 reach-spec =

@@ -5,10 +5,6 @@ use Rattle.reading.specs.Reading.{rowsIn, Cut}
 use borrow.Author.Needs.{needs}
 use Rattle.planner.proofs.rows_within.Statement.{statement}
 use Rattle.planner.proofs.rows_within.Tie as tie
-use Rattle.planner.proofs.rows_within.Reads as reads
-use Rattle.planner.proofs.rows_within.Lts as lts
-use Rattle.cells.proofs.number.Reads as number-reads
-use Rattle.reading.proofs.rows_before.Reads as rows-before-reads
 
 -- src/rt:253:9
 returns : tie.Need-returns
