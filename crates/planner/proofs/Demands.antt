@@ -1,4 +1,4 @@
--- Demands 2 and 3 of what the planning call answers, for every list of bytes, every query and every pair of slices: the terms are those of its contract.
+-- Demands 2 and 3 of what the planning call answers, for every list of bytes, query and pair of slices, in the terms of its contract. Assumes nothing.
 use Prim.Native.Nat.{ℕ, _+_, _*_, _≤_, _<_}
 use native.Mathlib.Omega.{arith}
 use mathlib.Core.Bool.{true, false, _&&_}
@@ -36,7 +36,18 @@ use Rattle.reading.proofs.Standing.{timely}
 use Rattle.extract.specs.Extracted.{written, over}
 use Rattle.planner.specs.declared.Planned.{Planned}
 use Rattle.planner.specs.declared.Planned.the-variants.{Plan as AsPlan, Refused as NoPlan}
-use Rattle.planner.specs.Outcome.{journeyRule, codeRule, workRoom, planRoom, cleared, PlanOutcome, refusedPlan, planAnswered, planSound, planOutcome}
+use Rattle.planner.specs.Outcome.{
+  journeyRule,
+  codeRule,
+  workRoom,
+  planRoom,
+  cleared,
+  PlanOutcome,
+  refusedPlan,
+  planAnswered,
+  planSound,
+  planOutcome,
+}
 use Rattle.planner.specs.Steps.{FoundSound}
 use Rattle.planner.proofs.Rules.{journey-gives, code-gives}
 use Rattle.planner.proofs.Answered.{

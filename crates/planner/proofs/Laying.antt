@@ -64,5 +64,6 @@ module _ (f : Format) (file : List ℕ) (q : Query) (asked : Asked f file q) (s 
   -- E is a minute of 16 bits that does not lie before T
   pub arrival-there : (e : ℕ) → earliest (decode f file) q ≡ some e → (q .minute ≤ e) × (e < 65536)
   arrival-there e found =
-      earliest-fits file s rows-stand (subst (λ (x : Sailings). Timely (timetableIn file x)) (sym where-they-stand) (timely f (asked .plannable) file (asked .sound)))
+      earliest-fits file s rows-stand
+      (subst (λ (x : Sailings). Timely (timetableIn file x)) (sym where-they-stand) (timely f (asked .plannable) file (asked .sound)))
       q e (sym earliest-there ∙ found)

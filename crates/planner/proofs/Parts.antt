@@ -37,7 +37,8 @@ within-idle t timely target bound end within =
     (λ e. subst (Idle (offInTicks target bound) target t) (sym (within .all (eqb-true bound 0 e))) (idle-end (offInTicks target bound) target t))
     (λ e. bound-idle t timely target bound (eqb-false bound 0 e) end (within .before (eqb-false bound 0 e)))
 
-within-ordered : (rows : List Row) (minute bound first end : ℕ) → Cut rows minute first → Reaches minute bound → RowsWithin rows bound end → first ≤ end
+within-ordered : (rows : List Row) (minute bound first end : ℕ) → Cut rows minute first → Reaches minute bound → RowsWithin rows bound end
+    → first ≤ end
 within-ordered rows minute bound first end cut reaches within =
     ifb (λ _. first ≤ end) (eqb bound 0) (λ e. omega (arith, cut .inside, within .all (eqb-true bound 0 e)))
     (λ e. cuts-in-order rows minute bound first end cut (within .before (eqb-false bound 0 e)) (reaches (eqb-false bound 0 e)))

@@ -1,4 +1,4 @@
--- Document 01, "What every contract settles": any two outcomes that an entry point permits coincide, in the answer and in every lent slice. Assumes nothing.
+-- Document 01, "What every contract settles": any two outcomes that an entry point permits coincide, slices too. Assumes nothing.
 use mathlib.Core.Path.{_≡_, sym, _∙_}
 use contract.Lifetimes.{Lfts}
 use denote.Ref.{now}

@@ -175,7 +175,8 @@ module _ (t : Timetable) (timely : Timely t) where
       ∙ first-same (offInTicks target bound) target minute first cut stop
       ∙ ap (λ (vs : List Valued). firstOpen vs stop minute) (sym (part-chosen (offInTicks target bound) target t end idle first h))
 
-  pub part-rides : (q : Query) (bound first end : ℕ) → Cut (t .rows) (q .minute) first → first ≤ end → Idle (offInTicks (q .target) bound) (q .target) t end
+  pub part-rides : (q : Query) (bound first end : ℕ) → Cut (t .rows) (q .minute) first → first ≤ end
+      → Idle (offInTicks (q .target) bound) (q .target) t end
       → ridesFrom q (chosenFor t (q .target) bound) ≡ ridesFrom q (scanPart (offInTicks (q .target) bound) (q .target) t first end .chosen)
   unfolding ridesFrom
   part-rides q bound first end cut h idle =
@@ -186,4 +187,5 @@ module _ (t : Timetable) (timely : Timely t) where
       (part-first (q .target) bound (q .source) (q .minute) first end cut h idle) whole
       ∙ rides-same off (q .target) (q .minute) first cut (q .target) (q .source)
       (firstOpen (scanPart off (q .target) t first end .chosen) (q .source) (q .minute))
-      ∙ ap (extract (q .target) (upTo (q .source) (q .minute) (firstOpen (scanPart off (q .target) t first end .chosen) (q .source) (q .minute)))) (sym part)
+      ∙ ap (extract (q .target) (upTo (q .source) (q .minute) (firstOpen (scanPart off (q .target) t first end .chosen) (q .source) (q .minute))))
+      (sym part)

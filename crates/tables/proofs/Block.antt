@@ -104,14 +104,21 @@ module _
     -- the sum of delay × share is no more than 254 wholes
     pub late-small : late ≤ 254 * whole
     late-small =
-        omega (arith, late-of-table, late-bound (tableAt file at) 0 254 (omega (arith, stands .shares-fit .few-shares)), ap (λ n. 254 * n) (stands .shares-fit .shares-whole))
+        omega (
+          arith,
+          late-of-table,
+          late-bound (tableAt file at) 0 254 (omega (arith, stands .shares-fit .few-shares)),
+          ap (λ n. 254 * n)
+              (stands .shares-fit .shares-whole),
+        )
 
     pub block-ends : at + 4 + 2 * longest' ≡ blockEnd file at
     unfolding blockEnd
     block-ends = omega (arith, read)
 
     pub table-held : (cells cells' : List ℕ) (k longest-cell expected-cell : ℕ) → k < 16 → length cells ≡ 4096
-        → Summed cells cells' (256 * k + 2) (sharesFrom file (at + 2) (suc longest')) (suc longest') → longest-cell ≡ longest' → expected-cell ≡ (late + 15) / 16
+        → Summed cells cells' (256 * k + 2) (sharesFrom file (at + 2) (suc longest')) (suc longest') → longest-cell ≡ longest'
+        → expected-cell ≡ (late + 15) / 16
         → BlockHeld (set (set cells' (256 * k + 0) longest-cell) (256 * k + 1) expected-cell) k (tableAt file at)
         × SameOutside cells (set (set cells' (256 * k + 0) longest-cell) (256 * k + 1) expected-cell) k
     table-held cells cells' k longest-cell expected-cell inside room summed l e =

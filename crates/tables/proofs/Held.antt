@@ -61,7 +61,8 @@ read-more file s b cells cells' k block end so-far inside ends here same =
   where
     at : (c : ℕ) → (c ≡ k) ⊎ (c < k) → BlockHeld cells' c (sharesOf (tablesIn file s) c)
     at c (inr earlier) =
-        block-kept cells cells' k c (sharesOf (tablesIn file s) c) same earlier (b .shares-fit c (let z : c < s .classes = omega arith in z) .few-shares)
+        block-kept cells cells' k c (sharesOf (tablesIn file s) c) same earlier
+        (b .shares-fit c (let z : c < s .classes = omega arith in z) .few-shares)
         (so-far .held c earlier)
     at c (inl e) =
         subst (λ n. BlockHeld cells' n (sharesOf (tablesIn file s) n)) (sym e)

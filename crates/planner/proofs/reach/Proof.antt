@@ -11,22 +11,22 @@ use borrow.Author.Needs.{needs}
 use Rattle.planner.proofs.reach.Statement.{statement}
 use Rattle.planner.proofs.reach.Tie as tie
 
--- src/rt:204:9
+-- the entry, from where the query is read
+abbrev begun : tie.After-number3 → tie.Start
+begun c = c .before .before .before .before .before .before
+
 number-requires : tie.Need-number-requires
 number-requires c κs = search needs
 
--- src/rt:205:9
 number-requires-2 : tie.Need-number-requires-2
 number-requires-2 c κs = search needs
 
--- src/rt:206:9
 number-requires-3 : tie.Need-number-requires-3
 number-requires-3 c κs = search needs
 
--- src/rt:207:5
 earliest-arrival-requires : tie.Need-earliest-arrival-requires
 earliest-arrival-requires c κs =
-    let a = c .before .before .before .before .before .before .before in
+    let a = begun (c .before) in
     let laid = a .pre .0 in
     let source = c .before .before .before .number .ensures .0 in
     let target = c .before .before .number2 .ensures .0 in
@@ -41,16 +41,17 @@ earliest-arrival-requires c κs =
       a .pre .1,
     )
 
--- src/rt:193:1
 same-length : tie.Need-same-length
 same-length c = search needs
 
--- src/rt:193:1
 returns : tie.Need-returns
 returns c =
-    let a = c .before .before .before .before .before .before .before .before .before .before .args in
+    let a = begun (c .before .before .before .before) .args in
     let r = c .before .before .earliest-arrival in (
-      r .ensures .0 (a .q .code) ∙ ap (λ (x : Query). cellOf (earliest (timetableIn (a .file .now) (a .s)) x)) (as-asked (a .q) _ _ _ (c .before .before .before .before .before .before .number .ensures .0) (c .before .before .before .before .before .number2 .ensures .0) (c .before .before .before .before .number3 .ensures .0)),
+      r .ensures .0 (a .q .code)
+          ∙ ap (λ (x : Query). cellOf (earliest (timetableIn (a .file .now) (a .s)) x))
+          (as-asked (a .q) _ _ _ (c .before .before .before .before .before .before .number .ensures .0)
+          (c .before .before .before .before .before .number2 .ensures .0) (c .before .before .before .before .number3 .ensures .0)),
       record { same-length = r .ensures .1; kept = r .ensures .2 },
     )
 

@@ -6,15 +6,12 @@ use borrow.Author.Needs.{needs}
 use Rattle.planner.proofs.sailings_in.Statement.{statement}
 use Rattle.planner.proofs.sailings_in.Tie as tie
 
--- src/rt:182:30
 sub-head-at : tie.Need-sub-head-at
 sub-head-at c = search needs
 
--- src/rt:182:9
 head-at-requires : tie.Need-head-at-requires
 head-at-requires c κs = search needs
 
--- src/rt:178:1
 returns : tie.Need-returns
 unfolding headOf trailerAt
 returns c =

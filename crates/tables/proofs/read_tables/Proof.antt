@@ -26,7 +26,8 @@ read-table-requires c κs =
     let l = c .before .before .before in
     let a = l .before .before .before in
     let inside : l .loop .k < a .args .s .classes = omega arith in (
-      subst (BlockStands (a .args .file .now)) (sym (l .loop .inv .next)) (block-stands (a .args .file .now) (a .args .s) (a .pre .0) (l .loop .k) inside),
+      subst (BlockStands (a .args .file .now)) (sym (l .loop .inv .next))
+          (block-stands (a .args .file .now) (a .args .s) (a .pre .0) (l .loop .k) inside),
       omega (arith, a .pre .0 .few-classes),
       l .loop .inv .room,
     )
