@@ -1,22 +1,21 @@
 -- Demands 2 and 3 of what the planning call answers, for every list of bytes, query and pair of slices, in the terms of its contract. Assumes nothing.
-use Prim.Native.Nat.{ℕ, _+_, _*_, _≤_, _<_}
+use Prim.Native.Nat.{ℕ, _*_, _≤_, _<_}
 use native.Mathlib.Omega.{arith}
 use mathlib.Core.Bool.{true, false, _&&_}
-use mathlib.Core.List.{List, [], _∷_, _++_, List·Memᴰ}
-use mathlib.Core.Logic.{_↔_, _≢_, _⊎_, inl, inr}
+use mathlib.Core.List.{List, [], _∷_, List·Memᴰ}
+use mathlib.Core.Logic.{_↔_, _≢_, inl, inr}
 use mathlib.Core.Option.{Option, none, some}
-use mathlib.Core.Path.{_≡_, refl, sym, ap, subst, _∙_}
+use mathlib.Core.Path.{_≡_, refl, sym, ap, _∙_}
 use lib.Dec.{leb}
 use lib.ListN.{length, take, drop}
 use lib.Seq.{take-append-seam, drop-append-seam}
 use borrow.Author.Tests.{le-leb, lt-leb}
 use Rattle.laws.proofs.Tests.{both}
 use Rattle.timetable.specs.Timetable.{Timetable}
-use Rattle.timetable.proofs.Places.{Placed, number-small}
-use Rattle.layout.specs.declared.Format.{Format}
+use Rattle.timetable.proofs.Places.{number-small}
 use Rattle.layout.specs.declared.Checked.the-variants.{Sound, Refused}
 use Rattle.layout.specs.Format.{versionOne}
-use Rattle.layout.specs.Decode.{headOf, decode}
+use Rattle.layout.specs.Decode.{decode}
 use Rattle.layout.specs.Check.{checked}
 use Rattle.layout.proofs.Refusals.{refused-placed}
 use Rattle.plans.specs.declared.Query.{Query}
@@ -27,14 +26,13 @@ use Rattle.plans.specs.Worth.{Valued}
 use Rattle.plans.specs.SafePlan.{SafePlan, Rising, expectedOf}
 use Rattle.plans.specs.Words.{InPlan}
 use Rattle.plans.specs.Passenger.{Carries}
-use Rattle.plans.specs.Plan.{Plan, planned, earliest, chosenFor}
+use Rattle.plans.specs.Plan.{Plan, planned, chosenFor}
 use Rattle.plans.proofs.PlanExists.{CodeStands}
 use Rattle.plans.proofs.PlanIsSafe.{ridesOf}
 use Rattle.plans.proofs.Demand2 as demand2
 use Rattle.plans.proofs.Demand3 as demand3
 use Rattle.reading.proofs.Standing.{timely}
 use Rattle.extract.specs.Extracted.{written, over}
-use Rattle.planner.specs.declared.Planned.{Planned}
 use Rattle.planner.specs.declared.Planned.the-variants.{Plan as AsPlan, Refused as NoPlan}
 use Rattle.planner.specs.Outcome.{
   journeyRule,
@@ -48,7 +46,6 @@ use Rattle.planner.specs.Outcome.{
   planSound,
   planOutcome,
 }
-use Rattle.planner.specs.Steps.{FoundSound}
 use Rattle.planner.proofs.Rules.{journey-gives, code-gives}
 use Rattle.planner.proofs.Answered.{
   refused-by-check,

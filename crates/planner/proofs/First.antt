@@ -1,34 +1,32 @@
 -- The first chosen row at the source: what the top of the source's stack holds, and the plan that it begins. Uses a sound file's rows.
-use Prim.Native.Nat.{ℕ, zero, suc, pred, _+_, _-_, _*_, _%_, _≤_, _<_}
+use Prim.Native.Nat.{ℕ, suc, pred, _+_, _-_, _*_, _%_, _≤_, _<_}
 use native.Mathlib.Omega.{arith}
-use mathlib.Core.Bool.{true, false, cond}
-use mathlib.Core.List.{List, [], _∷_, _++_, map, List·Memᴰ, List·Memᴰ·head}
+use mathlib.Core.Bool.{cond}
+use mathlib.Core.List.{List, [], _∷_, _++_, List·Memᴰ}
 use mathlib.Core.Option.{Option, none, some}
-use mathlib.Core.Path.{_≡_, refl, sym, ap, subst, _∙_}
+use mathlib.Core.Path.{_≡_, sym, ap, subst, _∙_}
 use lib.ListN.{length, getD}
 use lib.Seq.{slice, length-slice}
 use Rattle.laws.proofs.Tests.{ifb}
 use Rattle.laws.proofs.Places.{member-at}
-use Rattle.timetable.specs.Timetable.{Timetable, rowOf}
+use Rattle.timetable.specs.Timetable.{Timetable}
 use Rattle.timetable.specs.declared.Row.{Row}
 use Rattle.plans.specs.declared.Query.{Query}
-use Rattle.plans.specs.Rides.{Ride, boards}
+use Rattle.plans.specs.Rides.{Ride}
 use Rattle.plans.specs.Worth.{Valued, firstOpen}
-use Rattle.plans.specs.Chosen.{GettingOff, Scan, scan, choose, others, offInTicks, bestOf}
-use Rattle.plans.specs.Plan.{Plan, Window, wanted, upTo, windowsOf, extract, ridesFrom, latestOf, chosenFor, planWithin}
+use Rattle.plans.specs.Chosen.{GettingOff, scan, choose, others, offInTicks, bestOf}
+use Rattle.plans.specs.Plan.{Window, wanted, upTo, windowsOf, extract, ridesFrom, latestOf, chosenFor, planWithin}
 use Rattle.plans.proofs.Choice.{choice, Choice, worthless, at-target, behind, added, same-minute}
-use Rattle.plans.proofs.FromRow.{chosenFrom}
 use Rattle.plans.proofs.BestRides.{best-boards, chosen-picked}
-use Rattle.cells.specs.Cells.{Entry, entryAt, stackAt, stackStart, stackSize, pairs}
+use Rattle.cells.specs.Cells.{Entry, entryAt, stackStart, stackSize}
 use Rattle.reading.specs.declared.Sailings.{Sailings}
-use Rattle.reading.specs.Reading.{rowsIn, tablesIn, timetableIn, Cut, Stand}
+use Rattle.reading.specs.Reading.{timetableIn}
 use Rattle.reading.proofs.Cuts.{Idle, scanPart, part-chosen, part-first, part-rides}
-use Rattle.landing.specs.declared.Goal.{Goal}
-use Rattle.landing.specs.Landing.{atStop, entryOf, StackHolds, EntryFits}
+use Rattle.landing.specs.Landing.{atStop, entryOf, EntryFits}
 use Rattle.landing.proofs.AtStop.{first-open-at-stop, first-open-at, first-open-none, at-stop-from, at-stop-member}
 use Rattle.landing.proofs.Stack.{stack-size, entry-at}
-use Rattle.scan.specs.Scanned.{scanIn, ScanHeld}
-use Rattle.planner.specs.Steps.{Laid, Part, planIn}
+use Rattle.scan.specs.Scanned.{ScanHeld}
+use Rattle.planner.specs.Steps.{Laid, planIn}
 
 -- chosen rides are no more than the rows
 others-few : (r : Ride) (vs : List Valued) → length (others r vs) ≤ length vs

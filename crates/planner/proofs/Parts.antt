@@ -1,21 +1,19 @@
 -- The part of the rows that planning looks at, by T and the bound. Uses a sound file's rows.
 use Prim.Native.Nat.{ℕ, _≤_, _<_}
 use native.Mathlib.Omega.{arith}
-use mathlib.Core.Bool.{true, false}
 use mathlib.Core.List.{List}
-use mathlib.Core.Logic.{_≢_}
-use mathlib.Core.Path.{_≡_, refl, sym, subst, _∙_}
+use mathlib.Core.Path.{_≡_, sym, subst}
 use lib.Dec.{eqb, ltb}
 use lib.ListN.{length}
 use borrow.Author.Tests.{eqb-true, eqb-false, ltb-true, ltb-false}
 use Rattle.laws.proofs.Tests.{ifb}
-use Rattle.timetable.specs.Timetable.{Timetable, rowOf}
+use Rattle.timetable.specs.Timetable.{Timetable}
 use Rattle.timetable.specs.declared.Row.{Row}
 use Rattle.plans.specs.declared.Query.{Query}
 use Rattle.plans.specs.Sound.{Timely}
 use Rattle.plans.specs.Chosen.{offInTicks}
 use Rattle.reading.specs.declared.Sailings.{Sailings}
-use Rattle.reading.specs.Reading.{rowsIn, timetableIn, Cut, Stand}
+use Rattle.reading.specs.Reading.{rowsIn, timetableIn, Cut}
 use Rattle.reading.proofs.Cuts.{Idle, idle-end, bound-idle}
 use Rattle.landing.specs.declared.Goal.{Goal}
 use Rattle.planner.specs.Steps.{Laid, Reaches, RowsWithin, Part}

@@ -1,7 +1,7 @@
 -- Document 01's refusal 6, test by test, and what a query that keeps its rule is. Assumes nothing.
 use Prim.Native.Nat.{ℕ, _≤_, _<_}
 use native.Mathlib.Omega.{arith}
-use mathlib.Core.Bool.{Bool, true, false, not, _&&_, _||_}
+use mathlib.Core.Bool.{Bool, true, false, not, _&&_}
 use mathlib.Core.Logic.{_⊎_, inl, inr, _≢_}
 use mathlib.Core.List.{List}
 use mathlib.Core.Path.{_≡_, refl}
@@ -9,10 +9,7 @@ use lib.Dec.{leb, ltb, eqb}
 use borrow.Author.Tests.{ltb-true, leb-true, eqb-true, eqb-false, lt-ltb, le-ltb, le-leb, lt-leb, eq-eqb, ne-eqb, not-true}
 use Rattle.laws.proofs.Tests.{both-left, both-right, either}
 use Rattle.layout.specs.declared.Format.{Format}
-use Rattle.layout.specs.Decode.{headOf, decode}
-use Rattle.layout.proofs.Sound.{SoundFile}
 use Rattle.plans.specs.declared.Query.{Query}
-use Rattle.reading.specs.Sections.{Plannable}
 use Rattle.planner.specs.Outcome.{journeyRule, codeRule}
 use Rattle.planner.specs.Steps.{FoundSound, Asked}
 

@@ -1,12 +1,11 @@
 -- Document 01, "Tried and shut out": five wrong planners, none of which meets the contract of the planning call. Assumes nothing.
-use Prim.Native.Nat.{ℕ, _+_, _*_, _≤_, _<_}
+use Prim.Native.Nat.{ℕ, _≤_}
 use native.Mathlib.Omega.{arith}
 use mathlib.Core.Bool.{true}
-use mathlib.Core.List.{List, [], _∷_, _++_}
+use mathlib.Core.List.{List, [], _∷_}
 use mathlib.Core.Logic.{_≢_}
-use mathlib.Core.Option.{Option, none, some}
-use mathlib.Core.Path.{_≡_, refl, sym, ap, subst, _∙_}
-use lib.ListN.{length, getD, drop, replicate, length-replicate}
+use mathlib.Core.Path.{_≡_, refl, sym, ap, _∙_}
+use lib.ListN.{length, getD, replicate, length-replicate}
 use Rattle.timetable.specs.Rows.{ownRule, departureRule, lastOfTrip, follows, tripRule, rowVerdict, rowsVerdict}
 use Rattle.timetable.specs.Classes.{sum, sharesRule}
 use Rattle.layout.specs.declared.Checked.the-variants.{Sound}
@@ -16,14 +15,14 @@ use Rattle.layout.specs.Encode.{encode, rowsBytes, rowBytes, tablesBytes, table
 use Rattle.layout.specs.Decode.{decode, headOf, headAt, trailerAt, rowsFrom, rowAt, tablesFrom, tableAt, sharesFrom, blockEnd, tablesEnd}
 use Rattle.layout.specs.Check.{checked, checkedAs, fileVerdict, headVerdict, lengthRule, headRule, classVerdict, classesVerdict, joined, sectionsJoin, rangesOf, answered}
 use Rattle.plans.specs.declared.Query.{Query}
-use Rattle.plans.specs.Worth.{Valued, weigh, firstOpen, worthOr, caught, arrivalWorth, changeWorth}
+use Rattle.plans.specs.Worth.{weigh, firstOpen, worthOr, caught, arrivalWorth, changeWorth}
 use Rattle.plans.specs.Chosen.{whenSafe, offInTicks, worthOf, offInMinutes, nextOf, getOff, stayOn, least, firstAt, leads, others, choose, bestOf, scan, scanned}
-use Rattle.plans.specs.Plan.{Plan, earliest, chosenFor, inWindow, wanted, upTo, windowsOf, extract, ridesFrom, latestOf, planWithin, planBefore, planned}
+use Rattle.plans.specs.Plan.{earliest, chosenFor, inWindow, wanted, upTo, windowsOf, extract, ridesFrom, latestOf, planWithin, planBefore, planned}
 use Rattle.plans.specs.Cases.{w, oneTrip, query}
 use Rattle.extract.specs.Extracted.{written, over}
 use Rattle.planner.specs.declared.Planned.{Planned}
 use Rattle.planner.specs.declared.Planned.the-variants.{Plan as AsPlan, Refused as NoPlan}
-use Rattle.planner.specs.Outcome.{journeyRule, codeRule, workRoom, planRoom, cleared, PlanOutcome, planAnswered, planOutcome}
+use Rattle.planner.specs.Outcome.{journeyRule, codeRule, workRoom, cleared, PlanOutcome, planAnswered, planOutcome}
 use Rattle.planner.proofs.Demands.{answered-outcome, refused-not-plan}
 
 -- a planner, and that it meets the contract: its answer and both slices are the outcome's on all arguments

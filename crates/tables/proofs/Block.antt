@@ -1,18 +1,18 @@
 -- A class's block of cells: its running sums, then its longest and its expected delay. Assumes nothing.
 use Prim.Native.Nat.{ℕ, suc, pred, _+_, _*_, _/_, _≤_, _<_}
 use mathlib.Core.List.{List}
-use mathlib.Core.Logic.{_⊎_, inl, inr, ⊎-elim}
-use mathlib.Core.Path.{_≡_, refl, sym, ap, subst, _∙_}
+use mathlib.Core.Logic.{inl, inr, ⊎-elim}
+use mathlib.Core.Path.{_≡_, sym, ap, subst, _∙_}
 use native.Mathlib.Omega.{arith}
-use lib.ListN.{length, getD, take, set, length-set}
+use lib.ListN.{length, getD, set, length-set}
 use lib.Seq.{getD-set-same, getD-set-other}
 use Rattle.timetable.specs.Timetable.{longest}
 use Rattle.timetable.specs.Classes.{whole, sum}
 use Rattle.layout.specs.Decode.{sharesFrom, tableAt, blockEnd}
 use Rattle.layout.specs.Numbers.{u16At}
-use Rattle.layout.proofs.Blocks.{shares-length, table-has}
+use Rattle.layout.proofs.Blocks.{table-has}
 use Rattle.plans.specs.Worth.{up, weigh}
-use Rattle.reading.specs.Reading.{blockCell, BlockHeld, SharesFit}
+use Rattle.reading.specs.Reading.{blockCell, BlockHeld}
 use Rattle.tables.specs.Summed.{BlockStands, SharesStand, Summed, SameOutside}
 
 -- the two cells ahead of the running sums

@@ -1,5 +1,5 @@
 -- `planner::bound_of` meets its contract, and no number in it wraps. Assumes nothing.
-use Prim.Native.Nat.{_-_, _<_, _≤_}
+use Prim.Native.Nat.{_-_}
 use native.Mathlib.Omega.{arith}
 use Rattle.planner.proofs.Bounds.{no-bound, real-bound, quarters-fit}
 use borrow.Author.Needs.{needs}

@@ -1,5 +1,4 @@
 -- `planner::code_rule` meets its contract: 0, or 4 to 16. Assumes nothing.
-use Prim.Native.Nat.{_<_, _≤_}
 use native.Mathlib.Omega.{arith}
 use Rattle.planner.proofs.Rules.{no-code, code-small, code-decides}
 use Rattle.planner.proofs.code_rule.Statement.{statement}

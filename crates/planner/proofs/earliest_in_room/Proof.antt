@@ -1,5 +1,4 @@
 -- `planner::earliest_in_room` meets its contract: the tables and rows of a sound file are laid out, then E is found. Assumes nothing.
-use Prim.Native.Nat.{_≤_}
 use mathlib.Core.Path.{refl, sym, ap, _∙_}
 use native.Mathlib.Omega.{arith}
 use Rattle.cells.specs.Cells.{cellOf}

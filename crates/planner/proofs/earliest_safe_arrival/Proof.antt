@@ -1,5 +1,5 @@
 -- `planner::earliest_safe_arrival` meets its contract: the check's refusals, then E in a sound file. Assumes nothing.
-use mathlib.Core.Path.{_≡_, sym, ap, ap₂, _∙_}
+use mathlib.Core.Path.{sym, ap, ap₂, _∙_}
 use native.Mathlib.Omega.{arith}
 use Rattle.layout.specs.Format.{versionOne}
 use Rattle.planner.specs.declared.Earliest.the-variants.{Refused as NoArrival}

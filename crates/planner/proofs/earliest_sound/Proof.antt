@@ -1,10 +1,8 @@
 -- `planner::earliest_sound` meets its contract: 6, then 7, then E or 8 with work cleared. Assumes nothing.
-use Prim.Native.Nat.{ℕ, _<_, _≤_}
-use mathlib.Core.Bool.{true, false}
+use Prim.Native.Nat.{_<_, _≤_}
 use mathlib.Core.List.{[]}
 use mathlib.Core.Path.{_≡_, refl, sym, ap, _∙_}
 use native.Mathlib.Omega.{arith}
-use lib.Dec.{leb}
 use lib.ListN.{length}
 use borrow.Author.Tests.{not-true, not-false, le-leb, lt-leb}
 use Rattle.layout.specs.Decode.{headOf, decode}

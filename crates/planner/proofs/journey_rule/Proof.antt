@@ -1,6 +1,5 @@
 -- `planner::journey_rule` meets its contract: a test that fails breaks the rule, and the last decides once the others hold. Assumes nothing.
-use Prim.Native.Nat.{_<_, _≤_}
-use mathlib.Core.Path.{_≡_, ap, _∙_}
+use mathlib.Core.Path.{ap, _∙_}
 use native.Mathlib.Omega.{arith}
 use lib.Dec.{leb}
 use Rattle.planner.proofs.Rules.{source-outside, target-outside, one-stop, minute-decides}

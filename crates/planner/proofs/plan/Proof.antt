@@ -1,5 +1,5 @@
 -- `planner::plan` meets its contract: the check's refusals, then planning in a sound file. Assumes nothing.
-use mathlib.Core.Path.{_≡_, sym, ap, ap₂, _∙_}
+use mathlib.Core.Path.{sym, ap, ap₂, _∙_}
 use native.Mathlib.Omega.{arith}
 use Rattle.layout.specs.Format.{versionOne}
 use Rattle.planner.specs.declared.Planned.the-variants.{Refused as NoPlan}

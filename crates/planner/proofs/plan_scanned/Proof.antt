@@ -1,8 +1,8 @@
 -- `planner::plan_scanned` meets its contract: the top of the source's stack begins the plan. Assumes nothing.
-use Prim.Native.Nat.{ℕ, _+_, _-_, _*_, _%_, _<_, _≤_}
+use Prim.Native.Nat.{_+_, _-_, _*_, _%_, _<_, _≤_}
 use mathlib.Core.Path.{_≡_, refl, sym, ap, ap₂, subst, _∙_}
 use native.Mathlib.Omega.{arith}
-use lib.ListN.{length, getD}
+use lib.ListN.{getD}
 use Rattle.cells.specs.Cells.{used, stackSize}
 use Rattle.scan.specs.Scanned.{scanIn}
 use Rattle.extract.specs.Extracted.{FirstRide}

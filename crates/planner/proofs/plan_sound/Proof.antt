@@ -1,6 +1,6 @@
 -- `planner::plan_sound` meets its contract: 6, then 7, then the answer with work cleared. Assumes nothing.
-use Prim.Native.Nat.{ℕ, _<_, _≤_}
-use mathlib.Core.Bool.{true, false, _&&_}
+use Prim.Native.Nat.{_<_, _≤_}
+use mathlib.Core.Bool.{true, _&&_}
 use mathlib.Core.Path.{_≡_, sym, ap, _∙_}
 use native.Mathlib.Omega.{arith}
 use lib.Dec.{leb}

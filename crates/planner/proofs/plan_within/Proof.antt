@@ -1,6 +1,6 @@
 -- `planner::plan_within` meets its contract: the part of the rows that a plan can board is scanned, and the plan read off it. Assumes nothing.
-use Prim.Native.Nat.{ℕ, _≤_, _<_}
-use mathlib.Core.Path.{_≡_, sym, subst}
+use Prim.Native.Nat.{_≤_}
+use mathlib.Core.Path.{sym, subst}
 use native.Mathlib.Omega.{arith}
 use lib.ListN.{length}
 use Rattle.cells.specs.Cells.{used}

@@ -1,6 +1,5 @@
 -- `planner::reach` meets its contract: the scan forward of the rows from T on. Assumes nothing.
-use Prim.Native.Nat.{_<_, _≤_}
-use mathlib.Core.Path.{_≡_, sym, ap, subst, _∙_}
+use mathlib.Core.Path.{sym, ap, subst, _∙_}
 use native.Mathlib.Omega.{arith}
 use Rattle.plans.specs.declared.Query.{Query}
 use Rattle.plans.specs.Plan.{earliest}

@@ -1,9 +1,8 @@
 -- `tables::read_shares` meets its contract: so far the first `minute` running sums stand in their cells. Assumes nothing.
-use Prim.Native.Nat.{ℕ, suc, _+_, _-_, _*_, _≤_}
+use Prim.Native.Nat.{suc, _+_, _-_, _*_, _≤_}
 use mathlib.Core.Path.{_≡_, ap, sym, subst, _∙_}
 use native.Mathlib.Omega.{arith}
-use borrow.Author.Needs.{needs}
-use lib.ListN.{length, take, set}
+use lib.ListN.{take, set}
 use lib.Seq.{take-all}
 use Rattle.timetable.specs.Classes.{whole}
 use Rattle.layout.specs.Decode.{sharesFrom}

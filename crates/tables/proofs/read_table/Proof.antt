@@ -1,9 +1,9 @@
 -- `tables::read_table` meets its contract: the running sums, then the two cells ahead of them. Assumes nothing.
-use Prim.Native.Nat.{ℕ, _+_, _*_, _<_, _≤_}
+use Prim.Native.Nat.{_+_, _*_, _≤_}
 use mathlib.Core.Path.{sym, subst}
 use native.Mathlib.Omega.{arith}
 use borrow.Author.Needs.{needs}
-use lib.ListN.{length, set, length-set}
+use lib.ListN.{length-set}
 use Rattle.timetable.specs.Classes.{whole}
 use Rattle.layout.specs.Decode.{blockEnd}
 use Rattle.tables.specs.Summed.{SharesStand}

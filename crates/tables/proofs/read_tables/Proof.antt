@@ -1,10 +1,7 @@
 -- `tables::read_tables` meets its contract: so far the blocks of the first k classes are held. Assumes nothing.
-use Prim.Native.Nat.{ℕ, _+_, _-_, _<_, _≤_}
+use Prim.Native.Nat.{_-_, _<_}
 use mathlib.Core.Path.{sym, subst, _∙_}
 use native.Mathlib.Omega.{arith}
-use lib.ListN.{length}
-use Rattle.reading.specs.Reading.{BlockHeld, tablesIn}
-use Rattle.timetable.specs.Timetable.{sharesOf}
 use Rattle.tables.specs.Summed.{BlockStands}
 use Rattle.tables.proofs.Held.{ReadSoFar, block-stands, read-none, read-more}
 use Rattle.tables.proofs.read_tables.Statement.{statement}
