@@ -1,15 +1,14 @@
 -- Each way that planning ends, as the outcome says it: a refusal by its number, or the answer with work cleared. Assumes nothing.
-use Prim.Native.Nat.{ℕ, _+_, _-_, _*_, _≤_, _<_}
+use Prim.Native.Nat.{ℕ, _+_, _-_, _≤_, _<_}
 use native.Mathlib.Omega.{arith}
-use mathlib.Core.Bool.{Bool, true, false, cond, _&&_}
-use mathlib.Core.List.{List, [], _∷_, _++_}
-use mathlib.Core.Logic.{_≢_}
+use mathlib.Core.Bool.{Bool, true, false, _&&_}
+use mathlib.Core.List.{List, [], _++_}
 use mathlib.Core.Option.{Option, none, some}
-use mathlib.Core.Path.{_≡_, refl, sym, ap, ap₂, subst, _∙_}
+use mathlib.Core.Path.{_≡_, refl, sym, ap, subst, _∙_}
 use lib.Dec.{leb}
 use lib.ListN.{length, getD, drop, replicate}
 use lib.Seq.{drop-drop}
-use Rattle.laws.proofs.Tests.{both, cond-true, cond-false}
+use Rattle.laws.proofs.Tests.{cond-true, cond-false}
 use Rattle.timetable.specs.Timetable.{Timetable}
 use Rattle.timetable.proofs.Places.{number-small, place-small}
 use Rattle.layout.specs.declared.Format.{Format}
@@ -22,7 +21,6 @@ use Rattle.layout.proofs.Sound.{checked-gives, sound-checked}
 use Rattle.layout.proofs.Refusals.{refused-placed}
 use Rattle.plans.specs.declared.Query.{Query}
 use Rattle.plans.specs.Plan.{Plan, planned, planBefore, earliest}
-use Rattle.plans.specs.Journeys.{boundOf}
 use Rattle.cells.specs.Cells.{missing, cellOf, filled}
 use Rattle.extract.specs.Extracted.{written, over}
 use Rattle.reading.proofs.Standing.{version-one-plannable}

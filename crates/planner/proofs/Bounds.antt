@@ -1,25 +1,24 @@
 -- The numbers of planning fit their cells: E is a minute of 16 bits that does not lie before T, and so the bound fits. Uses a sound file's rows.
 use Prim.Native.Nat.{ℕ, _+_, _-_, _*_, _/_, _≤_, _<_}
-use native.Mathlib.Nat.{mul-le-mul-right, mul-le-mul-left}
+use native.Mathlib.Nat.{mul-le-mul-right}
 use native.Mathlib.Omega.{arith}
-use mathlib.Core.Bool.{Bool, true, false, cond}
+use mathlib.Core.Bool.{cond}
 use mathlib.Core.List.{List}
 use mathlib.Core.Logic.{_≢_}
 use mathlib.Core.Option.{some}
-use mathlib.Core.Path.{_≡_, refl, sym, ap, subst, _∙_}
+use mathlib.Core.Path.{_≡_, refl, sym, subst}
 use lib.Dec.{eqb}
 use borrow.Author.Tests.{eq-eqb, ne-eqb}
 use Rattle.laws.proofs.Tests.{ifb, cond-true, cond-false}
-use Rattle.timetable.specs.Timetable.{sharesOf, longest, rowOf}
 use Rattle.plans.specs.declared.Query.{Query}
 use Rattle.plans.specs.Sound.{Timely}
 use Rattle.plans.specs.Rides.{Ride, IsRide, latest}
-use Rattle.plans.specs.Journeys.{Onward, leaves, changes, Journey, boundOf}
+use Rattle.plans.specs.Journeys.{Onward, leaves, changes, boundOf}
 use Rattle.plans.specs.Plan.{earliest}
 use Rattle.plans.proofs.EarliestSafe.{earliest-is-least}
 use Rattle.plans.proofs.PlanExists.{journey-after}
 use Rattle.reading.specs.declared.Sailings.{Sailings}
-use Rattle.reading.specs.Reading.{timetableIn, rowsIn, tablesIn, Stand}
+use Rattle.reading.specs.Reading.{timetableIn, Stand}
 use Rattle.planner.specs.Steps.{Reaches}
 
 module _ (file : List ℕ) (s : Sailings) (stand : Stand file s) where

@@ -2,14 +2,14 @@
 use Prim.Native.Nat.{ℕ, _≤_, _<_}
 use native.Mathlib.Omega.{arith}
 use mathlib.Core.List.{List}
-use mathlib.Core.Option.{Option, none, some}
+use mathlib.Core.Option.{some}
 use mathlib.Core.Path.{_≡_, sym, ap, subst, _∙_}
 use Rattle.layout.specs.declared.Format.{Format}
 use Rattle.layout.specs.Decode.{headOf, decode}
 use Rattle.plans.specs.declared.Query.{Query}
 use Rattle.plans.specs.Sound.{Timely}
 use Rattle.plans.specs.Journeys.{boundOf}
-use Rattle.plans.specs.Plan.{Plan, planned, planBefore, earliest}
+use Rattle.plans.specs.Plan.{planned, planBefore, earliest}
 use Rattle.reading.specs.declared.Sailings.{Sailings}
 use Rattle.reading.specs.Reading.{rowsIn, tablesIn, timetableIn, Stand, BlocksStand, Cut, TablesHeld}
 use Rattle.reading.specs.Sections.{sailingsOf}
@@ -64,5 +64,6 @@ module _ (f : Format) (file : List ℕ) (q : Query) (asked : Asked f file q) (s 
   -- E is a minute of 16 bits that does not lie before T
   pub arrival-there : (e : ℕ) → earliest (decode f file) q ≡ some e → (q .minute ≤ e) × (e < 65536)
   arrival-there e found =
-      earliest-fits file s rows-stand (subst (λ (x : Sailings). Timely (timetableIn file x)) (sym where-they-stand) (timely f (asked .plannable) file (asked .sound)))
+      earliest-fits file s rows-stand
+      (subst (λ (x : Sailings). Timely (timetableIn file x)) (sym where-they-stand) (timely f (asked .plannable) file (asked .sound)))
       q e (sym earliest-there ∙ found)

@@ -5,3 +5,6 @@ pub mod Parts
 pub mod First
 pub mod Answered
 pub mod Laying
+pub mod Settled
+pub mod Demands
+pub mod ShutOut

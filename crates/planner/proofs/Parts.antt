@@ -1,21 +1,19 @@
 -- The part of the rows that planning looks at, by T and the bound. Uses a sound file's rows.
 use Prim.Native.Nat.{ℕ, _≤_, _<_}
 use native.Mathlib.Omega.{arith}
-use mathlib.Core.Bool.{true, false}
 use mathlib.Core.List.{List}
-use mathlib.Core.Logic.{_≢_}
-use mathlib.Core.Path.{_≡_, refl, sym, subst, _∙_}
+use mathlib.Core.Path.{_≡_, sym, subst}
 use lib.Dec.{eqb, ltb}
 use lib.ListN.{length}
 use borrow.Author.Tests.{eqb-true, eqb-false, ltb-true, ltb-false}
 use Rattle.laws.proofs.Tests.{ifb}
-use Rattle.timetable.specs.Timetable.{Timetable, rowOf}
+use Rattle.timetable.specs.Timetable.{Timetable}
 use Rattle.timetable.specs.declared.Row.{Row}
 use Rattle.plans.specs.declared.Query.{Query}
 use Rattle.plans.specs.Sound.{Timely}
 use Rattle.plans.specs.Chosen.{offInTicks}
 use Rattle.reading.specs.declared.Sailings.{Sailings}
-use Rattle.reading.specs.Reading.{rowsIn, timetableIn, Cut, Stand}
+use Rattle.reading.specs.Reading.{rowsIn, timetableIn, Cut}
 use Rattle.reading.proofs.Cuts.{Idle, idle-end, bound-idle}
 use Rattle.landing.specs.declared.Goal.{Goal}
 use Rattle.planner.specs.Steps.{Laid, Reaches, RowsWithin, Part}
@@ -37,7 +35,8 @@ within-idle t timely target bound end within =
     (λ e. subst (Idle (offInTicks target bound) target t) (sym (within .all (eqb-true bound 0 e))) (idle-end (offInTicks target bound) target t))
     (λ e. bound-idle t timely target bound (eqb-false bound 0 e) end (within .before (eqb-false bound 0 e)))
 
-within-ordered : (rows : List Row) (minute bound first end : ℕ) → Cut rows minute first → Reaches minute bound → RowsWithin rows bound end → first ≤ end
+within-ordered : (rows : List Row) (minute bound first end : ℕ) → Cut rows minute first → Reaches minute bound → RowsWithin rows bound end
+    → first ≤ end
 within-ordered rows minute bound first end cut reaches within =
     ifb (λ _. first ≤ end) (eqb bound 0) (λ e. omega (arith, cut .inside, within .all (eqb-true bound 0 e)))
     (λ e. cuts-in-order rows minute bound first end cut (within .before (eqb-false bound 0 e)) (reaches (eqb-false bound 0 e)))

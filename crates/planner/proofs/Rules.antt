@@ -1,7 +1,7 @@
 -- Document 01's refusal 6, test by test, and what a query that keeps its rule is. Assumes nothing.
 use Prim.Native.Nat.{ℕ, _≤_, _<_}
 use native.Mathlib.Omega.{arith}
-use mathlib.Core.Bool.{Bool, true, false, not, _&&_, _||_}
+use mathlib.Core.Bool.{Bool, true, false, not, _&&_}
 use mathlib.Core.Logic.{_⊎_, inl, inr, _≢_}
 use mathlib.Core.List.{List}
 use mathlib.Core.Path.{_≡_, refl}
@@ -9,10 +9,7 @@ use lib.Dec.{leb, ltb, eqb}
 use borrow.Author.Tests.{ltb-true, leb-true, eqb-true, eqb-false, lt-ltb, le-ltb, le-leb, lt-leb, eq-eqb, ne-eqb, not-true}
 use Rattle.laws.proofs.Tests.{both-left, both-right, either}
 use Rattle.layout.specs.declared.Format.{Format}
-use Rattle.layout.specs.Decode.{headOf, decode}
-use Rattle.layout.proofs.Sound.{SoundFile}
 use Rattle.plans.specs.declared.Query.{Query}
-use Rattle.reading.specs.Sections.{Plannable}
 use Rattle.planner.specs.Outcome.{journeyRule, codeRule}
 use Rattle.planner.specs.Steps.{FoundSound, Asked}
 
@@ -51,7 +48,7 @@ module _ (f : Format) (stops : ℕ) (q : Query) where
         ltb-true (q .source) stops (both-left source (ltb (q .target) stops) e₂),
         ltb-true (q .target) stops (both-right source (ltb (q .target) stops) e₂),
         eqb-false (q .source) (q .target)
-        (not-true (eqb (q .source) (q .target)) (both-right target (not (eqb (q .source) (q .target))) e₃)),
+            (not-true (eqb (q .source) (q .target)) (both-right target (not (eqb (q .source) (q .target))) e₃)),
         leb-true (q .minute) (f .latest) (both-right apart (leb (q .minute) (f .latest)) e),
       )
 
@@ -71,10 +68,13 @@ code-decides q some-code h = simp (ne-eqb _ _ some-code, le-leb _ _ h)
 pub code-gives : (q : Query) → codeRule q ≡ true → (q .code ≡ 0) ⊎ ((4 ≤ q .code) × (q .code ≤ 16))
 unfolding codeRule
 code-gives q e =
-    elim (either (eqb (q .code) 0) (leb 4 (q .code) && leb (q .code) 16) e)
-    [ inl p ↦ inl (eqb-true (q .code) 0 p)
-    | inr p ↦ inr (leb-true 4 (q .code) (both-left (leb 4 (q .code)) (leb (q .code) 16) p),
-    leb-true (q .code) 16 (both-right (leb 4 (q .code)) (leb (q .code) 16) p)) ]
+    elim (either (eqb (q .code) 0) (leb 4 (q .code) && leb (q .code) 16) e) [
+      | inl p ↦ inl (eqb-true (q .code) 0 p)
+      | inr p ↦ inr (
+        leb-true 4 (q .code) (both-left (leb 4 (q .code)) (leb (q .code) 16) p),
+        leb-true (q .code) 16 (both-right (leb 4 (q .code)) (leb (q .code) 16) p),
+      )
+    ]
 
 -- no code is above 16
 pub code-most : (q : Query) → codeRule q ≡ true → q .code ≤ 16

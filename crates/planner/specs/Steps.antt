@@ -1,11 +1,10 @@
 -- What the steps of planning ask of each other: a sound file, what is laid out of it in the lent cells, and the plan within a bound.
-use Prim.Native.Nat.{ℕ, _+_, _*_, _≤_, _<_}
+use Prim.Native.Nat.{ℕ, _≤_, _<_}
 use mathlib.Core.List.{List, []}
 use mathlib.Core.Logic.{_≢_}
 use mathlib.Core.Option.{Option}
 use mathlib.Core.Path.{_≡_}
 use lib.ListN.{length, drop}
-use Rattle.timetable.specs.Timetable.{Timetable}
 use Rattle.timetable.specs.declared.Row.{Row}
 use Rattle.layout.specs.declared.Format.{Format}
 use Rattle.layout.specs.Decode.{decode}

@@ -190,14 +190,7 @@ fn sailings_in(file: &[u8], f: Format) -> Sailings
 }
 
 // The earliest safe arrival E, or NONE.
-fn reach(
-    file: &[u8],
-    s: Sailings,
-    tables: &[u32],
-    q: Query,
-    first: usize,
-    work: &mut [u32],
-) -> u32
+fn reach(file: &[u8], s: Sailings, tables: &[u32], q: Query, first: usize, work: &mut [u32]) -> u32
     requires { ⌜ Laid (now file) s (now tables) q first × (2400 ≤ length (now work)) ⌝ }
     ensures { λ r. ⌜ (r ≡ cellOf (earliestIn (timetableIn (now (file .entry)) s) q)) × KeptBehind 2400 (now (work .entry)) (now (work .exit)) ⌝ }
 {

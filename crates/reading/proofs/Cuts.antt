@@ -1,29 +1,29 @@
 -- Planning looks at a part of the rows: not at those that depart before T, nor at those that depart at or after a real bound. The chosen rows of
 -- that part serve as all of them do. Uses that a sound timetable's departures rise and its rows land after they depart.
-use Prim.Native.Nat.{ℕ, zero, suc, pred, _+_, _≤_, _<_}
+use Prim.Native.Nat.{ℕ, suc, _≤_, _<_}
 use native.Mathlib.Nat.{le-refl}
 use native.Mathlib.Omega.{arith}
-use mathlib.Core.Bool.{Bool, true, false, cond, _||_, false≢true}
+use mathlib.Core.Bool.{Bool, true, false, cond}
 use mathlib.Core.List.{List, [], _∷_, List·Memᴰ}
 use mathlib.Core.Logic.{_≢_, _⊎_, inl, inr}
 use mathlib.Core.Option.{Option, none, some}
 use mathlib.Core.Path.{_≡_, refl, sym, ap, ap₂, subst, _∙_}
 use lib.Dec.{leb, eqb}
-use lib.ListN.{length, drop}
+use lib.ListN.{length}
 use lib.Seq.{slice, slice-empty, slice-cons}
 use borrow.Author.Tests.{leb-true, eqb-true}
 use Rattle.laws.proofs.Downward.{downward}
-use Rattle.laws.proofs.Options.{absent, present-or-absent}
+use Rattle.laws.proofs.Options.{present-or-absent}
 use Rattle.laws.proofs.Tests.{either}
 use Rattle.timetable.specs.Timetable.{Timetable, rowOf, noRow}
 use Rattle.plans.specs.declared.Query.{Query}
 use Rattle.plans.specs.Sound.{Timely}
-use Rattle.plans.specs.Rides.{Ride, latest}
+use Rattle.plans.specs.Rides.{latest}
 use Rattle.plans.specs.Journeys.{within}
 use Rattle.plans.specs.Worth.{Valued, firstOpen}
-use Rattle.plans.specs.Chosen.{GettingOff, Scan, Weighed, scan, bestOf, choose, nextOf, least, getOff, stayOn, rowRide, offInTicks}
+use Rattle.plans.specs.Chosen.{GettingOff, Scan, scan, bestOf, choose, nextOf, least, getOff, stayOn, rowRide, offInTicks}
 use Rattle.plans.specs.Plan.{upTo, extract, ridesFrom, chosenFor}
-use Rattle.plans.proofs.FromRow.{scanFrom, chosenFrom, bestAt, nextFrom, chosen-row, chosen-end, next-row, next-end}
+use Rattle.plans.proofs.FromRow.{chosenFrom, bestAt, nextFrom, chosen-row, chosen-end, next-row, next-end}
 use Rattle.plans.proofs.Choice.{choice}
 use Rattle.plans.proofs.BestRides.{best-boards, best-is-ride, chosen-picked}
 use Rattle.plans.proofs.RideMinutes.{departs-before}
@@ -175,7 +175,8 @@ module _ (t : Timetable) (timely : Timely t) where
       ∙ first-same (offInTicks target bound) target minute first cut stop
       ∙ ap (λ (vs : List Valued). firstOpen vs stop minute) (sym (part-chosen (offInTicks target bound) target t end idle first h))
 
-  pub part-rides : (q : Query) (bound first end : ℕ) → Cut (t .rows) (q .minute) first → first ≤ end → Idle (offInTicks (q .target) bound) (q .target) t end
+  pub part-rides : (q : Query) (bound first end : ℕ) → Cut (t .rows) (q .minute) first → first ≤ end
+      → Idle (offInTicks (q .target) bound) (q .target) t end
       → ridesFrom q (chosenFor t (q .target) bound) ≡ ridesFrom q (scanPart (offInTicks (q .target) bound) (q .target) t first end .chosen)
   unfolding ridesFrom
   part-rides q bound first end cut h idle =
@@ -186,4 +187,5 @@ module _ (t : Timetable) (timely : Timely t) where
       (part-first (q .target) bound (q .source) (q .minute) first end cut h idle) whole
       ∙ rides-same off (q .target) (q .minute) first cut (q .target) (q .source)
       (firstOpen (scanPart off (q .target) t first end .chosen) (q .source) (q .minute))
-      ∙ ap (extract (q .target) (upTo (q .source) (q .minute) (firstOpen (scanPart off (q .target) t first end .chosen) (q .source) (q .minute)))) (sym part)
+      ∙ ap (extract (q .target) (upTo (q .source) (q .minute) (firstOpen (scanPart off (q .target) t first end .chosen) (q .source) (q .minute))))
+      (sym part)

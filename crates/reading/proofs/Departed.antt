@@ -60,7 +60,8 @@ first-left m (v ∷ vs) stop minute late =
     (λ b h. first-here v (notLeft m vs) stop minute b ∙ sym h)
     (λ b h. first-further v (notLeft m vs) stop minute b ∙ first-left m vs stop minute late ∙ sym h))
     (λ e _. first-left m vs stop minute late
-    ∙ sym (first-further v vs stop minute (too-late (v .ride) stop minute (let z : v .ride .departs < minute = omega (arith, leb-false m (v .ride .departs) e) in z))))
+    ∙ sym (first-further v vs stop minute
+    (too-late (v .ride) stop minute (let z : v .ride .departs < minute = omega (arith, leb-false m (v .ride .departs) e) in z))))
     refl
 
 -- windows that open at or after m
@@ -93,7 +94,8 @@ unwanted m (w ∷ ws) l r gone =
 
 -- so the rides taken are the same
 module _ (m target : ℕ) where
-  taken-same : (ws : List Window) (v : Valued) (vs us : List Valued) → firstOpen vs (v .ride .to) (latest (v .ride)) ≡ firstOpen us (v .ride .to) (latest (v .ride))
+  taken-same : (ws : List Window) (v : Valued) (vs us : List Valued)
+      → firstOpen vs (v .ride .to) (latest (v .ride)) ≡ firstOpen us (v .ride .to) (latest (v .ride))
       → ((ws' : List Window) → Late m ws' → extract target ws' vs ≡ extract target ws' us) → Late m ws → m ≤ v .ride .arrives
       → extract target ws (v ∷ vs) ≡ extract target ws (v ∷ us)
   unfolding extract windowsOf

@@ -1,5 +1,5 @@
 -- What a sound file gives planning: its rows and tables stand, and its timetable is timely. Assumes nothing.
-use Prim.Native.Nat.{ℕ, suc, _+_, _*_, _≤_, _<_}
+use Prim.Native.Nat.{ℕ, suc, _≤_, _<_}
 use mathlib.Core.List.{List, [], _∷_}
 use mathlib.Core.Option.{Option, none, some}
 use mathlib.Core.Path.{_≡_, refl, ap, ap₂, _∙_}
@@ -7,18 +7,17 @@ use native.Mathlib.Omega.{arith}
 use lib.ListN.{length}
 use Rattle.timetable.specs.Timetable.{Timetable, sharesOf, longest, rowOf}
 use Rattle.timetable.specs.declared.Row.{Row}
-use Rattle.timetable.proofs.RowsSound.{OwnSound}
 use Rattle.layout.specs.declared.Format.{Format}
 use Rattle.layout.specs.Format.{versionOne}
-use Rattle.layout.specs.Decode.{headOf, rowsFrom, tablesFrom, tableAt, blockEnd, decode}
+use Rattle.layout.specs.Decode.{headOf, blockEnd, decode}
 use Rattle.layout.proofs.Blocks.{blockAt, table-has}
-use Rattle.layout.proofs.Sound.{SoundFile, SharesSound, version-one-readable}
+use Rattle.layout.proofs.Sound.{SoundFile, version-one-readable}
 use Rattle.plans.specs.Sound.{Timely}
 use Rattle.plans.specs.declared.Query.{Query}
 use Rattle.plans.specs.Journeys.{boundOf}
 use Rattle.plans.specs.Worth.{Valued, firstOpen}
 use Rattle.plans.specs.Chosen.{scan, scanned, offInTicks}
-use Rattle.plans.specs.Plan.{Plan, planned, planBefore, planWithin, chosenFor, ridesFrom, latestOf, earliest}
+use Rattle.plans.specs.Plan.{planned, planBefore, planWithin, chosenFor, ridesFrom, latestOf, earliest}
 use Rattle.reading.specs.Reading.{rowsIn, tablesIn, timetableIn, RowFits, SharesFit, Stand, BlocksStand}
 use Rattle.reading.specs.Sections.{sailingsOf, Plannable}
 

@@ -1,5 +1,5 @@
 -- Where the sections of a file of some version stand, by its head; and what planning asks of a version's numbers.
-use Prim.Native.Nat.{ℕ, _+_, _≤_, _<_}
+use Prim.Native.Nat.{_+_, _≤_, _<_}
 use Rattle.layout.specs.declared.Format.{Format}
 use Rattle.layout.specs.declared.Head.{Head}
 use Rattle.layout.specs.Format.{Readable}

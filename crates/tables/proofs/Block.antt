@@ -1,18 +1,18 @@
 -- A class's block of cells: its running sums, then its longest and its expected delay. Assumes nothing.
 use Prim.Native.Nat.{ℕ, suc, pred, _+_, _*_, _/_, _≤_, _<_}
 use mathlib.Core.List.{List}
-use mathlib.Core.Logic.{_⊎_, inl, inr, ⊎-elim}
-use mathlib.Core.Path.{_≡_, refl, sym, ap, subst, _∙_}
+use mathlib.Core.Logic.{inl, inr, ⊎-elim}
+use mathlib.Core.Path.{_≡_, sym, ap, subst, _∙_}
 use native.Mathlib.Omega.{arith}
-use lib.ListN.{length, getD, take, set, length-set}
+use lib.ListN.{length, getD, set, length-set}
 use lib.Seq.{getD-set-same, getD-set-other}
 use Rattle.timetable.specs.Timetable.{longest}
 use Rattle.timetable.specs.Classes.{whole, sum}
 use Rattle.layout.specs.Decode.{sharesFrom, tableAt, blockEnd}
 use Rattle.layout.specs.Numbers.{u16At}
-use Rattle.layout.proofs.Blocks.{shares-length, table-has}
+use Rattle.layout.proofs.Blocks.{table-has}
 use Rattle.plans.specs.Worth.{up, weigh}
-use Rattle.reading.specs.Reading.{blockCell, BlockHeld, SharesFit}
+use Rattle.reading.specs.Reading.{blockCell, BlockHeld}
 use Rattle.tables.specs.Summed.{BlockStands, SharesStand, Summed, SameOutside}
 
 -- the two cells ahead of the running sums
@@ -104,14 +104,21 @@ module _
     -- the sum of delay × share is no more than 254 wholes
     pub late-small : late ≤ 254 * whole
     late-small =
-        omega (arith, late-of-table, late-bound (tableAt file at) 0 254 (omega (arith, stands .shares-fit .few-shares)), ap (λ n. 254 * n) (stands .shares-fit .shares-whole))
+        omega (
+          arith,
+          late-of-table,
+          late-bound (tableAt file at) 0 254 (omega (arith, stands .shares-fit .few-shares)),
+          ap (λ n. 254 * n)
+              (stands .shares-fit .shares-whole),
+        )
 
     pub block-ends : at + 4 + 2 * longest' ≡ blockEnd file at
     unfolding blockEnd
     block-ends = omega (arith, read)
 
     pub table-held : (cells cells' : List ℕ) (k longest-cell expected-cell : ℕ) → k < 16 → length cells ≡ 4096
-        → Summed cells cells' (256 * k + 2) (sharesFrom file (at + 2) (suc longest')) (suc longest') → longest-cell ≡ longest' → expected-cell ≡ (late + 15) / 16
+        → Summed cells cells' (256 * k + 2) (sharesFrom file (at + 2) (suc longest')) (suc longest') → longest-cell ≡ longest'
+        → expected-cell ≡ (late + 15) / 16
         → BlockHeld (set (set cells' (256 * k + 0) longest-cell) (256 * k + 1) expected-cell) k (tableAt file at)
         × SameOutside cells (set (set cells' (256 * k + 0) longest-cell) (256 * k + 1) expected-cell) k
     table-held cells cells' k longest-cell expected-cell inside room summed l e =

@@ -1,7 +1,7 @@
 -- Class by class: a block more is held, and those read before stay. Assumes nothing.
-use Prim.Native.Nat.{ℕ, zero, suc, _+_, _*_, _≤_, _<_}
+use Prim.Native.Nat.{ℕ, suc, _+_, _≤_, _<_}
 use mathlib.Core.List.{List}
-use mathlib.Core.Logic.{_⊎_, inl, inr, ⊎-elim}
+use mathlib.Core.Logic.{_⊎_, inl, inr}
 use mathlib.Core.Path.{_≡_, refl, sym, ap, subst, _∙_}
 use native.Mathlib.Nat.{eq-or-lt-of-le}
 use native.Mathlib.Omega.{arith}
@@ -61,7 +61,8 @@ read-more file s b cells cells' k block end so-far inside ends here same =
   where
     at : (c : ℕ) → (c ≡ k) ⊎ (c < k) → BlockHeld cells' c (sharesOf (tablesIn file s) c)
     at c (inr earlier) =
-        block-kept cells cells' k c (sharesOf (tablesIn file s) c) same earlier (b .shares-fit c (let z : c < s .classes = omega arith in z) .few-shares)
+        block-kept cells cells' k c (sharesOf (tablesIn file s) c) same earlier
+        (b .shares-fit c (let z : c < s .classes = omega arith in z) .few-shares)
         (so-far .held c earlier)
     at c (inl e) =
         subst (λ n. BlockHeld cells' n (sharesOf (tablesIn file s) n)) (sym e)

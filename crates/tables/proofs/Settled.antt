@@ -10,7 +10,7 @@ use denote.Triple.Clauses.{AtExit}
 use lib.ListN.{length, getD}
 use borrow.Fn.Kinds.{Dens, resT, endedOf}
 use Rattle.timetable.specs.Timetable.{sharesOf}
-use Rattle.reading.specs.Reading.{tablesIn, blockCell, BlockHeld, TablesHeld}
+use Rattle.reading.specs.Reading.{tablesIn, blockCell, BlockHeld}
 use Rattle.tables.proofs.read_tables.Kinds as kinds
 use Rattle.tables.proofs.read_tables.Reads as reads
 

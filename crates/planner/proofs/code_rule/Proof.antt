@@ -1,21 +1,15 @@
 -- `planner::code_rule` meets its contract: 0, or 4 to 16. Assumes nothing.
-use Prim.Native.Nat.{_<_, _≤_}
 use native.Mathlib.Omega.{arith}
 use Rattle.planner.proofs.Rules.{no-code, code-small, code-decides}
 use Rattle.planner.proofs.code_rule.Statement.{statement}
 use Rattle.planner.proofs.code_rule.Tie as tie
-use Rattle.planner.proofs.code_rule.Reads as reads
-use Rattle.planner.proofs.code_rule.Lts as lts
 
--- src/rt:136:9
 returns : tie.Need-returns
 returns c = no-code (c .before .before .args .q) (omega arith)
 
--- src/rt:139:9
 returns-2 : tie.Need-returns-2
 returns-2 c = code-small (c .before .before .before .before .args .q) (λ e. let z : ⊥ = omega arith in z) (omega arith)
 
--- src/rt:132:1
 returns-3 : tie.Need-returns-3
 returns-3 c = code-decides (c .before .before .before .before .before .args .q) (λ e. let z : ⊥ = omega arith in z) (omega arith)
 

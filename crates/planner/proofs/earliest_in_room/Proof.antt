@@ -1,5 +1,4 @@
 -- `planner::earliest_in_room` meets its contract: the tables and rows of a sound file are laid out, then E is found. Assumes nothing.
-use Prim.Native.Nat.{_≤_}
 use mathlib.Core.Path.{refl, sym, ap, _∙_}
 use native.Mathlib.Omega.{arith}
 use Rattle.cells.specs.Cells.{cellOf}
@@ -7,61 +6,59 @@ use Rattle.planner.proofs.Laying.{rows-stand, tables-stand, lays, earli
 use borrow.Author.Needs.{needs}
 use Rattle.planner.proofs.earliest_in_room.Statement.{statement}
 use Rattle.planner.proofs.earliest_in_room.Tie as tie
-use Rattle.planner.proofs.earliest_in_room.Reads as reads
-use Rattle.planner.proofs.earliest_in_room.Lts as lts
-use Rattle.cells.proofs.number.Reads as number-reads
-use Rattle.planner.proofs.reach.Reads as reach-reads
-use Rattle.planner.proofs.sailings_in.Reads as sailings-in-reads
-use Rattle.reading.proofs.rows_before.Reads as rows-before-reads
-use Rattle.tables.proofs.read_tables.Reads as read-tables-reads
 
--- src/rt:363:9
+-- the entry, from where the rows are laid out
+abbrev begun : tie.After-rows-before → tie.Start
+begun c = c .before .before .before .before .before .before .before .before
+
 sailings-in-requires : tie.Need-sailings-in-requires
 sailings-in-requires c κs = search needs
 
--- src/rt:364:26
 slice-aggregate-read-tables : tie.Need-slice-aggregate-read-tables
 slice-aggregate-read-tables c = search needs
 
--- src/rt:364:5
 read-tables-requires : tie.Need-read-tables-requires
 read-tables-requires c κs =
     let a = c .before .before .before .before in
     (tables-stand (a .args .f) (a .args .file .now) (a .args .q) (a .pre .0) (c .before .sailings-in .result) (c .before .sailings-in .ensures), refl)
 
--- src/rt:365:38
 number-requires : tie.Need-number-requires
 number-requires c κs = search needs
 
--- src/rt:365:9
 rows-before-requires : tie.Need-rows-before-requires
 rows-before-requires c κs =
     let a = c .before .before .before .before .before .before .before in
-    rows-stand (a .args .f) (a .args .file .now) (a .args .q) (a .pre .0) (c .before .before .before .before .sailings-in .result) (c .before .before .before .before .sailings-in .ensures)
+    rows-stand (a .args .f) (a .args .file .now) (a .args .q) (a .pre .0) (c .before .before .before .before .sailings-in .result)
+    (c .before .before .before .before .sailings-in .ensures)
 
--- src/rt:366:20
 slice-aggregate-reach : tie.Need-slice-aggregate-reach
 slice-aggregate-reach c = search needs
 
--- src/rt:366:5
 reach-requires : tie.Need-reach-requires
 reach-requires c κs =
-    let a = c .before .before .before .before .before .before .before .before .before .before in
-    (lays (a .args .f) (a .args .file .now) (a .args .q) (a .pre .0) (c .before .before .before .before .before .before .before .sailings-in .result) (c .before .before .before .before .before .before .before .sailings-in .ensures)
-    (c .before .before .before .before .before .read-tables .last .1 .1 .0) (c .before .before .rows-before .result) (c .before .before .before .number .result)
-    (c .before .before .before .before .before .read-tables .ensures) (c .before .before .before .number .ensures .0) (c .before .before .rows-before .ensures), omega (arith, a .pre .1))
+    let a = begun (c .before .before) in (
+      lays (a .args .f) (a .args .file .now) (a .args .q) (a .pre .0) (c .before .before .before .before .before .before .before .sailings-in .result)
+          (c .before .before .before .before .before .before .before .sailings-in .ensures)
+          (c .before .before .before .before .before .read-tables .last .1 .1 .0) (c .before .before .rows-before .result)
+          (c .before .before .before .number .result)
+          (c .before .before .before .before .before .read-tables .ensures) (c .before .before .before .number .ensures .0)
+          (c .before .before .rows-before .ensures),
+      omega (arith, a .pre .1),
+    )
 
--- src/rt:358:1
 same-length : tie.Need-same-length
 same-length c = search needs
 
--- src/rt:358:1
 returns : tie.Need-returns
 returns c =
-    let a = c .before .before .before .before .before .before .before .before .before .before .before .before .before in
-    let r = c .before .before .reach .ensures in
-    (r .0 ∙ ap cellOf (sym (earliest-there (a .args .f) (a .args .file .now) (a .args .q) (a .pre .0) (c .before .before .before .before .before .before .before .before .before .before .sailings-in .result)
-    (c .before .before .before .before .before .before .before .before .before .before .sailings-in .ensures))), r .1)
+    let a = begun (c .before .before .before .before .before) in
+    let r = c .before .before .reach .ensures in (
+      r .0 ∙ ap cellOf (sym
+          (earliest-there (a .args .f) (a .args .file .now) (a .args .q) (a .pre .0)
+          (c .before .before .before .before .before .before .before .before .before .before .sailings-in .result)
+          (c .before .before .before .before .before .before .before .before .before .before .sailings-in .ensures))),
+      r .1,
+    )
 
 pub earliest-in-room-spec : {M : Type 1} → statement M
 earliest-in-room-spec =

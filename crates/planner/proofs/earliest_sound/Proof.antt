@@ -1,10 +1,8 @@
 -- `planner::earliest_sound` meets its contract: 6, then 7, then E or 8 with work cleared. Assumes nothing.
-use Prim.Native.Nat.{ℕ, _<_, _≤_}
-use mathlib.Core.Bool.{true, false}
+use Prim.Native.Nat.{_<_, _≤_}
 use mathlib.Core.List.{[]}
 use mathlib.Core.Path.{_≡_, refl, sym, ap, _∙_}
 use native.Mathlib.Omega.{arith}
-use lib.Dec.{leb}
 use lib.ListN.{length}
 use borrow.Author.Tests.{not-true, not-false, le-leb, lt-leb}
 use Rattle.layout.specs.Decode.{headOf, decode}
@@ -30,126 +28,136 @@ use Rattle.planner.proofs.Answered.{
 use borrow.Author.Needs.{needs}
 use Rattle.planner.proofs.earliest_sound.Statement.{statement}
 use Rattle.planner.proofs.earliest_sound.Tie as tie
-use Rattle.planner.proofs.earliest_sound.Reads as reads
-use Rattle.planner.proofs.earliest_sound.Lts as lts
-use Rattle.cells.proofs.fill.Reads as fill-reads
-use Rattle.planner.proofs.earliest_in_room.Reads as earliest-in-room-reads
-use Rattle.planner.proofs.journey_rule.Reads as journey-rule-reads
-use Rattle.planner.proofs.no_arrival.Reads as no-arrival-reads
-use Rattle.planner.proofs.work_room.Reads as work-room-reads
+
+-- places on the way: the entry; where work is cleared
+abbrev begun : tie.After-work-room → tie.Start
+begun c = c .before .before .before .before .before
+
+abbrev cleared-at : tie.After-fill → tie.After-work-room
+cleared-at c = c .before .before .before .before .before .before .before
 
 -- the rule of 6 at the stops that the file decodes to
 ruled : (c : tie.After-journey-rule)
-    → journeyRule (c .before .before .before .args .f) (decode (c .before .before .before .args .f) (c .before .before .before .args .file .now) .stops)
+    → journeyRule (c .before .before .before .args .f)
+    (decode (c .before .before .before .args .f) (c .before .before .before .args .file .now) .stops)
     (c .before .before .before .args .q) ≡ c .journey-rule .result
 ruled c =
     let a = c .before .before .before in
     ap (λ n. journeyRule (a .args .f) n (a .args .q)) (sym (a .pre .stops-are)) ∙ sym (c .journey-rule .ensures)
 
-query-asked : (c : tie.Else1) → Asked (c .before .before .before .before .args .f) (c .before .before .before .before .args .file .now) (c .before .before .before .before .args .q)
+query-asked : (c : tie.Else1)
+    → Asked (c .before .before .before .before .args .f) (c .before .before .before .before .args .file .now)
+    (c .before .before .before .before .args .q)
 query-asked c =
     let a = c .before .before .before .before in
-    asks (a .args .f) (a .args .file .now) (a .args .stops) (a .args .count) (a .args .q) (a .pre) (sym (c .before .journey-rule .ensures) ∙ not-false _ (c .if1 .left))
+    asks (a .args .f) (a .args .file .now) (a .args .stops) (a .args .count) (a .args .q) (a .pre)
+    (sym (c .before .journey-rule .ensures) ∙ not-false _ (c .if1 .left))
 
 -- work is cleared, and what is left is E or 8
 settled : (c : tie.After-fill)
-    → (c .fill .last .0 ≡ cleared (workRoom (length (decode (c .before .before .before .before .before .before .before .before .before .before .before .before .args .f) (c .before .before .before .before .before .before .before .before .before .before .before .before .args .file .now) .rows))) (c .before .before .before .before .before .before .before .before .before .before .before .before .args .work .now))
-    × (earliestSound (c .before .before .before .before .before .before .before .before .before .before .before .before .args .f) (decode (c .before .before .before .before .before .before .before .before .before .before .before .before .args .f) (c .before .before .before .before .before .before .before .before .before .before .before .before .args .file .now)) (c .before .before .before .before .before .before .before .before .before .before .before .before .args .q) (c .before .before .before .before .before .before .before .before .before .before .before .before .args .work .now)
-    ≡ earliestAnswered (earliest (decode (c .before .before .before .before .before .before .before .before .before .before .before .before .args .f) (c .before .before .before .before .before .before .before .before .before .before .before .before .args .file .now)) (c .before .before .before .before .before .before .before .before .before .before .before .before .args .q))
-    (cleared (workRoom (length (decode (c .before .before .before .before .before .before .before .before .before .before .before .before .args .f) (c .before .before .before .before .before .before .before .before .before .before .before .before .args .file .now) .rows))) (c .before .before .before .before .before .before .before .before .before .before .before .before .args .work .now)))
+    → (c .fill .last .0 ≡ cleared (workRoom (length (decode (begun (cleared-at c) .args .f) (begun (cleared-at c) .args .file .now) .rows)))
+    (begun (cleared-at c) .args .work .now))
+    × (earliestSound (begun (cleared-at c) .args .f) (decode (begun (cleared-at c) .args .f) (begun (cleared-at c) .args .file .now))
+    (begun (cleared-at c) .args .q) (begun (cleared-at c) .args .work .now)
+    ≡ earliestAnswered (earliest (decode (begun (cleared-at c) .args .f) (begun (cleared-at c) .args .file .now)) (begun (cleared-at c) .args .q))
+    (cleared (workRoom (length (decode (begun (cleared-at c) .args .f) (begun (cleared-at c) .args .file .now) .rows)))
+    (begun (cleared-at c) .args .work .now)))
 settled c =
-    let a = c .before .before .before .before .before .before .before .before .before .before .before .before in
+    let a = begun (cleared-at c) in
     let n = length (decode (a .args .f) (a .args .file .now) .rows) in
     let p = c .before .before .before .before .earliest-in-room in
-    let r = c .before .before .before .before .before .before .before in
+    let r = cleared-at c in
     let room : r .work-room .result ≡ workRoom n = r .work-room .ensures ∙ ap workRoom (a .pre .rows-are) in
     let fits : workRoom n ≤ length (a .args .work .now) = omega arith in
-    let kept = kept-later 2400 (workRoom n) (a .args .work .now) (p .last .1 .1 .1 .0) (omega arith) (p .ensures .1) in
-    (c .fill .ensures ∙ ap (λ k. filled (p .last .1 .1 .1 .0) 0 k 0) room ∙ cleared-behind (workRoom n) (a .args .work .now) (p .last .1 .1 .1 .0) kept,
-    not-refused-earliest (a .args .f) (decode (a .args .f) (a .args .file .now)) (a .args .q) (a .args .work .now) []
-    (ruled (r .before .before) ∙ not-false _ (r .before .if1 .left)) (le-leb (workRoom n) (length (a .args .work .now)) fits))
+    let kept = kept-later 2400 (workRoom n) (a .args .work .now) (p .last .1 .1 .1 .0) (omega arith) (p .ensures .1) in (
+      c .fill .ensures ∙ ap (λ k. filled (p .last .1 .1 .1 .0) 0 k 0) room
+          ∙ cleared-behind (workRoom n) (a .args .work .now) (p .last .1 .1 .1 .0) kept,
+      not-refused-earliest (a .args .f) (decode (a .args .f) (a .args .file .now)) (a .args .q) (a .args .work .now) []
+          (ruled (r .before .before) ∙ not-false _ (r .before .if1 .left)) (le-leb (workRoom n) (length (a .args .work .now)) fits),
+    )
 
--- src/rt:336:9
 journey-rule-requires : tie.Need-journey-rule-requires
 journey-rule-requires c κs = search needs
 
--- src/rt:337:9
 no-arrival-requires : tie.Need-no-arrival-requires
 no-arrival-requires c κs = search needs
 
--- src/rt:337:9
 returns : tie.Need-returns
 returns c =
     let a = c .before .before .before .before .before in
-    refused-as-earliest (earliestSound (a .args .f) (decode (a .args .f) (a .args .file .now)) (a .args .q) (a .args .work .now)) 6 0 (c .no-arrival .result) (a .args .work .now)
-    (refused-six-earliest (a .args .f) (decode (a .args .f) (a .args .file .now)) (a .args .q) (a .args .work .now) [] (ruled (c .before .before) ∙ not-true _ (c .before .if1 .taken))) (c .no-arrival .ensures)
+    refused-as-earliest (earliestSound (a .args .f) (decode (a .args .f) (a .args .file .now)) (a .args .q) (a .args .work .now)) 6 0
+    (c .no-arrival .result) (a .args .work .now)
+    (refused-six-earliest (a .args .f) (decode (a .args .f) (a .args .file .now)) (a .args .q) (a .args .work .now) []
+    (ruled (c .before .before) ∙ not-true _ (c .before .if1 .taken))) (c .no-arrival .ensures)
 
--- src/rt:339:9
 work-room-requires : tie.Need-work-room-requires
 work-room-requires c κs = search needs
 
--- src/rt:341:9
 no-arrival-requires-2 : tie.Need-no-arrival-requires-2
 no-arrival-requires-2 c κs = search needs
 
--- src/rt:341:9
 returns-2 : tie.Need-returns-2
 returns-2 c =
-    let a = c .before .before .before .before .before .before .before in
+    let a = begun (c .before .before) in
     let n = length (decode (a .args .f) (a .args .file .now) .rows) in
     let short : length (a .args .work .now) < workRoom n = omega (arith, c .before .before .work-room .ensures, a .pre .rows-are) in
-    refused-as-earliest (earliestSound (a .args .f) (decode (a .args .f) (a .args .file .now)) (a .args .q) (a .args .work .now)) 7 0 (c .no-arrival2 .result) (a .args .work .now)
-    (refused-seven-earliest (a .args .f) (decode (a .args .f) (a .args .file .now)) (a .args .q) (a .args .work .now) [] (ruled (c .before .before .before .before) ∙ not-false _ (c .before .before .before .if1 .left)) (lt-leb (workRoom n) (length (a .args .work .now)) short))
+    refused-as-earliest (earliestSound (a .args .f) (decode (a .args .f) (a .args .file .now)) (a .args .q) (a .args .work .now)) 7 0
+    (c .no-arrival2 .result) (a .args .work .now)
+    (refused-seven-earliest (a .args .f) (decode (a .args .f) (a .args .file .now)) (a .args .q) (a .args .work .now) []
+    (ruled (c .before .before .before .before) ∙ not-false _ (c .before .before .before .if1 .left))
+    (lt-leb (workRoom n) (length (a .args .work .now)) short))
     (c .no-arrival2 .ensures)
 
--- src/rt:343:9
 earliest-in-room-requires : tie.Need-earliest-in-room-requires
 earliest-in-room-requires c κs =
-    let a = c .before .before .before .before .before .before .before in
-    let rows = a .pre .rows-are ∙ a .pre .sound .rows-count in
-    (asks (a .args .f) (a .args .file .now) (a .args .stops) (a .args .count) (a .args .q) (a .pre) (sym (c .before .before .before .before .journey-rule .ensures) ∙ not-false _ (c .before .before .before .if1 .left)),
-    omega (arith, c .before .before .work-room .ensures, rows))
+    let a = begun (c .before .before) in
+    let rows = a .pre .rows-are ∙ a .pre .sound .rows-count in (
+      asks (a .args .f) (a .args .file .now) (a .args .stops) (a .args .count) (a .args .q) (a .pre)
+          (sym (c .before .before .before .before .journey-rule .ensures) ∙ not-false _ (c .before .before .before .if1 .left)),
+      omega (arith, c .before .before .work-room .ensures, rows),
+    )
 
--- src/rt:344:5
 fill-requires : tie.Need-fill-requires
 fill-requires c κs = search needs
 
--- src/rt:346:9
 no-arrival-requires-3 : tie.Need-no-arrival-requires-3
 no-arrival-requires-3 c κs = search needs
 
--- src/rt:346:9
 same-length : tie.Need-same-length
 same-length c = search needs
 
--- src/rt:346:9
 returns-3 : tie.Need-returns-3
 returns-3 c =
-    let a = c .before .before .before .before .before .before .before .before .before .before .before .before .before .before .before .before in
+    let a = begun (cleared-at (c .before .before .before .before)) in
     let n = length (decode (a .args .f) (a .args .file .now) .rows) in
     let t = decode (a .args .f) (a .args .file .now) in
     let done = settled (c .before .before .before .before) in
-    let gone = no-arrival-cell (earliest t (a .args .q)) (c .before .before .before .before .before .before .before .before .earliest-in-room .result) (c .before .before .before .before .before .before .before .before .earliest-in-room .ensures .0)
-    (λ e found. arrival-there (a .args .f) (a .args .file .now) (a .args .q) (query-asked (c .before .before .before .before .before .before .before .before .before .before .before .before)) (sailingsOf (a .args .f) (headOf (a .args .f) (a .args .file .now))) refl e found .1)
+    let gone = no-arrival-cell (earliest t (a .args .q)) (c .before .before .before .before .before .before .before .before .earliest-in-room .result)
+    (c .before .before .before .before .before .before .before .before .earliest-in-room .ensures .0)
+    (λ e found. arrival-there (a .args .f) (a .args .file .now) (a .args .q) (query-asked (cleared-at (c .before .before .before .before) .before))
+    (sailingsOf (a .args .f) (headOf (a .args .f) (a .args .file .now))) refl e found .1)
     (omega arith) in
-    let refused = refused-as-earliest (earliestSound (a .args .f) (decode (a .args .f) (a .args .file .now)) (a .args .q) (a .args .work .now)) 8 0 (c .no-arrival3 .result) (cleared (workRoom n) (a .args .work .now))
-    (no-earliest-answers (earliestSound (a .args .f) (decode (a .args .f) (a .args .file .now)) (a .args .q) (a .args .work .now)) (earliest t (a .args .q)) (cleared (workRoom n) (a .args .work .now)) (done .1) gone) (c .no-arrival3 .ensures) in
+    let refused = refused-as-earliest (earliestSound (a .args .f) (decode (a .args .f) (a .args .file .now)) (a .args .q) (a .args .work .now)) 8 0
+    (c .no-arrival3 .result) (cleared (workRoom n) (a .args .work .now))
+    (no-earliest-answers (earliestSound (a .args .f) (decode (a .args .f) (a .args .file .now)) (a .args .q) (a .args .work .now))
+    (earliest t (a .args .q)) (cleared (workRoom n) (a .args .work .now)) (done .1) gone) (c .no-arrival3 .ensures) in
     (refused .0, done .0 ∙ refused .1)
 
--- src/rt:324:1
 same-length-2 : tie.Need-same-length-2
 same-length-2 c = search needs
 
--- src/rt:324:1
 returns-4 : tie.Need-returns-4
 returns-4 c =
-    let a = c .before .before .before .before .before .before .before .before .before .before .before .before .before .before .before in
+    let a = begun (cleared-at (c .before .before .before)) in
     let n = length (decode (a .args .f) (a .args .file .now) .rows) in
     let t = decode (a .args .f) (a .args .file .now) in
     let done = settled (c .before .before .before) in
-    let found = arrival-cell (earliest t (a .args .q)) (c .before .before .before .before .before .before .before .earliest-in-room .result) (c .before .before .before .before .before .before .before .earliest-in-room .ensures .0)
+    let found = arrival-cell (earliest t (a .args .q)) (c .before .before .before .before .before .before .before .earliest-in-room .result)
+    (c .before .before .before .before .before .before .before .earliest-in-room .ensures .0)
     (λ e. let z : ⊥ = omega arith in z) in
-    let answers = earliest-answers (earliestSound (a .args .f) (decode (a .args .f) (a .args .file .now)) (a .args .q) (a .args .work .now)) (earliest t (a .args .q)) (c .before .before .before .before .before .before .before .earliest-in-room .result) (cleared (workRoom n) (a .args .work .now)) (done .1) found in
+    let answers = earliest-answers (earliestSound (a .args .f) (decode (a .args .f) (a .args .file .now)) (a .args .q) (a .args .work .now))
+    (earliest t (a .args .q)) (c .before .before .before .before .before .before .before .earliest-in-room .result)
+    (cleared (workRoom n) (a .args .work .now)) (done .1) found in
     (answers .0, done .0 ∙ answers .1)
 
 pub earliest-sound-spec : {M : Type 1} → statement M

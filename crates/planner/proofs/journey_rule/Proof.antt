@@ -1,47 +1,37 @@
 -- `planner::journey_rule` meets its contract: a test that fails breaks the rule, and the last decides once the others hold. Assumes nothing.
-use Prim.Native.Nat.{_<_, _≤_}
-use mathlib.Core.Path.{_≡_, ap, _∙_}
+use mathlib.Core.Path.{ap, _∙_}
 use native.Mathlib.Omega.{arith}
 use lib.Dec.{leb}
 use Rattle.planner.proofs.Rules.{source-outside, target-outside, one-stop, minute-decides}
 use borrow.Author.Needs.{needs}
 use Rattle.planner.proofs.journey_rule.Statement.{statement}
 use Rattle.planner.proofs.journey_rule.Tie as tie
-use Rattle.planner.proofs.journey_rule.Reads as reads
-use Rattle.planner.proofs.journey_rule.Lts as lts
-use Rattle.cells.proofs.number.Reads as number-reads
 
--- src/rt:117:9
 number-requires : tie.Need-number-requires
 number-requires c κs = search needs
 
--- src/rt:118:9
 number-requires-2 : tie.Need-number-requires-2
 number-requires-2 c κs = search needs
 
--- src/rt:120:9
 returns : tie.Need-returns
 returns c =
     let a = c .before .before .before .args in
     source-outside (a .f) (a .stops) (a .q) (omega (arith, c .before .before .number .ensures .0))
 
--- src/rt:123:9
 returns-2 : tie.Need-returns-2
 returns-2 c =
     let a = c .before .before .before .before .args in
     target-outside (a .f) (a .stops) (a .q) (omega (arith, c .before .before .number2 .ensures .0))
 
--- src/rt:126:9
 returns-3 : tie.Need-returns-3
 returns-3 c =
     let a = c .before .before .before .before .before .args in
-    one-stop (a .f) (a .stops) (a .q) (omega (arith, c .before .before .before .before .number .ensures .0, c .before .before .before .number2 .ensures .0))
+    one-stop (a .f) (a .stops) (a .q)
+    (omega (arith, c .before .before .before .before .number .ensures .0, c .before .before .before .number2 .ensures .0))
 
--- src/rt:128:5
 number-requires-3 : tie.Need-number-requires-3
 number-requires-3 c κs = search needs
 
--- src/rt:114:1
 returns-4 : tie.Need-returns-4
 returns-4 c =
     let a = c .before .before .before .before .before .before .before .args in

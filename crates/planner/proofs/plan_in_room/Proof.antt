@@ -16,144 +16,142 @@ use Rattle.planner.proofs.Laying.{rows-stand, tables-stand, lays, plan-
 use borrow.Author.Needs.{needs}
 use Rattle.planner.proofs.plan_in_room.Statement.{statement}
 use Rattle.planner.proofs.plan_in_room.Tie as tie
-use Rattle.planner.proofs.plan_in_room.Reads as reads
-use Rattle.planner.proofs.plan_in_room.Lts as lts
-use Rattle.cells.proofs.number.Reads as number-reads
-use Rattle.planner.proofs.bound_of.Reads as bound-of-reads
-use Rattle.planner.proofs.no_plan.Reads as no-plan-reads
-use Rattle.planner.proofs.plan_within.Reads as plan-within-reads
-use Rattle.planner.proofs.reach.Reads as reach-reads
-use Rattle.planner.proofs.sailings_in.Reads as sailings-in-reads
-use Rattle.reading.proofs.rows_before.Reads as rows-before-reads
-use Rattle.tables.proofs.read_tables.Reads as read-tables-reads
+
+-- places on the way: the entry; where the rows are laid out; where E is known
+abbrev begun : tie.After-rows-before → tie.Start
+begun c = c .before .before .before .before .before .before .before .before .before
+
+abbrev laid-out : tie.Else1 → tie.After-rows-before
+laid-out c = c .before .before .before .before .before .before
+
+abbrev arriving : tie.After-slice-known5 → tie.Else1
+arriving c = c .before .before .before .before .before .before .before .before .before
 
 laid : (c : tie.After-rows-before)
-    → Laid (c .before .before .before .before .before .before .before .before .before .args .file .now) (c .before .before .before .before .before .sailings-in .result)
-    (c .before .before .before .read-tables .last .1 .1 .0) (c .before .before .before .before .before .before .before .before .before .args .q) (c .rows-before .result)
+    → Laid (begun c .args .file .now) (c .before .before .before .before .before .sailings-in .result)
+    (c .before .before .before .read-tables .last .1 .1 .0) (begun c .args .q) (c .rows-before .result)
 laid c =
-    let a = c .before .before .before .before .before .before .before .before .before in
+    let a = begun c in
     let s = c .before .before .before .before .before .sailings-in in
     lays (a .args .f) (a .args .file .now) (a .args .q) (a .pre .0) (s .result) (s .ensures) (c .before .before .before .read-tables .last .1 .1 .0)
-    (c .rows-before .result) (c .before .number .result) (c .before .before .before .read-tables .ensures) (c .before .number .ensures .0) (c .rows-before .ensures)
+    (c .rows-before .result) (c .before .number .result) (c .before .before .before .read-tables .ensures) (c .before .number .ensures .0)
+    (c .rows-before .ensures)
 
 -- E does not lie before T, and is a minute of 16 bits
 arrival-fits : (c : tie.After-rows-before) (e : ℕ)
-    → earliest (timetableIn (c .before .before .before .before .before .before .before .before .before .args .file .now) (c .before .before .before .before .before .sailings-in .result))
-    (c .before .before .before .before .before .before .before .before .before .args .q) ≡ some e
-    → (c .before .before .before .before .before .before .before .before .before .args .q .minute ≤ e) × (e < 65536)
+    → earliest (timetableIn (begun c .args .file .now) (c .before .before .before .before .before .sailings-in .result))
+    (begun c .args .q) ≡ some e
+    → (begun c .args .q .minute ≤ e) × (e < 65536)
 arrival-fits c e found =
-    let a = c .before .before .before .before .before .before .before .before .before .args in
+    let a = begun c .args in
     earliest-fits (a .file .now) (c .before .before .before .before .before .sailings-in .result) (laid c .stand) (laid c .timely) (a .q) e found
 
 -- a result that is not missing is E
 arrived : (c : tie.After-reach) → (c .reach .result ≡ missing → ⊥)
-    → earliest (timetableIn (c .before .before .before .before .before .before .before .before .before .before .before .before .args .file .now)
+    → earliest (timetableIn (begun (c .before .before .before) .args .file .now)
     (c .before .before .before .before .before .before .before .before .sailings-in .result))
-    (c .before .before .before .before .before .before .before .before .before .before .before .before .args .q) ≡ some (c .reach .result)
+    (begun (c .before .before .before) .args .q) ≡ some (c .reach .result)
 arrived c real =
-    let a = c .before .before .before .before .before .before .before .before .before .before .before .before .args in
-    arrival-cell (earliest (timetableIn (a .file .now) (c .before .before .before .before .before .before .before .before .sailings-in .result)) (a .q))
+    let a = begun (c .before .before .before) .args in
+    arrival-cell (earliest (timetableIn (a .file .now) (c .before .before .before .before .before .before .before .before .sailings-in .result))
+    (a .q))
     (c .reach .result) (c .reach .ensures .0) real
 
--- src/rt:166:9
 sailings-in-requires : tie.Need-sailings-in-requires
 sailings-in-requires c κs = search needs
 
--- src/rt:167:26
 slice-aggregate-read-tables : tie.Need-slice-aggregate-read-tables
 slice-aggregate-read-tables c = search needs
 
--- src/rt:167:5
 read-tables-requires : tie.Need-read-tables-requires
 read-tables-requires c κs =
     let a = c .before .before .before .before .before in
     (tables-stand (a .args .f) (a .args .file .now) (a .args .q) (a .pre .0) (c .before .sailings-in .result) (c .before .sailings-in .ensures), refl)
 
--- src/rt:168:38
 number-requires : tie.Need-number-requires
 number-requires c κs = search needs
 
--- src/rt:168:9
 rows-before-requires : tie.Need-rows-before-requires
 rows-before-requires c κs =
     let a = c .before .before .before .before .before .before .before .before in
-    rows-stand (a .args .f) (a .args .file .now) (a .args .q) (a .pre .0) (c .before .before .before .before .sailings-in .result) (c .before .before .before .before .sailings-in .ensures)
+    rows-stand (a .args .f) (a .args .file .now) (a .args .q) (a .pre .0) (c .before .before .before .before .sailings-in .result)
+    (c .before .before .before .before .sailings-in .ensures)
 
--- src/rt:169:30
 slice-aggregate-reach : tie.Need-slice-aggregate-reach
 slice-aggregate-reach c = search needs
 
--- src/rt:169:9
 reach-requires : tie.Need-reach-requires
-reach-requires c κs = (laid (c .before .before), omega (arith, c .before .before .before .before .before .before .before .before .before .before .before .pre .2))
+reach-requires c κs = (laid (c .before .before), omega (arith, begun (c .before .before) .pre .2))
 
--- src/rt:171:9
 no-plan-requires : tie.Need-no-plan-requires
 no-plan-requires c κs = search needs
 
--- src/rt:171:9
 same-length : tie.Need-same-length
 same-length c = search needs
 
--- src/rt:171:9
 returns : tie.Need-returns
 returns c =
-    let a = c .before .before .before .before .before .before .before .before .before .before .before .before .before .before .before .before in
+    let a = begun (c .before .before .before .before .before .before .before) in
     let s = c .before .before .before .before .before .before .before .before .before .before .before .before .sailings-in in
     let r = c .before .before .before .before .reach in
     let gone = no-arrival-cell (earliest (timetableIn (a .args .file .now) (s .result)) (a .args .q)) (r .result) (r .ensures .0)
-    (λ e found. arrival-fits (c .before .before .before .before .before .before .before) e found .1) (omega arith) in
-    (no-plan-answers (planned (decode (a .args .f) (a .args .file .now)) (a .args .q)) (c .no-plan .result) (a .args .plan .now)
-    (plan-there (a .args .f) (a .args .file .now) (a .args .q) (a .pre .0) (s .result) (s .ensures)
-    ∙ no-plan-of (timetableIn (a .args .file .now) (s .result)) (a .args .q) gone) (c .no-plan .ensures),
-    kept-later 2400 (used (headOf (a .args .f) (a .args .file .now) .rows)) (a .args .work .now) (r .last .1 .1 .1 .1 .1 .0) (omega arith) (r .ensures .1))
+    (λ e found. arrival-fits (c .before .before .before .before .before .before .before) e found .1) (omega arith) in (
+      no-plan-answers (planned (decode (a .args .f) (a .args .file .now)) (a .args .q)) (c .no-plan .result) (a .args .plan .now)
+          (plan-there (a .args .f) (a .args .file .now) (a .args .q) (a .pre .0) (s .result) (s .ensures)
+          ∙ no-plan-of (timetableIn (a .args .file .now) (s .result)) (a .args .q) gone) (c .no-plan .ensures),
+      kept-later 2400 (used (headOf (a .args .f) (a .args .file .now) .rows)) (a .args .work .now) (r .last .1 .1 .1 .1 .1 .0) (omega arith)
+          (r .ensures .1),
+    )
 
--- src/rt:173:9
 bound-of-requires : tie.Need-bound-of-requires
 bound-of-requires c κs =
     let found = arrived (c .before .before .before) (λ e. let z : ⊥ = omega arith in z) in
-    let fits = arrival-fits (c .before .before .before .before .before .before) (c .before .before .before .reach .result) found in
-    (fits .0, fits .1, code-most (c .before .before .before .before .before .before .before .before .before .before .before .before .before .before .before .args .q) (c .before .before .before .before .before .before .before .before .before .before .before .before .before .before .before .pre .1))
+    let fits = arrival-fits (laid-out c) (c .before .before .before .reach .result) found in
+    (fits .0, fits .1, code-most (begun (laid-out c) .args .q) (begun (laid-out c) .pre .1))
 
--- src/rt:174:26
 slice-aggregate-plan-within : tie.Need-slice-aggregate-plan-within
 slice-aggregate-plan-within c = search needs
 
--- src/rt:174:5
 plan-within-requires : tie.Need-plan-within-requires
 plan-within-requires c κs =
-    let a = c .before .before .before .before .before .before .before .before .before .before .before .before .before .before .before .before .before .before .before in
-    let s = c .before .before .before .before .before .before .before .before .before .before .before .before .before .before .before .sailings-in in
-    let rows = rows-there (a .args .f) (a .args .file .now) (a .args .q) (a .pre .0) (s .result) (s .ensures) in
-    (laid (c .before .before .before .before .before .before .before .before .before .before), subst (Reaches (a .args .q .minute)) (sym (c .before .before .before .bound-of .ensures)) (bound-reaches (a .args .q) (c .before .before .before .before .before .before .before .reach .result)),
-    (let z : used (s .result .rows) ≤ length (c .before .before .before .before .before .before .before .reach .last .1 .1 .1 .1 .1 .0) = omega (arith, a .pre .2, rows, c .before .before .before .before .before .before .before .reach .ensures .1 .same-length) in z),
-    omega (arith, a .pre .3, rows))
+    let a = begun (laid-out (c .before .before .before .before)) in
+    let s = laid-out (c .before .before .before .before) .before .before .before .before .before .sailings-in in
+    let rows = rows-there (a .args .f) (a .args .file .now) (a .args .q) (a .pre .0) (s .result) (s .ensures) in (
+      laid (laid-out (c .before .before .before .before)),
+      subst (Reaches (a .args .q .minute)) (sym (c .before .before .before .bound-of .ensures))
+          (bound-reaches (a .args .q) (c .before .before .before .before .before .before .before .reach .result)),
+      (let z : used (s .result .rows) ≤ length (c .before .before .before .before .before .before .before .reach .last .1 .1 .1 .1 .1 .0) = omega
+          (arith, a .pre .2, rows, c .before .before .before .before .before .before .before .reach .ensures .1 .same-length) in z),
+      omega (arith, a .pre .3, rows),
+    )
 
--- src/rt:159:1
 same-length-2 : tie.Need-same-length-2
 same-length-2 c = search needs
 
--- src/rt:159:1
 same-length-3 : tie.Need-same-length-3
 same-length-3 c = search needs
 
--- src/rt:159:1
 returns-2 : tie.Need-returns-2
 returns-2 c =
-    let a = c .before .before .before .before .before .before .before .before .before .before .before .before .before .before .before .before .before .before .before .before .before .before .before .before in
-    let s = c .before .before .before .before .before .before .before .before .before .before .before .before .before .before .before .before .before .before .before .before .sailings-in in
-    let r = c .before .before .before .before .before .before .before .before .before .before .before .before .reach in
+    let a = begun (laid-out (arriving c)) in
+    let s = laid-out (arriving c) .before .before .before .before .before .sailings-in in
+    let r = arriving c .before .before .before .reach in
     let p = c .before .before .before .before .plan-within in
-    let found = arrived (c .before .before .before .before .before .before .before .before .before .before .before .before) (λ e. let z : ⊥ = omega (arith, c .before .before .before .before .before .before .before .before .before .if1 .left) in z) in
+    let found = arrived (arriving c .before .before .before) (λ e. let z : ⊥ = omega (arith, arriving c .if1 .left) in z) in
     let rows = rows-there (a .args .f) (a .args .file .now) (a .args .q) (a .pre .0) (s .result) (s .ensures) in
-    let same : planIn (a .args .file .now) (s .result) (a .args .q) (c .before .before .before .before .before .before .before .before .bound-of .result) ≡ planned (decode (a .args .f) (a .args .file .now)) (a .args .q) =
+    let same : planIn (a .args .file .now) (s .result) (a .args .q)
+    (c .before .before .before .before .before .before .before .before .bound-of .result) ≡ planned (decode (a .args .f) (a .args .file .now))
+    (a .args .q) =
     ap (planIn (a .args .file .now) (s .result) (a .args .q)) (c .before .before .before .before .before .before .before .before .bound-of .ensures)
     ∙ sym (plan-by-arrival (a .args .f) (a .args .file .now) (a .args .q) (a .pre .0) (s .result) (s .ensures) (r .result) found)
-    in
-    (subst (λ (o : Option Plan). Answers o (p .result) (a .args .plan .now) (p .last .1 .1 .1 .1 .1 .1 .1 .0)) same (p .ensures .0),
-    kept-both (used (headOf (a .args .f) (a .args .file .now) .rows)) (a .args .work .now) (r .last .1 .1 .1 .1 .1 .0) (p .last .1 .1 .1 .1 .1 .1 .0)
-    (kept-later 2400 (used (headOf (a .args .f) (a .args .file .now) .rows)) (a .args .work .now) (r .last .1 .1 .1 .1 .1 .0) (omega arith) (r .ensures .1))
-    (subst (λ n. KeptBehind (used n) (r .last .1 .1 .1 .1 .1 .0) (p .last .1 .1 .1 .1 .1 .1 .0)) rows (p .ensures .1)))
+    in (
+      subst (λ (o : Option Plan). Answers o (p .result) (a .args .plan .now) (p .last .1 .1 .1 .1 .1 .1 .1 .0)) same (p .ensures .0),
+      kept-both (used (headOf (a .args .f) (a .args .file .now) .rows)) (a .args .work .now) (r .last .1 .1 .1 .1 .1 .0)
+          (p .last .1 .1 .1 .1 .1 .1 .0)
+          (kept-later 2400 (used (headOf (a .args .f) (a .args .file .now) .rows)) (a .args .work .now) (r .last .1 .1 .1 .1 .1 .0) (omega arith)
+          (r .ensures .1))
+          (subst (λ n. KeptBehind (used n) (r .last .1 .1 .1 .1 .1 .0) (p .last .1 .1 .1 .1 .1 .1 .0)) rows (p .ensures .1)),
+    )
 
 pub plan-in-room-spec : {M : Type 1} → statement M
 plan-in-room-spec =

@@ -1,6 +1,6 @@
 -- `planner::plan_sound` meets its contract: 6, then 7, then the answer with work cleared. Assumes nothing.
-use Prim.Native.Nat.{ℕ, _<_, _≤_}
-use mathlib.Core.Bool.{true, false, _&&_}
+use Prim.Native.Nat.{_<_, _≤_}
+use mathlib.Core.Bool.{true, _&&_}
 use mathlib.Core.Path.{_≡_, sym, ap, _∙_}
 use native.Mathlib.Omega.{arith}
 use lib.Dec.{leb}
@@ -12,23 +12,36 @@ use Rattle.plans.specs.Plan.{planned}
 use Rattle.cells.specs.Cells.{used, filled}
 use Rattle.planner.specs.Outcome.{journeyRule, codeRule, workRoom, planRoom, cleared, planSound}
 use Rattle.planner.proofs.Rules.{asks}
-use Rattle.planner.proofs.Answered.{broken-left, broken-right, refused-six, refused-seven, not-refused, refused-as, answered-as, kept-later, cleared-behind}
+use Rattle.planner.proofs.Answered.{
+  broken-left,
+  broken-right,
+  refused-six,
+  refused-seven,
+  not-refused,
+  refused-as,
+  answered-as,
+  kept-later,
+  cleared-behind,
+}
 use borrow.Author.Needs.{needs}
 use Rattle.planner.proofs.plan_sound.Statement.{statement}
 use Rattle.planner.proofs.plan_sound.Tie as tie
-use Rattle.planner.proofs.plan_sound.Reads as reads
-use Rattle.planner.proofs.plan_sound.Lts as lts
-use Rattle.cells.proofs.fill.Reads as fill-reads
-use Rattle.planner.proofs.code_rule.Reads as code-rule-reads
-use Rattle.planner.proofs.journey_rule.Reads as journey-rule-reads
-use Rattle.planner.proofs.no_plan.Reads as no-plan-reads
-use Rattle.planner.proofs.plan_in_room.Reads as plan-in-room-reads
-use Rattle.planner.proofs.work_room.Reads as work-room-reads
+
+-- places on the way: the entry; where the room is known; where the answer is known
+abbrev begun : tie.After-work-room → tie.Start
+begun c = c .before .before .before .before .before .before .before .before
+
+abbrev roomy : tie.After-plan-in-room → tie.After-work-room
+roomy c = c .before .before .before .before .before
+
+abbrev answering : tie.After-slice-known5 → tie.After-plan-in-room
+answering c = c .before .before .before .before .before .before .before .before
 
 -- the rule of 6 at the stops that the file decodes to
 ruled : (c : tie.After-journey-rule)
     → journeyRule (c .before .before .before .before .args .f)
-    (decode (c .before .before .before .before .args .f) (c .before .before .before .before .args .file .now) .stops) (c .before .before .before .before .args .q)
+    (decode (c .before .before .before .before .args .f) (c .before .before .before .before .args .file .now) .stops)
+    (c .before .before .before .before .args .q)
     ≡ c .journey-rule .result
 ruled c =
     let a = c .before .before .before .before in
@@ -36,118 +49,125 @@ ruled c =
 
 rules-kept : (c : tie.Else2)
     → (journeyRule (c .before .before .before .before .before .before .before .args .f)
-    (decode (c .before .before .before .before .before .before .before .args .f) (c .before .before .before .before .before .before .before .args .file .now) .stops)
+    (decode (c .before .before .before .before .before .before .before .args .f)
+    (c .before .before .before .before .before .before .before .args .file .now) .stops)
     (c .before .before .before .before .before .before .before .args .q)
     && codeRule (c .before .before .before .before .before .before .before .args .q)) ≡ true
 rules-kept c =
-    both (ruled (c .before .before .before) ∙ not-false _ (c .before .before .if1 .left)) (sym (c .before .code-rule .ensures) ∙ not-false _ (c .if2 .left))
+    both (ruled (c .before .before .before) ∙ not-false _ (c .before .before .if1 .left))
+    (sym (c .before .code-rule .ensures) ∙ not-false _ (c .if2 .left))
 
--- src/rt:95:9
 journey-rule-requires : tie.Need-journey-rule-requires
 journey-rule-requires c κs = search needs
 
--- src/rt:96:9
 no-plan-requires : tie.Need-no-plan-requires
 no-plan-requires c κs = search needs
 
--- src/rt:96:9
 returns : tie.Need-returns
 returns c =
     let a = c .before .before .before .before .before .before in
-    refused-as (planSound (a .args .f) (decode (a .args .f) (a .args .file .now)) (a .args .q) (a .args .work .now) (a .args .plan .now)) 6 0 (c .no-plan .result) (a .args .work .now) (a .args .plan .now)
-    (refused-six (a .args .f) (decode (a .args .f) (a .args .file .now)) (a .args .q) (a .args .work .now) (a .args .plan .now) (broken-left (codeRule (a .args .q)) (ruled (c .before .before) ∙ not-true _ (c .before .if1 .taken))))
+    refused-as (planSound (a .args .f) (decode (a .args .f) (a .args .file .now)) (a .args .q) (a .args .work .now) (a .args .plan .now)) 6 0
+    (c .no-plan .result) (a .args .work .now) (a .args .plan .now)
+    (refused-six (a .args .f) (decode (a .args .f) (a .args .file .now)) (a .args .q) (a .args .work .now) (a .args .plan .now)
+    (broken-left (codeRule (a .args .q)) (ruled (c .before .before) ∙ not-true _ (c .before .if1 .taken))))
     (c .no-plan .ensures)
 
--- src/rt:98:9
 code-rule-requires : tie.Need-code-rule-requires
 code-rule-requires c κs = search needs
 
--- src/rt:99:9
 no-plan-requires-2 : tie.Need-no-plan-requires-2
 no-plan-requires-2 c κs = search needs
 
--- src/rt:99:9
 returns-2 : tie.Need-returns-2
 returns-2 c =
     let a = c .before .before .before .before .before .before .before .before in
-    refused-as (planSound (a .args .f) (decode (a .args .f) (a .args .file .now)) (a .args .q) (a .args .work .now) (a .args .plan .now)) 6 0 (c .no-plan2 .result) (a .args .work .now) (a .args .plan .now)
-    (refused-six (a .args .f) (decode (a .args .f) (a .args .file .now)) (a .args .q) (a .args .work .now) (a .args .plan .now) (broken-right (journeyRule (a .args .f) (decode (a .args .f) (a .args .file .now) .stops) (a .args .q))
+    refused-as (planSound (a .args .f) (decode (a .args .f) (a .args .file .now)) (a .args .q) (a .args .work .now) (a .args .plan .now)) 6 0
+    (c .no-plan2 .result) (a .args .work .now) (a .args .plan .now)
+    (refused-six (a .args .f) (decode (a .args .f) (a .args .file .now)) (a .args .q) (a .args .work .now) (a .args .plan .now)
+    (broken-right (journeyRule (a .args .f) (decode (a .args .f) (a .args .file .now) .stops) (a .args .q))
     (sym (c .before .before .code-rule .ensures) ∙ not-true _ (c .before .if2 .taken))))
     (c .no-plan2 .ensures)
 
--- src/rt:101:9
 work-room-requires : tie.Need-work-room-requires
 work-room-requires c κs = search needs
 
--- src/rt:103:9
 no-plan-requires-3 : tie.Need-no-plan-requires-3
 no-plan-requires-3 c κs = search needs
 
--- src/rt:103:9
 returns-3 : tie.Need-returns-3
 returns-3 c =
-    let a = c .before .before .before .before .before .before .before .before .before .before in
+    let a = begun (c .before .before) in
     let n = length (decode (a .args .f) (a .args .file .now) .rows) in
     let short : length (a .args .work .now) < workRoom n = omega (arith, c .before .before .work-room .ensures, a .pre .rows-are) in
-    refused-as (planSound (a .args .f) (decode (a .args .f) (a .args .file .now)) (a .args .q) (a .args .work .now) (a .args .plan .now)) 7 0 (c .no-plan3 .result) (a .args .work .now) (a .args .plan .now)
-    (refused-seven (a .args .f) (decode (a .args .f) (a .args .file .now)) (a .args .q) (a .args .work .now) (a .args .plan .now) (rules-kept (c .before .before .before)) (broken-left (leb (planRoom n) (length (a .args .plan .now))) (lt-leb (workRoom n) (length (a .args .work .now)) short)))
+    refused-as (planSound (a .args .f) (decode (a .args .f) (a .args .file .now)) (a .args .q) (a .args .work .now) (a .args .plan .now)) 7 0
+    (c .no-plan3 .result) (a .args .work .now) (a .args .plan .now)
+    (refused-seven (a .args .f) (decode (a .args .f) (a .args .file .now)) (a .args .q) (a .args .work .now) (a .args .plan .now)
+    (rules-kept (c .before .before .before))
+    (broken-left (leb (planRoom n) (length (a .args .plan .now))) (lt-leb (workRoom n) (length (a .args .work .now)) short)))
     (c .no-plan3 .ensures)
 
--- src/rt:105:21
 mul-if4 : tie.Need-mul-if4
 mul-if4 c = search needs
 
--- src/rt:106:9
 no-plan-requires-4 : tie.Need-no-plan-requires-4
 no-plan-requires-4 c κs = search needs
 
--- src/rt:106:9
 returns-4 : tie.Need-returns-4
 returns-4 c =
-    let a = c .before .before .before .before .before .before .before .before .before .before .before in
+    let a = begun (c .before .before .before) in
     let n = length (decode (a .args .f) (a .args .file .now) .rows) in
     let short : length (a .args .plan .now) < planRoom n = omega (arith, a .pre .rows-are) in
-    refused-as (planSound (a .args .f) (decode (a .args .f) (a .args .file .now)) (a .args .q) (a .args .work .now) (a .args .plan .now)) 7 0 (c .no-plan4 .result) (a .args .work .now) (a .args .plan .now)
-    (refused-seven (a .args .f) (decode (a .args .f) (a .args .file .now)) (a .args .q) (a .args .work .now) (a .args .plan .now) (rules-kept (c .before .before .before .before)) (broken-right (leb (workRoom n) (length (a .args .work .now))) (lt-leb (planRoom n) (length (a .args .plan .now)) short)))
+    refused-as (planSound (a .args .f) (decode (a .args .f) (a .args .file .now)) (a .args .q) (a .args .work .now) (a .args .plan .now)) 7 0
+    (c .no-plan4 .result) (a .args .work .now) (a .args .plan .now)
+    (refused-seven (a .args .f) (decode (a .args .f) (a .args .file .now)) (a .args .q) (a .args .work .now) (a .args .plan .now)
+    (rules-kept (c .before .before .before .before))
+    (broken-right (leb (workRoom n) (length (a .args .work .now))) (lt-leb (planRoom n) (length (a .args .plan .now)) short)))
     (c .no-plan4 .ensures)
 
--- src/rt:108:9
 plan-in-room-requires : tie.Need-plan-in-room-requires
 plan-in-room-requires c κs =
-    let a = c .before .before .before .before .before .before .before .before .before .before .before .before in
-    let rows = a .pre .rows-are ∙ a .pre .sound .rows-count in
-    (asks (a .args .f) (a .args .file .now) (a .args .stops) (a .args .count) (a .args .q) (a .pre) (sym (c .before .before .before .before .before .before .before .before .journey-rule .ensures) ∙ not-false _ (c .before .before .before .before .before .before .before .if1 .left)),
-    sym (c .before .before .before .before .before .before .code-rule .ensures) ∙ not-false _ (c .before .before .before .before .before .if2 .left), omega (arith, c .before .before .before .before .work-room .ensures, rows), omega (arith, rows))
+    let a = begun (c .before .before .before .before) in
+    let rows = a .pre .rows-are ∙ a .pre .sound .rows-count in (
+      asks (a .args .f) (a .args .file .now) (a .args .stops) (a .args .count) (a .args .q) (a .pre)
+          (sym (c .before .before .before .before .before .before .before .before .journey-rule .ensures)
+          ∙ not-false _ (c .before .before .before .before .before .before .before .if1 .left)),
+      sym (c .before .before .before .before .before .before .code-rule .ensures)
+          ∙ not-false _ (c .before .before .before .before .before .if2 .left),
+      omega (arith, c .before .before .before .before .work-room .ensures, rows),
+      omega (arith, rows),
+    )
 
--- src/rt:109:5
 fill-requires : tie.Need-fill-requires
 fill-requires c κs = search needs
 
--- src/rt:81:1
 same-length : tie.Need-same-length
 same-length c = search needs
 
--- src/rt:81:1
 same-length-2 : tie.Need-same-length-2
 same-length-2 c = search needs
 
--- src/rt:81:1
 returns-5 : tie.Need-returns-5
 returns-5 c =
-    let a = c .before .before .before .before .before .before .before .before .before .before .before .before .before .before .before .before .before .before .before .before .before in
+    let a = begun (roomy (answering c)) in
     let n = length (decode (a .args .f) (a .args .file .now) .rows) in
-    let p = c .before .before .before .before .before .before .before .before .plan-in-room in
+    let p = answering c .plan-in-room in
     let rows = a .pre .rows-are ∙ a .pre .sound .rows-count in
-    let room : c .before .before .before .before .before .before .before .before .before .before .before .before .before .work-room .result ≡ workRoom n = c .before .before .before .before .before .before .before .before .before .before .before .before .before .work-room .ensures ∙ ap workRoom (a .pre .rows-are) in
-    let work-fits : workRoom n ≤ length (a .args .work .now) = omega (arith, room, c .before .before .before .before .before .before .before .before .before .before .before .before .if3 .left) in
-    let plan-fits : planRoom n ≤ length (a .args .plan .now) = omega (arith, a .pre .rows-are, c .before .before .before .before .before .before .before .before .before .before .before .if4 .left) in
-    let kept = kept-later (used (headOf (a .args .f) (a .args .file .now) .rows)) (workRoom n) (a .args .work .now) (p .last .1 .1 .1 .0) (omega (arith, rows, a .pre .rows-are)) (p .ensures .1) in
+    let room : roomy (answering c) .work-room .result ≡ workRoom n = roomy (answering c) .work-room .ensures ∙ ap workRoom (a .pre .rows-are) in
+    let work-fits : workRoom n ≤ length (a .args .work .now) = omega (arith, room, answering c .before .before .before .before .if3 .left) in
+    let plan-fits : planRoom n ≤ length (a .args .plan .now) = omega (arith, a .pre .rows-are, answering c .before .before .before .if4 .left) in
+    let kept = kept-later (used (headOf (a .args .f) (a .args .file .now) .rows)) (workRoom n) (a .args .work .now) (p .last .1 .1 .1 .0)
+    (omega (arith, rows, a .pre .rows-are)) (p .ensures .1) in
     let clear : c .before .before .fill .last .0 ≡ cleared (workRoom n) (a .args .work .now) =
-    c .before .before .fill .ensures ∙ ap (λ k. filled (p .last .1 .1 .1 .0) 0 k 0) room ∙ cleared-behind (workRoom n) (a .args .work .now) (p .last .1 .1 .1 .0) kept
+    c .before .before .fill .ensures ∙ ap (λ k. filled (p .last .1 .1 .1 .0) 0 k 0) room
+    ∙ cleared-behind (workRoom n) (a .args .work .now) (p .last .1 .1 .1 .0) kept
     in
-    let settled = answered-as (planSound (a .args .f) (decode (a .args .f) (a .args .file .now)) (a .args .q) (a .args .work .now) (a .args .plan .now)) (planned (decode (a .args .f) (a .args .file .now)) (a .args .q)) (p .result) (cleared (workRoom n) (a .args .work .now))
+    let settled = answered-as
+    (planSound (a .args .f) (decode (a .args .f) (a .args .file .now)) (a .args .q) (a .args .work .now) (a .args .plan .now))
+    (planned (decode (a .args .f) (a .args .file .now)) (a .args .q)) (p .result) (cleared (workRoom n) (a .args .work .now))
     (a .args .plan .now) (p .last .1 .1 .1 .1 .0)
-    (not-refused (a .args .f) (decode (a .args .f) (a .args .file .now)) (a .args .q) (a .args .work .now) (a .args .plan .now) (rules-kept (c .before .before .before .before .before .before .before .before .before .before .before .before .before .before)) (both (le-leb (workRoom n) (length (a .args .work .now)) work-fits) (le-leb (planRoom n) (length (a .args .plan .now)) plan-fits)))
+    (not-refused (a .args .f) (decode (a .args .f) (a .args .file .now)) (a .args .q) (a .args .work .now) (a .args .plan .now)
+    (rules-kept (roomy (answering c) .before))
+    (both (le-leb (workRoom n) (length (a .args .work .now)) work-fits) (le-leb (planRoom n) (length (a .args .plan .now)) plan-fits)))
     (p .ensures .0) in
     (settled .0, clear ∙ settled .1, settled .2)
 

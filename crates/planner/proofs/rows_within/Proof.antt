@@ -5,30 +5,23 @@ use Rattle.reading.specs.Reading.{rowsIn, Cut}
 use borrow.Author.Needs.{needs}
 use Rattle.planner.proofs.rows_within.Statement.{statement}
 use Rattle.planner.proofs.rows_within.Tie as tie
-use Rattle.planner.proofs.rows_within.Reads as reads
-use Rattle.planner.proofs.rows_within.Lts as lts
-use Rattle.cells.proofs.number.Reads as number-reads
-use Rattle.reading.proofs.rows_before.Reads as rows-before-reads
 
--- src/rt:253:9
 returns : tie.Need-returns
 returns c = search needs
 
--- src/rt:255:26
 number-requires : tie.Need-number-requires
 number-requires c κs = search needs
 
--- src/rt:255:5
 rows-before-requires : tie.Need-rows-before-requires
 rows-before-requires c κs = search needs
 
--- src/rt:248:1
 returns-2 : tie.Need-returns-2
 returns-2 c =
     let real : c .before .before .before .before .args .bound ≡ 0 → ⊥ = λ e. let z : ⊥ = omega arith in z in
     record {
       all = λ e. absurd (real e);
-      before = λ _. subst (λ n. Cut (rowsIn (c .before .before .before .before .args .file .now) (c .before .before .before .before .args .s)) n (c .rows-before .result)) (c .before .number .ensures .0)
+      before = λ _. subst (λ n. Cut (rowsIn (c .before .before .before .before .args .file .now) (c .before .before .before .before .args .s)) n
+          (c .rows-before .result)) (c .before .number .ensures .0)
           (c .rows-before .ensures);
     }
 

@@ -5,19 +5,13 @@ use Rattle.reading.specs.Sections.{sailingsOf}
 use borrow.Author.Needs.{needs}
 use Rattle.planner.proofs.sailings_in.Statement.{statement}
 use Rattle.planner.proofs.sailings_in.Tie as tie
-use Rattle.planner.proofs.sailings_in.Reads as reads
-use Rattle.planner.proofs.sailings_in.Lts as lts
-use Rattle.layout.proofs.head_at.Reads as head-at-reads
 
--- src/rt:182:30
 sub-head-at : tie.Need-sub-head-at
 sub-head-at c = search needs
 
--- src/rt:182:9
 head-at-requires : tie.Need-head-at-requires
 head-at-requires c κs = search needs
 
--- src/rt:178:1
 returns : tie.Need-returns
 unfolding headOf trailerAt
 returns c =

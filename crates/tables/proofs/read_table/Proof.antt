@@ -1,9 +1,9 @@
 -- `tables::read_table` meets its contract: the running sums, then the two cells ahead of them. Assumes nothing.
-use Prim.Native.Nat.{ℕ, _+_, _*_, _<_, _≤_}
+use Prim.Native.Nat.{_+_, _*_, _≤_}
 use mathlib.Core.Path.{sym, subst}
 use native.Mathlib.Omega.{arith}
 use borrow.Author.Needs.{needs}
-use lib.ListN.{length, set, length-set}
+use lib.ListN.{length-set}
 use Rattle.timetable.specs.Classes.{whole}
 use Rattle.layout.specs.Decode.{blockEnd}
 use Rattle.tables.specs.Summed.{SharesStand}
@@ -28,7 +28,8 @@ add-read-shares-2 c = search needs
 read-shares-requires : tie.Need-read-shares-requires
 read-shares-requires c κs =
     let a = c .before .before .before .before in
-    let stand = subst (SharesStand (a .args .file .now) (a .args .at + 2)) (sym (c .before .u16-at .ensures .0)) (block-shares (a .args .file .now) (a .args .at) (a .pre .0)) in
+    let stand = subst (SharesStand (a .args .file .now) (a .args .at + 2)) (sym (c .before .u16-at .ensures .0))
+    (block-shares (a .args .file .now) (a .args .at) (a .pre .0)) in
     (stand, omega (arith, stand .few, a .pre .2))
 
 cell-requires : tie.Need-cell-requires
@@ -47,7 +48,8 @@ slice-write-tables c = search needs
 late-fits : (c : tie.After-read-shares) → c .read-shares .result ≤ 254 * whole
 late-fits c =
     let a = c .before .before .before .before .before in
-    late-small (a .args .file .now) (a .args .at) (c .before .before .u16-at .result) (c .read-shares .result) (a .pre .0) (c .before .before .u16-at .ensures .0) (c .read-shares .ensures .0)
+    late-small (a .args .file .now) (a .args .at) (c .before .before .u16-at .result) (c .read-shares .result) (a .pre .0)
+    (c .before .before .u16-at .ensures .0) (c .read-shares .ensures .0)
 
 add-cell : tie.Need-add-cell
 add-cell c = omega (arith, late-fits (c .before .before .before))
@@ -90,8 +92,10 @@ returns c =
     let late = r .read-shares .result in
     let read = r .before .before .u16-at .ensures .0 in
     let held =
-    table-held file (a .args .at) longest late (a .pre .0) read (r .read-shares .ensures .0) (a .args .tables .now) (r .read-shares .last .1 .1 .1 .1 .0)
-    (a .args .k) (c .before .cell .result) (c .cell2 .result) (a .pre .1) (a .pre .2) (r .read-shares .ensures .1) (c .before .cell .ensures) (c .cell2 .ensures)
+    table-held file (a .args .at) longest late (a .pre .0) read (r .read-shares .ensures .0) (a .args .tables .now)
+    (r .read-shares .last .1 .1 .1 .1 .0)
+    (a .args .k) (c .before .cell .result) (c .cell2 .result) (a .pre .1) (a .pre .2) (r .read-shares .ensures .1) (c .before .cell .ensures)
+    (c .cell2 .ensures)
     in
     (block-ends file (a .args .at) longest late (a .pre .0) read (r .read-shares .ensures .0), held .0, held .1)
 

@@ -1,10 +1,7 @@
 -- `tables::read_tables` meets its contract: so far the blocks of the first k classes are held. Assumes nothing.
-use Prim.Native.Nat.{ℕ, _+_, _-_, _<_, _≤_}
+use Prim.Native.Nat.{_-_, _<_}
 use mathlib.Core.Path.{sym, subst, _∙_}
 use native.Mathlib.Omega.{arith}
-use lib.ListN.{length}
-use Rattle.reading.specs.Reading.{BlockHeld, tablesIn}
-use Rattle.timetable.specs.Timetable.{sharesOf}
 use Rattle.tables.specs.Summed.{BlockStands}
 use Rattle.tables.proofs.Held.{ReadSoFar, block-stands, read-none, read-more}
 use Rattle.tables.proofs.read_tables.Statement.{statement}
@@ -26,7 +23,8 @@ read-table-requires c κs =
     let l = c .before .before .before in
     let a = l .before .before .before in
     let inside : l .loop .k < a .args .s .classes = omega arith in (
-      subst (BlockStands (a .args .file .now)) (sym (l .loop .inv .next)) (block-stands (a .args .file .now) (a .args .s) (a .pre .0) (l .loop .k) inside),
+      subst (BlockStands (a .args .file .now)) (sym (l .loop .inv .next))
+          (block-stands (a .args .file .now) (a .args .s) (a .pre .0) (l .loop .k) inside),
       omega (arith, a .pre .0 .few-classes),
       l .loop .inv .room,
     )
