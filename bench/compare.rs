@@ -5,9 +5,11 @@ use crate::{baseline, definitions, verified};
 
 const DIRT: u32 = 0xdead_beef;
 
+// Few trips most of the time; now and then many, so that lists of chosen rows grow long.
 fn timetable(dice: &mut Dice) -> Timetable {
     let stops = dice.from(2, 7) as u16;
-    let trips = dice.from(1, 12);
+    let most = [12, 12, 12, 150][dice.from(0, 4) as usize];
+    let trips = dice.from(1, most);
     let days = dice.from(20, 200);
     let classes = dice.from(1, 4);
     let tables = (0..classes).map(|_| {

@@ -11,7 +11,7 @@ use shapes::Shape;
 use std::hint::black_box;
 use std::time::{Duration, Instant};
 
-const ROUNDS: usize = 41;
+const ROUNDS: usize = 201;
 
 fn timed(turns: usize, mut job: impl FnMut()) -> Duration {
     let start = Instant::now();
@@ -21,23 +21,17 @@ fn timed(turns: usize, mut job: impl FnMut()) -> Duration {
     start.elapsed()
 }
 
-// The median time of each job, in microseconds: the jobs take turns, so that noise meets all alike.
-fn medians(jobs: &mut [&mut dyn FnMut()]) -> Vec<f64> {
+// The best time of each job in microseconds. The jobs take turns in many short rounds, so that each has its quiet moments.
+fn raced(jobs: &mut [&mut dyn FnMut()]) -> Vec<f64> {
     let one = timed(3, || jobs[0]()).as_secs_f64() / 3.0;
-    let turns = ((0.002 / one) as usize).max(1);
-    let mut times = vec![Vec::new(); jobs.len()];
+    let turns = ((0.0005 / one) as usize).max(1);
+    let mut best = vec![f64::INFINITY; jobs.len()];
     for _ in 0..ROUNDS {
-        for (job, times) in jobs.iter_mut().zip(&mut times) {
-            times.push(timed(turns, &mut *job).as_secs_f64() / turns as f64 * 1e6);
+        for (job, best) in jobs.iter_mut().zip(&mut best) {
+            *best = best.min(timed(turns, &mut *job).as_secs_f64() / turns as f64 * 1e6);
         }
     }
-    times
-        .iter_mut()
-        .map(|t| {
-            t.sort_by(f64::total_cmp);
-            t[ROUNDS / 2]
-        })
-        .collect()
+    best
 }
 
 fn plan_shape(s: &Shape) -> f64 {
@@ -61,14 +55,16 @@ fn plan_shape(s: &Shape) -> f64 {
             black_box(baseline::plan(black_box(&s.file), *q).is_ok());
         }
     };
-    let m = medians(&mut [&mut ours, &mut theirs]);
+    let r = raced(&mut [&mut ours, &mut theirs]);
     let per = s.queries.len() as f64;
-    println!("{:32} {:8.1} {:8.1} {:6.2}   rides {}", s.name, m[0] / per, m[1] / per, m[0] / m[1], count);
-    m[0] / m[1]
+    println!("{:32} {:8.1} {:8.1} {:6.2} {:6}", s.name, r[0] / per, r[1] / per, r[0] / r[1], count);
+    r[0] / r[1]
 }
 
 fn check_shape(s: &Shape) {
-    let m = medians(&mut [
+    let refusal = baseline::check(&s.file, Trips::LookBack).map_or_else(|refusal| refusal.0 as usize, |_| 0);
+    assert_eq!(verified::check(&s.file), refusal, "{}", s.name);
+    let r = raced(&mut [
         &mut || {
             black_box(verified::check(black_box(&s.file)));
         },
@@ -79,17 +75,18 @@ fn check_shape(s: &Shape) {
             black_box(baseline::check(black_box(&s.file), Trips::LastRows).is_ok());
         },
     ]);
-    println!("{:32} {:8.1} {:8.1} {:6.2} {:8.1} {:6.2}", s.name, m[0], m[1], m[0] / m[1], m[2], m[0] / m[2]);
+    println!("{:32} {:8.1} {:8.1} {:6.2} {:8.1} {:6.2}", s.name, r[0], r[1], r[0] / r[1], r[2], r[0] / r[2]);
 }
 
 fn main() {
     let files = std::env::args().nth(1).map_or(2_000, |x| x.parse().expect("a count of files"));
+    let only = std::env::args().nth(2).unwrap_or_default();
     let (asked, plans) = compare::compare(files, 60);
     println!("{asked} queries on small files agree, {plans} with a plan\n");
-    println!("{:32} {:>8} {:>8} {:>6}", "plan, microseconds a query", "ours", "Rust", "ratio");
-    let ratios: Vec<f64> = shapes::all().iter().map(plan_shape).collect();
+    println!("{:32} {:>8} {:>8} {:>6} {:>6}", "plan, microseconds a query", "ours", "Rust", "ratio", "rides");
+    let ratios: Vec<f64> = shapes::all().iter().filter(|s| s.name.contains(&only)).map(plan_shape).collect();
     let mean = (ratios.iter().map(|r| r.ln()).sum::<f64>() / ratios.len() as f64).exp();
     println!("{:32} {:>24.2}\n", "geometric mean", mean);
     println!("{:32} {:>8} {:>8} {:>6} {:>8} {:>6}", "check, microseconds", "ours", "looks", "ratio", "table", "ratio");
-    shapes::checks().iter().for_each(check_shape);
+    shapes::checks().iter().filter(|s| s.name.contains(&only)).for_each(check_shape);
 }

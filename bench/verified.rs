@@ -1,48 +1,81 @@
-// The verified planner: the exported functions of the crate `measured`.
+// The verified planner: the exported functions of the crate `subject`, which give whole answers.
 use crate::sailing::{Answer, Query};
 
-#[allow(improper_ctypes)]
 extern "C" {
-    fn measured_check(file: &[u8], answer: &mut [u32]);
-    fn measured_plan(
-        file: &[u8],
+    fn subject_check(file: *const u8, file_len: usize, answer: *mut u32, answer_len: usize);
+    fn subject_plan(
+        file: *const u8,
+        file_len: usize,
         source: u32,
         target: u32,
         minute: u32,
         code: u32,
-        work: &mut [u32],
-        rides: &mut [u32],
-        answer: &mut [u32],
+        work: *mut u32,
+        work_len: usize,
+        rides: *mut u32,
+        rides_len: usize,
+        answer: *mut u32,
+        answer_len: usize,
     );
-    fn measured_earliest(
-        file: &[u8],
+    fn subject_earliest(
+        file: *const u8,
+        file_len: usize,
         source: u32,
         target: u32,
         minute: u32,
-        work: &mut [u32],
-        answer: &mut [u32],
+        work: *mut u32,
+        work_len: usize,
+        answer: *mut u32,
+        answer_len: usize,
     );
 }
 
-// Number and place of the refusal, or 0, S, n and K.
-pub fn check(file: &[u8]) -> [u32; 4] {
-    let mut answer = [0; 4];
-    unsafe { measured_check(file, &mut answer) };
+// The refusal's number, 0 for a sound file.
+pub fn check(file: &[u8]) -> usize {
+    let mut answer = [0u32; 6];
+    unsafe { subject_check(file.as_ptr(), file.len(), answer.as_mut_ptr(), 6) };
+    answer[0] as usize
+}
+
+// Number and place of the refusal, rides, expected ticks, latest minute and bound.
+pub fn plan(file: &[u8], q: Query, work: &mut [u32], rides: &mut [u32]) -> [u32; 6] {
+    let mut answer = [0u32; 6];
+    unsafe {
+        subject_plan(
+            file.as_ptr(),
+            file.len(),
+            q.source,
+            q.target,
+            q.minute,
+            q.code,
+            work.as_mut_ptr(),
+            work.len(),
+            rides.as_mut_ptr(),
+            rides.len(),
+            answer.as_mut_ptr(),
+            6,
+        )
+    };
     answer
 }
 
-// Number and place of the refusal, or 0, rides, expected ticks, latest minute and bound.
-pub fn plan(file: &[u8], q: Query, work: &mut [u32], rides: &mut [u32]) -> [u32; 5] {
-    let mut answer = [0; 5];
-    unsafe { measured_plan(file, q.source, q.target, q.minute, q.code, work, rides, &mut answer) };
-    answer
-}
-
-// Number and place of the refusal, or 0 and E.
-pub fn earliest(file: &[u8], q: Query, work: &mut [u32]) -> [u32; 2] {
-    let mut answer = [0; 2];
-    unsafe { measured_earliest(file, q.source, q.target, q.minute, work, &mut answer) };
-    answer
+// Number and place of the refusal, and E.
+pub fn earliest(file: &[u8], q: Query, work: &mut [u32]) -> [u32; 3] {
+    let mut answer = [0u32; 6];
+    unsafe {
+        subject_earliest(
+            file.as_ptr(),
+            file.len(),
+            q.source,
+            q.target,
+            q.minute,
+            work.as_mut_ptr(),
+            work.len(),
+            answer.as_mut_ptr(),
+            6,
+        )
+    };
+    [answer[0], answer[1], answer[2]]
 }
 
 pub fn answer(file: &[u8], q: Query, work: &mut [u32], rides: &mut [u32]) -> Answer {
@@ -50,6 +83,6 @@ pub fn answer(file: &[u8], q: Query, work: &mut [u32], rides: &mut [u32]) -> Ans
     if a[0] != 0 {
         return Answer::Refused { number: a[0], place: a[1] };
     }
-    let rides = rides[..3 * a[1] as usize].chunks_exact(3).map(|r| [r[0], r[1], r[2]]).collect();
-    Answer::Plan { expected: a[2], latest: a[3], bound: a[4], rides }
+    let rides = rides[..3 * a[2] as usize].chunks_exact(3).map(|r| [r[0], r[1], r[2]]).collect();
+    Answer::Plan { expected: a[3], latest: a[4], bound: a[5], rides }
 }
