@@ -17,54 +17,54 @@ use Rattle.tables.specs.Summed.{BlockStands, SharesStand, Summed, SameOu
 
 -- the two cells ahead of the running sums
 module _
-  (cells cells' : List ℕ)
-  (k : ℕ)
-  (shares : List ℕ)
-  (few : length shares ≤ 254)
-  (room : blockCell (suc k) ≤ length cells)
-  (summed : Summed cells cells' (blockCell k + 2) shares (length shares))
-  (longest-cell expected-cell : ℕ)
+    (cells cells' : List ℕ)
+    (k : ℕ)
+    (shares : List ℕ)
+    (few : length shares ≤ 254)
+    (room : blockCell (suc k) ≤ length cells)
+    (summed : Summed cells cells' (blockCell k + 2) shares (length shares))
+    (longest-cell expected-cell : ℕ)
   where
-  -- a cell that is neither of the two
-  apart : (i : ℕ) → (i ≡ blockCell k + 0 → ⊥) → (i ≡ blockCell k + 1 → ⊥)
-      → getD (set (set cells' (blockCell k + 0) longest-cell) (blockCell k + 1) expected-cell) i 0 ≡ getD cells' i 0
-  apart i not-first not-second =
-      getD-set-other (set cells' (blockCell k + 0) longest-cell) (blockCell k + 1) i expected-cell 0 not-second
-      ∙ getD-set-other cells' (blockCell k + 0) i longest-cell 0 not-first
+    -- a cell that is neither of the two
+    apart : (i : ℕ) → (i ≡ blockCell k + 0 → ⊥) → (i ≡ blockCell k + 1 → ⊥)
+        → getD (set (set cells' (blockCell k + 0) longest-cell) (blockCell k + 1) expected-cell) i 0 ≡ getD cells' i 0
+    apart i not-first not-second =
+        getD-set-other (set cells' (blockCell k + 0) longest-cell) (blockCell k + 1) i expected-cell 0 not-second
+        ∙ getD-set-other cells' (blockCell k + 0) i longest-cell 0 not-first
 
-  pub block-held : longest-cell ≡ longest shares → expected-cell ≡ up 16 (weigh shares 0 (λ v. v))
-      → BlockHeld (set (set cells' (blockCell k + 0) longest-cell) (blockCell k + 1) expected-cell) k shares
-  block-held l e =
-      let first : blockCell k ≡ blockCell k + 0 = omega arith in
-      record {
-        longest-held =
-            ap (λ i. getD (set (set cells' (blockCell k + 0) longest-cell) (blockCell k + 1) expected-cell) i 0) first
-            ∙ getD-set-other (set cells' (blockCell k + 0) longest-cell) (blockCell k + 1) (blockCell k + 0) expected-cell 0
-            (λ q. let z : ⊥ = omega arith in z)
-            ∙ getD-set-same cells' (blockCell k + 0) longest-cell 0 (omega (arith, summed .same-length)) ∙ l;
-        expected-held =
-            getD-set-same (set cells' (blockCell k + 0) longest-cell) (blockCell k + 1) expected-cell 0
-            (omega (arith, summed .same-length, length-set cells' (blockCell k + 0) longest-cell))
-            ∙ e;
-        cumulative-held =
-            λ v h.
-                apart (blockCell k + 2 + v) (λ q. let z : ⊥ = omega arith in z) (λ q. let z : ⊥ = omega arith in z) ∙ summed .sums v h;
-      }
+    pub block-held : longest-cell ≡ longest shares → expected-cell ≡ up 16 (weigh shares 0 (λ v. v))
+        → BlockHeld (set (set cells' (blockCell k + 0) longest-cell) (blockCell k + 1) expected-cell) k shares
+    block-held l e =
+        let first : blockCell k ≡ blockCell k + 0 = omega arith in
+        record {
+          longest-held =
+              ap (λ i. getD (set (set cells' (blockCell k + 0) longest-cell) (blockCell k + 1) expected-cell) i 0) first
+              ∙ getD-set-other (set cells' (blockCell k + 0) longest-cell) (blockCell k + 1) (blockCell k + 0) expected-cell 0
+              (λ q. let z : ⊥ = omega arith in z)
+              ∙ getD-set-same cells' (blockCell k + 0) longest-cell 0 (omega (arith, summed .same-length)) ∙ l;
+          expected-held =
+              getD-set-same (set cells' (blockCell k + 0) longest-cell) (blockCell k + 1) expected-cell 0
+              (omega (arith, summed .same-length, length-set cells' (blockCell k + 0) longest-cell))
+              ∙ e;
+          cumulative-held =
+              λ v h.
+              apart (blockCell k + 2 + v) (λ q. let z : ⊥ = omega arith in z) (λ q. let z : ⊥ = omega arith in z) ∙ summed .sums v h;
+        }
 
-  pub others-kept : SameOutside cells (set (set cells' (blockCell k + 0) longest-cell) (blockCell k + 1) expected-cell) k
-  others-kept =
-      record {
-        same-length =
-            length-set (set cells' (blockCell k + 0) longest-cell) (blockCell k + 1) expected-cell
-            ∙ length-set cells' (blockCell k + 0) longest-cell ∙ summed .same-length;
-        kept =
-            λ i w.
-                apart i (λ q. ⊎-elim (λ x. let z : ⊥ = omega arith in z) (λ x. let z : ⊥ = omega arith in z) w)
-                (λ q. ⊎-elim (λ x. let z : ⊥ = omega arith in z) (λ x. let z : ⊥ = omega arith in z) w)
-                ∙ summed .kept i
-                (⊎-elim (λ x. inl (let z : i < blockCell k + 2 = omega arith in z))
-                (λ x. inr (let z : blockCell k + 2 + length shares ≤ i = omega arith in z)) w);
-      }
+    pub others-kept : SameOutside cells (set (set cells' (blockCell k + 0) longest-cell) (blockCell k + 1) expected-cell) k
+    others-kept =
+        record {
+          same-length =
+              length-set (set cells' (blockCell k + 0) longest-cell) (blockCell k + 1) expected-cell
+              ∙ length-set cells' (blockCell k + 0) longest-cell ∙ summed .same-length;
+          kept =
+              λ i w.
+              apart i (λ q. ⊎-elim (λ x. let z : ⊥ = omega arith in z) (λ x. let z : ⊥ = omega arith in z) w)
+              (λ q. ⊎-elim (λ x. let z : ⊥ = omega arith in z) (λ x. let z : ⊥ = omega arith in z) w)
+              ∙ summed .kept i
+              (⊎-elim (λ x. inl (let z : i < blockCell k + 2 = omega arith in z))
+              (λ x. inr (let z : blockCell k + 2 + length shares ≤ i = omega arith in z)) w);
+        }
 
 -- where a standing block's shares stand
 pub block-shares : (file : List ℕ) (at : ℕ) → BlockStands file at → SharesStand file (at + 2) (u16At file at)
