@@ -24,8 +24,10 @@ fn put_number(number: u32, at: usize, out: &mut [u8])
     requires { ⌜ at + 4 ≤ length (now out) ⌝ }
     ensures { λ r. ⌜ now (out .exit) ≡ sets (now (out .entry)) at (u32Bytes number) ⌝ }
 {
-    out[at] = (number % 256) as u8;
-    out[at + 1] = (number / 256 % 256) as u8;
-    out[at + 2] = (number / 65536 % 256) as u8;
-    out[at + 3] = (number / 16777216 % 256) as u8;
+    let low = number % 65536;
+    let high = number / 65536;
+    out[at] = (low % 256) as u8;
+    out[at + 1] = (low / 256 % 256) as u8;
+    out[at + 2] = (high % 256) as u8;
+    out[at + 3] = (high / 256 % 256) as u8;
 }
