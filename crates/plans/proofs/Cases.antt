@@ -6,15 +6,16 @@ use Rattle.layout.specs.Numbers.{u16Bytes, u32Bytes, u16At, u32At}
 use Rattle.layout.specs.Encode.{encode, rowsBytes, rowBytes, tablesBytes, tableBytes, sharesBytes, trailerBytes}
 use Rattle.layout.specs.Decode.{decode, headOf, headAt, trailerAt, rowsFrom, rowAt, tablesFrom, tableAt, sharesFrom, blockEnd, tablesEnd}
 use Rattle.layout.specs.Check.{checked, checkedAs, fileVerdict, headVerdict, lengthRule, headRule, classVerdict, classesVerdict, joined, sectionsJoin, rangesOf, answered, answerOf}
+use Rattle.delays.specs.House.{cumulative, between}
 use Rattle.plans.specs.Worth.{weigh, firstOpen, worthOr, caught, arrivalWorth, changeWorth}
 use Rattle.plans.specs.Chosen.{whenSafe, offInTicks, worthOf, offInMinutes, nextOf, getOff, stayOn, least, firstAt, leads, others, choose, bestOf, scan, scanned}
 use Rattle.plans.specs.Plan.{earliest, chosenFor, inWindow, wanted, upTo, windowsOf, extract, ridesFrom, latestOf, planWithin, planBefore, planned}
 use Rattle.plans.specs.Cases.{Hold, cases, Apart, misreads, same, wBytes, checkOf, ridesOf, told, numberOf, worthsTo, joinedUp, chosenTo}
 
 pub cases-hold : Hold cases
-unfolding cases wBytes checkOf ridesOf told numberOf worthsTo joinedUp chosenTo encode rowsBytes rowBytes tablesBytes tableBytes sharesBytes trailerBytes u16Bytes u32Bytes checked checkedAs fileVerdict headVerdict lengthRule headRule classVerdict classesVerdict joined sectionsJoin rangesOf answered answerOf decode headOf headAt trailerAt rowsFrom rowAt tablesFrom tableAt sharesFrom blockEnd tablesEnd u16At u32At ownRule departureRule lastOfTrip follows tripRule rowVerdict rowsVerdict sum sharesRule planned planBefore earliest weigh firstOpen worthOr caught arrivalWorth changeWorth whenSafe offInTicks worthOf offInMinutes nextOf getOff stayOn least firstAt leads others choose bestOf scan scanned chosenFor inWindow wanted upTo windowsOf extract ridesFrom latestOf planWithin
+unfolding cases cumulative between wBytes checkOf ridesOf told numberOf worthsTo joinedUp chosenTo encode rowsBytes rowBytes tablesBytes tableBytes sharesBytes trailerBytes u16Bytes u32Bytes checked checkedAs fileVerdict headVerdict lengthRule headRule classVerdict classesVerdict joined sectionsJoin rangesOf answered answerOf decode headOf headAt trailerAt rowsFrom rowAt tablesFrom tableAt sharesFrom blockEnd tablesEnd u16At u32At ownRule departureRule lastOfTrip follows tripRule rowVerdict rowsVerdict sum sharesRule planned planBefore earliest weigh firstOpen worthOr caught arrivalWorth changeWorth whenSafe offInTicks worthOf offInMinutes nextOf getOff stayOn least firstAt leads others choose bestOf scan scanned chosenFor inWindow wanted upTo windowsOf extract ridesFrom latestOf planWithin
 cases-hold =
-    (refl, (refl, (refl, (refl, (refl, (refl, (refl, (refl, (refl, (refl, (refl, (refl, (refl, (refl, tt))))))))))))))
+    (refl, (refl, (refl, (refl, (refl, (refl, (refl, (refl, (refl, (refl, (refl, (refl, (refl, (refl, (refl, tt)))))))))))))))
 
 pub misreads-apart : Apart misreads
 unfolding misreads same ridesOf told encode rowsBytes rowBytes tablesBytes tableBytes sharesBytes trailerBytes u16Bytes u32Bytes checked checkedAs fileVerdict headVerdict lengthRule headRule classVerdict classesVerdict joined sectionsJoin rangesOf answered answerOf decode headOf headAt trailerAt rowsFrom rowAt tablesFrom tableAt sharesFrom blockEnd tablesEnd u16At u32At ownRule departureRule lastOfTrip follows tripRule rowVerdict rowsVerdict sum sharesRule planned planBefore earliest weigh firstOpen worthOr caught arrivalWorth changeWorth whenSafe offInTicks worthOf offInMinutes nextOf getOff stayOn least firstAt leads others choose bestOf scan scanned chosenFor inWindow wanted upTo windowsOf extract ridesFrom latestOf planWithin

@@ -13,6 +13,7 @@ use Rattle.layout.specs.Check.{Answer, answerOf, checked}
 use Rattle.layout.specs.Decode.{decode}
 use Rattle.layout.specs.Encode.{encode}
 use Rattle.layout.specs.Format.{versionOne}
+use Rattle.delays.specs.House.{cumulative}
 use Rattle.plans.specs.declared.Query.{Query}
 use Rattle.plans.specs.Chosen.{Weighed, scanned, offInTicks, worthOf}
 use Rattle.plans.specs.Plan.{Plan, chosenFor, earliest, planned}
@@ -139,6 +140,11 @@ cases =
     ∷ record { answered = planOf oneTrip (query 0 2 590 0); expected = 1 ∷ 169920 ∷ 670 ∷ 0 ∷ 0 ∷ 1 ∷ 169920 ∷ [] }
     -- 11: 2,561 ticks
     ∷ record { answered = planOf seldomLate (query 0 2 0 0); expected = 1 ∷ 2561 ∷ 11 ∷ 0 ∷ 0 ∷ 0 ∷ 2561 ∷ [] }
+    -- 12: pair (5,30): cumulative shares at 1, 2, 5, 6, 35 are 303, 682, 2,730, 3,106, 4,096
+    ∷ record {
+      answered = map (cumulative 5 30) (1 ∷ 2 ∷ 5 ∷ 6 ∷ 35 ∷ []);
+      expected = 303 ∷ 682 ∷ 2730 ∷ 3106 ∷ 4096 ∷ [];
+    }
     ∷ []
 
 -- what is answered, what is right, and what the wrong reading would answer
