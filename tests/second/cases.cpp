@@ -1,0 +1,189 @@
+// The printed cases of document 01, run on the definitions.
+#include <cstdio>
+#include <string>
+
+#include "calls.hpp"
+
+using namespace second;
+
+namespace {
+
+int failures = 0, passed = 0;
+
+void expect(bool holds, const char *what) {
+  if (holds) {
+    ++passed;
+    return;
+  }
+  ++failures;
+  std::printf("FAILED: %s\n", what);
+}
+
+// "Case W: S 3, K 2. Class 0: M 0. Class 1: M 10, shares 2,048 at 0, 1,024 at
+// 5, 1,024 at 10. Rows (..): 0 1 600 630 0 1; 1 2 632 660 1 0; 1 2 636 700 2
+// 0; 1 2 650 690 3 0."
+Draft case_w() {
+  Draft draft;
+  draft.stops = 3;
+  draft.classes = {{0, {4096}},
+                   {10, {2048, 0, 0, 0, 0, 1024, 0, 0, 0, 0, 1024}}};
+  draft.rows = {{0, 1, 600, 630, 0, 1},
+                {1, 2, 632, 660, 1, 0},
+                {1, 2, 636, 700, 2, 0},
+                {1, 2, 650, 690, 3, 0}};
+  return draft;
+}
+
+Seen planned(const Bytes &file, const Query &query) {
+  return by_definitions(file, {Entry::plan, query, 2600, 30, 5});
+}
+
+Seen planned(const Draft &draft, const Query &query) {
+  return planned(written(draft), query);
+}
+
+const Query W_QUERY{0, 2, 590, 0};
+const Numbers W_RIDES{0, 0, 172800, 1, 1, 168960, 3, 3, 176640};
+
+bool refused(const Seen &seen, uint32_t number) {
+  return seen.answer == Answer{number, 0, 0, 0, 0, 0};
+}
+
+bool holds_rides(const Seen &seen, const Numbers &rides) {
+  return seen.answer[2] * 3 == rides.size() &&
+         std::equal(rides.begin(), rides.end(), seen.plan.begin());
+}
+
+bool slices_as_after_plan(const Seen &seen, size_t rows) {
+  const Numbers before = dirty(2600, 5);
+  const size_t cleared = 4 * rows + 2500, filled = 3 * seen.answer[2];
+  const Numbers slice = dirty(30, ~5u);
+  for (size_t place = 0; place < 2600; ++place)
+    if (seen.work[place] != (place < cleared ? 0 : before[place])) return false;
+  return std::equal(slice.begin() + filled, slice.end(),
+                    seen.plan.begin() + filled);
+}
+
+void case_w_itself() {
+  const Bytes file = written(case_w());
+  expect(file.size() == 92, "W: length 92");
+  expect(file[84] == 0 && file[88] == 48, "W: row offset 0, table offset 48");
+  const CheckedFile checked = check_file(file);
+  expect(checked.refusal.number == 0, "W: sound");
+  const std::optional<Plan> plan = plan_of(checked.sailings, W_QUERY);
+  expect(plan && sheet(checked.sailings, *plan) ==
+                     "plan 3 d1 11:15 d1 11:30\n"
+                     "0 d1 10:00 1 d1 10:30 d1 11:15\n"
+                     "1 d1 10:32 2 d1 11:00 d1 11:00\n"
+                     "1 d1 10:50 2 d1 11:30 d1 11:30\n",
+         "W: the sheet");
+  const Seen seen = planned(file, W_QUERY);
+  expect(seen.answer == Answer{0, 0, 3, 172800, 690, 0}, "W: the answer");
+  expect(holds_rides(seen, W_RIDES), "1: worths of W's rides");
+  expect(slices_as_after_plan(seen, 4), "W: later contents");
+  Worths worths(checked.sailings, 2, std::nullopt);
+  expect(worths.worth(2) == 179200u && !worths.chosen(2), "2: third row");
+}
+
+void last_row_earlier() {
+  Draft draft = case_w();
+  draft.rows[3].departure = 640;
+  expect(planned(draft, W_QUERY).answer[0] == 0, "3: plan at 640");
+  draft.rows[3].departure = 639;
+  expect(refused(planned(draft, W_QUERY), 8), "4: refusal 8 at 639");
+  expect(slices_as_after_plan(planned(draft, W_QUERY), 4), "4: contents");
+}
+
+void bounds_and_minutes() {
+  const Draft draft = case_w();
+  const Seen bounded = planned(draft, {0, 2, 590, 4});
+  expect(bounded.answer == Answer{0, 0, 3, 172800, 690, 690}, "5: q 4");
+  expect(holds_rides(bounded, W_RIDES), "5: same plan");
+  const Seen earliest = by_definitions(
+      written(draft), {Entry::earliest, W_QUERY, 2516, 0, 5});
+  expect(earliest.answer == Answer{0, 0, 690, 0, 0, 0}, "5: E 690");
+  expect(planned(draft, {0, 2, 590, 5}).answer[5] == 715, "6: bound 715");
+  expect(holds_rides(planned(draft, {0, 2, 600, 0}), W_RIDES), "7: T 600");
+  expect(refused(planned(draft, {0, 2, 601, 0}), 8), "8: T 601");
+}
+
+void twin_and_staying_on() {
+  Draft draft = case_w();
+  draft.rows.push_back({1, 2, 650, 690, 4, 0});
+  expect(holds_rides(planned(draft, W_QUERY),
+                     {0, 0, 172800, 1, 1, 168960, 4, 4, 176640}),
+         "9: row 4 on the sheet");
+  draft.rows = {{0, 1, 600, 620, 0, 1}, {1, 2, 625, 660, 0, 1}};
+  expect(holds_rides(planned(draft, W_QUERY), {0, 1, 169920}), "10: one ride");
+}
+
+void shares_and_house() {
+  expect(worth_at_target({1, {4095, 1}}, 10) == 2561, "11: 2,561 ticks");
+  const uint32_t minutes[] = {1, 2, 5, 6, 35};
+  const uint32_t shares[] = {303, 682, 2730, 3106, 4096};
+  for (int place = 0; place < 5; ++place)
+    expect(house_cumulative(1, minutes[place]) == shares[place],
+           "12: pair (5,30)");
+  uint32_t count = 0;
+  for (uint32_t pair = 0; pair < HOUSE_PAIRS; ++pair) {
+    count += house_maximum(pair) + 1;
+    Draft draft = case_w();
+    draft.classes[0] = house_class(pair);
+    expect(check_file(written(draft)).refusal.number == 0,
+           "a house table is a sound class");
+    expect(!house_cumulative(pair, house_maximum(pair) + 1), "minute above M");
+  }
+  expect(count == 575, "575 cumulative shares");
+  expect(!house_cumulative(8, 0), "pair above 7");
+}
+
+void edges() {
+  Draft draft = case_w();
+  draft.rows.clear();
+  for (bool tables_first : {false, true}) {
+    draft.tables_first = tables_first;
+    expect(refused(planned(draft, W_QUERY), 8), "13: n = 0");
+  }
+  expect(refused(planned(case_w(), {0, 2, 590, 3}), 6), "13: q 3");
+  expect(refused(planned(case_w(), {0, 2, 590, 17}), 6), "13: q 17");
+  expect(refused(planned(Bytes(19), W_QUERY), 1), "13: length 19");
+  expect(refused(planned(Bytes(27921), W_QUERY), 1), "13: length 27,921");
+}
+
+Draft full_draft() {
+  Draft draft;
+  draft.stops = 200;
+  for (int number = 0; number < 16; ++number) {
+    draft.classes.push_back({120, std::vector<uint32_t>(121, 0)});
+    draft.classes.back().shares.back() = 4096;
+  }
+  for (uint32_t row = 0; row < 2000; ++row)
+    draft.rows.push_back({0, 199, 8079 + row, 10079, row, 15});
+  return draft;
+}
+
+void least_and_greatest() {
+  Draft least;
+  least.classes = {{0, {4096}}};
+  expect(written(least).size() == 20, "least length 20");
+  expect(check_file(written(least)).refusal.number == 0, "least file sound");
+  Bytes full = written(full_draft());
+  expect(full.size() == 27920, "greatest length 27,920");
+  expect(check_file(full).refusal.number == 0, "greatest file sound");
+  full.insert(full.begin(), 0);
+  expect(check_file(full).refusal.number == 1, "27,921 with a sound trailer");
+}
+
+}  // namespace
+
+int main() {
+  case_w_itself();
+  last_row_earlier();
+  bounds_and_minutes();
+  twin_and_staying_on();
+  shares_and_house();
+  edges();
+  least_and_greatest();
+  std::printf("%d printed cases hold, %d fail\n", passed, failures);
+  return failures == 0 ? 0 : 1;
+}

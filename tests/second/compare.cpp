@@ -1,0 +1,332 @@
+// Compares the subject with the definitions on many small files, and the
+// definitions with demands 2 and 3 on tiny ones.
+//
+//   compare [--self] [--files N] [--seed S] [--every E]
+//
+// --self needs no subject. Of the tiny files every E-th is enumerated.
+#include <unistd.h>
+
+#include <csignal>
+#include <cstdio>
+#include <cstdlib>
+#include <cstring>
+#include <ctime>
+#include <fstream>
+#include <map>
+#include <string>
+
+#include "calls.hpp"
+
+using namespace second;
+
+namespace {
+
+// ----------------------------------------------------------------- tallies
+
+std::map<std::string, uint64_t> tally;
+
+void count(const std::string &kind, uint64_t times = 1) {
+  tally[kind] += times;
+}
+
+std::string two_digits(uint32_t number) {
+  return (number < 10 ? "0" : "") + std::to_string(number);
+}
+
+const char *const ENTRIES[3] = {"check", "plan", "earliest"};
+
+void count_answer(const Call &call, const Answer &answer) {
+  const std::string entry = ENTRIES[static_cast<size_t>(call.entry)];
+  count(entry + (answer[0] == 0 ? ": answered"
+                                : ": refused " + std::to_string(answer[0])));
+  if (call.entry != Entry::plan || answer[0] != 0) return;
+  count("plans with bound code " + two_digits(call.query.code));
+  count("plans of rides " + (answer[2] > 9 ? "10 and more"
+                                           : two_digits(answer[2])));
+}
+
+void print_tally() {
+  for (const auto &[kind, times] : tally)
+    std::printf("%10llu  %s\n", static_cast<unsigned long long>(times),
+                kind.c_str());
+}
+
+// -------------------------------------------------------------- complaints
+
+void save(const Bytes &file, const std::string &text) {
+  std::ofstream("difference.sailings", std::ios::binary)
+      .write(reinterpret_cast<const char *>(file.data()),
+             static_cast<std::streamsize>(file.size()));
+  std::ofstream("difference.txt") << text;
+}
+
+[[noreturn]] void complain(uint64_t seed, const Bytes &file, const Call &call,
+                           const std::string &what) {
+  const std::string text = "seed " + std::to_string(seed) + ": " + what +
+                           "\nreplay difference.sailings " + words_of(call) +
+                           "\n";
+  save(file, text);
+  std::printf("%sfile of %zu bytes saved in difference.sailings\n",
+              text.c_str(), file.size());
+  std::exit(1);
+}
+
+// A subject that dies or hangs is a difference, too.
+struct Watched {
+  uint64_t seed;
+  const Bytes *file;
+  const Call *call;
+} watched;
+
+constexpr unsigned LONGEST_CALL_SECONDS = 60;
+
+void subject_died(int signal_number) {
+  std::signal(signal_number, SIG_DFL);
+  if (!watched.file) std::exit(1);
+  complain(watched.seed, *watched.file, *watched.call,
+           "the call ended with signal " + std::to_string(signal_number));
+}
+
+void watch_signals() {
+  for (int number : {SIGABRT, SIGSEGV, SIGFPE, SIGILL, SIGBUS, SIGALRM})
+    std::signal(number, subject_died);
+}
+
+// --------------------------------------------------------- the definitions
+
+std::vector<Ride> rides_of(const Plan &plan) {
+  std::vector<Ride> rides;
+  for (const PlannedRide &planned : plan.rides) rides.push_back(planned.ride);
+  return rides;
+}
+
+// The plan is one of the safe plans, and its worths are those of its rides.
+bool plan_is_itself_safe(const Sailings &sailings, const Query &query,
+                         const Plan &plan) {
+  const std::vector<Ride> rides = rides_of(plan);
+  if (!is_safe_plan(sailings, query, plan.bound, rides)) return false;
+  SetWorths worths(sailings, query.target, rides);
+  for (size_t place = 0; place < rides.size(); ++place)
+    if (worths.worth(rides[place]) != plan.rides[place].worth) return false;
+  return expected_arrival(sailings, query, rides) == plan.expected;
+}
+
+bool passes(const Sailings &sailings, const Ride &ride, uint32_t stop) {
+  for (const Ride &shorter : rides_from(sailings, ride.boards))
+    if (shorter.leaves < ride.leaves &&
+        left_row(sailings, shorter).landing == stop)
+      return true;
+  return false;
+}
+
+bool decided_by_row_number(const Sailings &sailings, Worths &worths,
+                           size_t row) {
+  for (size_t other = 0; other < row; ++other)
+    if (sailings.rows[other].boarding == sailings.rows[row].boarding &&
+        sailings.rows[other].departure == sailings.rows[row].departure &&
+        worths.worth(other) == worths.worth(row))
+      return true;
+  return false;
+}
+
+void count_if(bool seen, const char *feature) {
+  if (seen) count(std::string("looked into: ") + feature);
+}
+
+void count_features(const Sailings &sailings, const Query &query,
+                    const Plan &plan) {
+  Worths worths(sailings, query.target, plan.bound);
+  Query unbounded = query;
+  unbounded.code = 0;
+  count_if(plan_of(sailings, unbounded)->expected != plan.expected,
+           "plans that the bound makes worse");
+  for (const PlannedRide &planned : plan.rides) {
+    const Ride &ride = planned.ride;
+    count_if(ride.leaves != ride.boards, "rides over several rows");
+    count_if(passes(sailings, ride, query.target), "rides past the target");
+    count_if(passes(sailings, ride, query.source), "rides past the source");
+    count_if(decided_by_row_number(sailings, worths, ride.boards),
+             "rides chosen by row number among equals");
+    count_if(left_row(sailings, ride).landing == query.target &&
+                 class_of(sailings, ride).maximum_delay > 0,
+             "last rides with M above 0");
+  }
+}
+
+// ---------------------------------------------------------- demands 2 and 3
+
+constexpr size_t MOST_RIDES_FOR_SETS = 13;
+constexpr uint64_t MOST_CHOICES = 4096;
+
+std::string demand_2(const Sailings &sailings, const Query &query,
+                     const std::optional<Plan> &plan) {
+  const SafePlanCensus census = census_of_safe_plans(
+      sailings, query, plan ? plan->bound : std::nullopt);
+  count("demand 2: files and queries enumerated");
+  count("demand 2: sets of rides tried", census.sets_tried);
+  count("demand 2: safe plans found", census.safe_plans);
+  if (earliest_by_listing(sailings, query) !=
+      earliest_safe_arrival(sailings, query))
+    return "E by listing all safe journeys differs";
+  if (plan.has_value() != (census.safe_plans > 0))
+    return "a safe plan exists and no safe journey, or the reverse";
+  if (plan && census.least_expected != plan->expected)
+    return "demand 2: least expected arrival of a safe plan is " +
+           std::to_string(census.least_expected) + ", the plan's is " +
+           std::to_string(plan->expected);
+  return "";
+}
+
+std::string demand_3(const Sailings &sailings, const Query &query,
+                     const Plan &plan) {
+  const WalkCensus census = census_of_walks(sailings, query, plan);
+  count("demand 3: plans walked under all delays");
+  count("demand 3: choices of delays walked", census.choices);
+  if (census.some_ride_only_at_share_zero)
+    count("demand 3: plans with a ride caught only at share 0");
+  if (census.longest_way < plan.rides.size())
+    count("demand 3: plans longer than their longest way");
+  if (census.holds()) return "";
+  return std::string("demand 3:") +
+         (census.ride_always_there ? "" : " no ride there") +
+         (census.reached_by_latest ? "" : " after the latest minute") +
+         (census.no_more_rides_than_plan ? "" : " more rides than the plan") +
+         (census.every_ride_boarded ? "" : " a ride never boarded") +
+         (census.mean_not_later ? "" : " mean later than expected") +
+         (census.mean_within_ticks ? "" : " mean too early");
+}
+
+// What the definitions themselves must keep; empty if they do.
+std::string doubts(const Bytes &file, const Call &call, bool enumerate) {
+  const Sailings sailings = check_file(file).sailings;
+  const std::optional<Plan> plan = plan_of(sailings, call.query);
+  if (plan && !plan_is_itself_safe(sailings, call.query, *plan))
+    return "the plan is not a safe plan with these worths";
+  if (plan) count_features(sailings, call.query, *plan);
+  std::string doubt;
+  if (enumerate && all_rides(sailings).size() <= MOST_RIDES_FOR_SETS)
+    doubt = demand_2(sailings, call.query, plan);
+  if (!doubt.empty() || !plan || !enumerate || plan->rides.size() > 8 ||
+      !choices_of_delays(sailings, *plan, MOST_CHOICES))
+    return doubt;
+  return demand_3(sailings, call.query, *plan);
+}
+
+// ---------------------------------------------------------------- the runs
+
+struct Options {
+  bool self = false;
+  uint64_t files = 100000, seed = 1, every = 5;
+};
+
+bool is_meant_sound(const Sample &made) {
+  return made.shape != Shape::damaged && made.shape != Shape::edge &&
+         made.shape != Shape::noise;
+}
+
+// A network has too many rides for demand 2 but often a short plan for 3.
+bool is_tiny(const Sample &made) {
+  return made.shape == Shape::tiny || made.shape == Shape::relay ||
+         made.shape == Shape::passing || made.shape == Shape::network;
+}
+
+void try_call(const Options &options, uint64_t seed, const Sample &made,
+              const Call &call, bool enumerate) {
+  const Seen defined = by_definitions(made.file, call);
+  count_answer(call, defined.answer);
+  if (!options.self) {
+    watched = {seed, &made.file, &call};
+    alarm(LONGEST_CALL_SECONDS);
+    const Seen got = by_subject(made.file, call);
+    alarm(0);
+    if (!same(defined, got))
+      complain(seed, made.file, call,
+               "difference\ndefinitions: " + text_of(defined, call) +
+                   "\nsubject:     " + text_of(got, call));
+  }
+  const bool decided = defined.answer[0] == 0 || defined.answer[0] == 8;
+  if (call.entry != Entry::plan || !decided) return;
+  if (!options.self && !enumerate) return;
+  const std::string doubt = doubts(made.file, call, enumerate);
+  if (!doubt.empty()) complain(seed, made.file, call, doubt);
+}
+
+void try_files(const Options &options) {
+  uint64_t tiny = 0;
+  for (uint64_t seed = options.seed; seed < options.seed + options.files;
+       ++seed) {
+    const Sample made = sample(seed);
+    count(std::string("files: ") + name_of(made.shape));
+    if (is_meant_sound(made) && check_file(made.file).refusal.number != 0)
+      complain(seed, made.file, made.calls[0], "meant sound and refused");
+    const bool enumerate = is_tiny(made) && tiny++ % options.every == 0;
+    for (const Call &call : made.calls)
+      try_call(options, seed, made, call, enumerate);
+  }
+}
+
+void try_house_share(const Options &options, uint32_t pair, uint32_t minute) {
+  const Answer defined = house_by_definitions(pair, minute);
+  count(defined[0] == 0 ? "house: shares" : "house: refused 6");
+  if (options.self) return;
+  const Answer got = house_by_subject(pair, minute);
+  if (defined == got) return;
+  std::printf("house %u %u: definitions%s, subject%s\n", pair, minute,
+              text_of(defined).c_str(), text_of(got).c_str());
+  std::exit(1);
+}
+
+void try_house(const Options &options) {
+  for (uint32_t pair = 0; pair < 20; ++pair)
+    for (uint32_t minute = 0; minute < 140; ++minute)
+      try_house_share(options, pair, minute);
+  const uint32_t far[] = {255, 256, 257, 65535, 65536, 65537, 4294967295u};
+  for (uint32_t number : far)
+    for (uint32_t small = 0; small < 10; ++small) {
+      try_house_share(options, small, number);
+      try_house_share(options, number, small);
+    }
+  for (uint32_t number : far) try_house_share(options, number, number);
+}
+
+bool read_options(int words, char **arguments, Options &options) {
+  for (int place = 1; place < words; ++place) {
+    const char *word = arguments[place];
+    if (std::strcmp(word, "--self") == 0) {
+      options.self = true;
+      continue;
+    }
+    uint64_t *value = std::strcmp(word, "--files") == 0   ? &options.files
+                      : std::strcmp(word, "--seed") == 0  ? &options.seed
+                      : std::strcmp(word, "--every") == 0 ? &options.every
+                                                          : nullptr;
+    if (!value || place + 1 == words) return false;
+    *value = std::strtoull(arguments[++place], nullptr, 10);
+  }
+  return options.every > 0;
+}
+
+}  // namespace
+
+int main(int words, char **arguments) {
+  Options options;
+  if (!read_options(words, arguments, options)) {
+    std::fprintf(stderr,
+                 "compare [--self] [--files N] [--seed S] [--every E]\n");
+    return 2;
+  }
+  if (!options.self && !subject_is_there()) {
+    std::fprintf(stderr, "built without a subject: only --self\n");
+    return 2;
+  }
+  watch_signals();
+  try_house(options);
+  try_files(options);
+  print_tally();
+  std::printf("%llu files from seed %llu, %s: no difference, %.1f s\n",
+              static_cast<unsigned long long>(options.files),
+              static_cast<unsigned long long>(options.seed),
+              options.self ? "definitions alone" : "with the subject",
+              static_cast<double>(std::clock()) / CLOCKS_PER_SEC);
+  return 0;
+}

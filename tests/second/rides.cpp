@@ -1,0 +1,136 @@
+// Document 01, "Rides, safe journeys, plans": rides, journeys and the bound.
+#include "definitions.hpp"
+
+#include <algorithm>
+
+namespace second {
+
+const Row &boarded_row(const Sailings &sailings, const Ride &ride) {
+  return sailings.rows[ride.boards];
+}
+
+const Row &left_row(const Sailings &sailings, const Ride &ride) {
+  return sailings.rows[ride.leaves];
+}
+
+// "Its class and arrival are those of the row where it leaves."
+uint32_t arrival(const Sailings &sailings, const Ride &ride) {
+  return left_row(sailings, ride).arrival;
+}
+
+const SailingClass &class_of(const Sailings &sailings, const Ride &ride) {
+  return sailings.classes[left_row(sailings, ride).sailing_class];
+}
+
+uint32_t safe_arrival(const Sailings &sailings, const Ride &ride) {
+  return arrival(sailings, ride) + class_of(sailings, ride).maximum_delay;
+}
+
+std::optional<size_t> next_row_of_trip(const Sailings &sailings, size_t row) {
+  for (size_t later = row + 1; later < sailings.rows.size(); ++later)
+    if (sailings.rows[later].trip == sailings.rows[row].trip) return later;
+  return std::nullopt;
+}
+
+// "A ride boards at one row and leaves at the same or a later row of the same
+// trip. .. It may pass the target without leaving."
+std::vector<Ride> rides_from(const Sailings &sailings, size_t row) {
+  std::vector<Ride> answer;
+  for (std::optional<size_t> leaves = row; leaves;
+       leaves = next_row_of_trip(sailings, *leaves))
+    answer.push_back({row, *leaves});
+  return answer;
+}
+
+std::vector<Ride> all_rides(const Sailings &sailings) {
+  std::vector<Ride> answer;
+  for (size_t row = 0; row < sailings.rows.size(); ++row)
+    for (const Ride &ride : rides_from(sailings, row)) answer.push_back(ride);
+  return answer;
+}
+
+bool within(const Bound &bound, uint32_t minute) {
+  return !bound || minute <= *bound;
+}
+
+namespace {
+
+using Earliest = std::optional<uint32_t>;
+
+void take_less(Earliest &least, const Earliest &other) {
+  if (other && (!least || *other < *least)) least = other;
+}
+
+bool boards_at(const Row &row, uint32_t stop, uint32_t minute) {
+  return row.boarding == stop && row.departure >= minute;
+}
+
+// The safe journeys of one file to one target.
+class Journeys {
+ public:
+  Journeys(const Sailings &sailings, uint32_t target, bool remembering)
+      : sailings_(sailings),
+        target_(target),
+        remembering_(remembering),
+        known_(sailings.rows.size()),
+        least_(sailings.rows.size()) {}
+
+  // "A safe journey boards first at the source, at or after query minute T;
+  // each next ride boards where the last one landed, at or after a+M"
+  Earliest boarding(uint32_t stop, uint32_t minute) {
+    Earliest least;
+    for (size_t row = 0; row < sailings_.rows.size(); ++row)
+      if (boards_at(sailings_.rows[row], stop, minute))
+        take_less(least, boarding_row(row));
+    return least;
+  }
+
+ private:
+  // "the last one leaves at the target. The earliest safe arrival E is the
+  // least a+M of a last ride."
+  Earliest boarding_row(size_t row) {
+    if (remembering_ && known_[row]) return least_[row];
+    Earliest least;
+    for (const Ride &ride : rides_from(sailings_, row)) {
+      const uint32_t safe = safe_arrival(sailings_, ride);
+      const uint32_t landing = left_row(sailings_, ride).landing;
+      if (landing == target_) take_less(least, safe);
+      take_less(least, boarding(landing, safe));
+    }
+    known_[row] = true;
+    return least_[row] = least;
+  }
+
+  const Sailings &sailings_;
+  uint32_t target_;
+  bool remembering_;
+  std::vector<bool> known_;
+  std::vector<Earliest> least_;
+};
+
+}  // namespace
+
+std::optional<uint32_t> earliest_safe_arrival(const Sailings &sailings,
+                                              const Query &query) {
+  return Journeys(sailings, query.target, true)
+      .boarding(query.source, query.minute);
+}
+
+std::optional<uint32_t> earliest_by_listing(const Sailings &sailings,
+                                            const Query &query) {
+  return Journeys(sailings, query.target, false)
+      .boarding(query.source, query.minute);
+}
+
+// "Bound code q is 0 (no bound) or 4 to 16 (quarters)."
+bool code_is_known(uint32_t code) {
+  return code == 0 || (4 <= code && code <= 16);
+}
+
+// "The bound is T + q(E-T)/4 rounded down."
+Bound bound_of(const Query &query, uint32_t earliest) {
+  if (query.code == 0) return std::nullopt;
+  return query.minute + query.code * (earliest - query.minute) / 4;
+}
+
+}  // namespace second
