@@ -1,0 +1,3 @@
+-- Laws of numbers as bytes.
+pub mod Put
+pub mod Settled

@@ -1,0 +1,17 @@
+-- What the desk makes of the planner's answer and of the numbers that it left in the plan slice.
+use Prim.Native.Nat.{ℕ, _*_, _≤_}
+use mathlib.Core.List.{List}
+use lib.ListN.{length, take}
+use Rattle.little.specs.Little.{bytesOf, put}
+use Rattle.planner.specs.declared.Planned.{Planned}
+use Rattle.planner.specs.declared.Planned.the-variants.{Plan as AsPlan, Refused as NoPlan}
+use Rattle.sayurimpak.specs.Desk.{DeskOutcome, refused}
+
+unfoldable pub given : Planned → List ℕ → List ℕ → DeskOutcome
+given (AsPlan rides expected last bound) numbers out = record { answer = rides; bytes = put (bytesOf (take (3 * rides) numbers)) out }
+given (NoPlan number place) numbers out = refused number out
+
+-- the plan is all there and has room; a refusal's number is one of document 01's
+unfoldable pub Fitting : Planned → (numbers out : List ℕ) → Type 0
+Fitting (AsPlan rides expected last bound) numbers out = (3 * rides ≤ length numbers) × (12 * rides ≤ length out)
+Fitting (NoPlan number place) numbers out = number ≤ 8

@@ -1,0 +1,3 @@
+-- The booking desk's answer, and its bytes afterwards.
+pub mod Desk
+pub mod Given

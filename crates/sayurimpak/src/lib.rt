@@ -1,0 +1,80 @@
+// Document 01, "Numbers returned on refusal": the booking desk's call. include/sayurimpak.h is its manual.
+ghost use mathlib.Core.Path.{_≡_};
+ghost use Prim.Native.Nat.{_/_, min};
+ghost use lib.ListN.{length};
+ghost use Rattle.sayurimpak.specs.Desk.{asked, deskOutcome};
+ghost use Rattle.sayurimpak.specs.Given.{given, Fitting};
+use little::put_numbers;
+use planner::Planned;
+use planner::plan;
+use plans::Query;
+
+// What the largest sound file needs: 4n + 2,500 work numbers and 3n plan numbers, n 2,000.
+const WORK: usize = 10500;
+
+const PLAN: usize = 6000;
+
+// A plan for a C host, which passes numbers and bytes only.
+#[no_mangle]
+pub extern "C" fn sayurimpak_plan(
+    file: &[u8],
+    source: u32,
+    target: u32,
+    minute: u32,
+    code: u32,
+    out: &mut [u8],
+) -> u32
+    ensures { λ r. ⌜ (r ≡ deskOutcome (now (file .entry)) (asked source target minute code) (now (out .entry)) .answer)
+        × (now (out .exit) ≡ deskOutcome (now (file .entry)) (asked source target minute code) (now (out .entry)) .bytes) ⌝ }
+{
+    let mut work = work_numbers();
+    let mut numbers = plan_numbers();
+    let lent = lent_numbers(out.len());
+    let q = Query {
+        source,
+        target,
+        minute,
+        code,
+    };
+    let answer = plan(file, q, &mut work, &mut numbers[..lent]);
+    give(answer, &numbers, out)
+}
+
+// The answer to the host, and a plan's numbers to its bytes.
+fn give(answer: Planned, numbers: &[u32], out: &mut [u8]) -> u32
+    requires { ⌜ Fitting answer (now numbers) (now out) ⌝ }
+    ensures { λ r. ⌜ (r ≡ given answer (now (numbers .entry)) (now (out .entry)) .answer)
+        × (now (out .exit) ≡ given answer (now (numbers .entry)) (now (out .entry)) .bytes) ⌝ }
+{
+    match answer {
+        Planned::Refused { number, place: _ } => 10000 + number,
+        Planned::Plan {
+            rides,
+            expected: _,
+            latest: _,
+            bound: _,
+        } => {
+            put_numbers(numbers, 3 * (rides as usize), out);
+            rides
+        }
+    }
+}
+
+// The plan slice that the planner is lent: as many numbers as the host's bytes hold, so that its room below 3n is the host's below 12n.
+fn lent_numbers(bytes: usize) -> usize
+    ensures { λ r. ⌜ r ≡ min 6000 (bytes / 4) ⌝ }
+{
+    if bytes / 4 < PLAN { bytes / 4 } else { PLAN }
+}
+
+fn work_numbers() -> [u32; WORK]
+    ensures { λ r. ⌜ length r ≡ 10500 ⌝ }
+{
+    [0u32; WORK]
+}
+
+fn plan_numbers() -> [u32; PLAN]
+    ensures { λ r. ⌜ length r ≡ 6000 ⌝ }
+{
+    [0u32; PLAN]
+}

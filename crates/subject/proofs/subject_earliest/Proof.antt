@@ -1,0 +1,36 @@
+-- `subject::subject_earliest` meets its contract. Assumes nothing.
+use mathlib.Core.Path.{ap, _∙_}
+use borrow.Author.Needs.{needs}
+use Rattle.planner.specs.Outcome.{earliestAnswer}
+use Rattle.subject.specs.Seen.{seen}
+use Rattle.subject.proofs.subject_earliest.Statement.{statement}
+use Rattle.subject.proofs.subject_earliest.Tie as tie
+
+earliest-safe-arrival-requires : tie.Need-earliest-safe-arrival-requires
+earliest-safe-arrival-requires c κs = search needs
+
+put-earliest-requires : tie.Need-put-earliest-requires
+put-earliest-requires c κs = search needs
+
+same-length : tie.Need-same-length
+same-length c = search needs
+
+same-length-2 : tie.Need-same-length-2
+same-length-2 c = search needs
+
+returns : tie.Need-returns
+returns c =
+    let found = c .before .before .before .before .before .before .earliest-safe-arrival in (
+      c .before .before .put-earliest .ensures ∙ ap (λ e. seen (earliestAnswer e) (c .before .before .before .before .before .before .before .before .before .before .before .args .answer .now)) (found .ensures .0),
+      found .ensures .1,
+    )
+
+pub subject-earliest-spec : {M : Type 1} → statement M
+subject-earliest-spec =
+    tie.close
+    (tie.spec
+    earliest-safe-arrival-requires
+    put-earliest-requires
+    same-length
+    same-length-2
+    returns)
