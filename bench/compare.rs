@@ -112,7 +112,7 @@ pub fn compare(files: u64, seed: u64) -> (u64, u64) {
             }
             assert!(left_clean(&work, room, false));
             if let Answer::Plan { .. } | Answer::Refused { number: 8, .. } = wanted {
-                let e = definitions::earliest(&t, q).map_or([8, 0], |e| [0, e]);
+                let e = definitions::earliest(&t, q).map_or([8, 0, 0], |e| [0, 0, e]);
                 assert_eq!(verified::earliest(&file, q, &mut work), e, "{t:?} {q:?}");
                 assert!(left_clean(&work, room, true));
             }
