@@ -6,3 +6,5 @@ pub mod Options
 pub mod Downward
 pub mod Members
 pub mod Alternatives
+pub mod Below
+pub mod Quotients
