@@ -3,3 +3,8 @@ pub mod Putting
 pub mod Digits
 pub mod Times
 pub mod Lines
+pub mod PlanLines
+pub mod Asked
+pub mod Sheets
+pub mod Pinned
+pub mod Settled

@@ -2,3 +2,4 @@
 pub mod Sheet
 pub mod Put
 pub mod Lines
+pub mod Outcome

@@ -4,21 +4,39 @@ ghost use mathlib.Core.Path.{_≡_};
 ghost use Prim.Native.Nat.{_+_, _-_, _*_, _≤_, _<_};
 ghost use lib.ListN.{length, drop};
 ghost use Rattle.timetable.specs.Timetable.{rowOf};
+ghost use Rattle.timetable.specs.Verdict.{fine};
+ghost use Rattle.layout.specs.Check.{answerOf, fileVerdict};
 ghost use Rattle.layout.specs.Decode.{decode, headOf};
 ghost use Rattle.layout.specs.Format.{versionOne};
 ghost use Rattle.layout.specs.Small.{SmallRow};
 ghost use Rattle.layout.proofs.Sound.{SoundFile};
 ghost use Rattle.clock.specs.Text.{digitOf, timeText, widest};
-ghost use Rattle.printing.specs.Sheet.{callText, expectedText, firstText, lineText, numberText, refusedText};
+ghost use Rattle.printing.specs.Sheet.{askedText, callText, expectedText, firstText, lineText, numberText, queryOf, refusedText};
 ghost use Rattle.printing.specs.Put.{Digits, Put, firstWidth, lineWidth, numberWidth};
 ghost use Rattle.printing.specs.Lines.{RidesIn, linesIn};
+ghost use Rattle.printing.specs.Outcome.{sheetOutcome, sheetRoom};
 use cells::cell;
 use cells::number;
 use clock::Minute;
+use layout::Checked;
 use layout::VERSION_ONE;
 use layout::head_at;
 use layout::row_at;
+use layout::u16_at;
+use planner::Planned;
+use planner::plan;
+use plans::Query;
+use sailings::check;
 use timetable::Row;
+
+// What came of a sheet: its text's length, or that the lent bytes are too few.
+pub enum Sheeted {
+    Text { length: usize },
+    NoRoom,
+}
+
+// Enough for a first line and 2,000 rides.
+pub const SHEET_ROOM: usize = 174056;
 
 // The digits of a number: they stand from `start` to the end of the bytes.
 struct NumberText {
@@ -131,7 +149,7 @@ fn put_line(out: &mut [u8], at: usize, board: Row, leave: Row, worth: u32) -> us
 // A refusal by its number.
 fn put_refused(out: &mut [u8], refusal: usize) -> usize
     requires { ⌜ firstWidth ≤ length (now out) ⌝ }
-    ensures { λ r. ⌜ Put (now (out .entry)) 0 (refusedText refusal) (now (out .exit)) r ⌝ }
+    ensures { λ r. ⌜ Put (now (out .entry)) 0 (refusedText refusal) (now (out .exit)) r × (r ≤ length (now (out .entry))) ⌝ }
 {
     let next = put_text(out, 0, b"refused ", 0);
     let next = put_number(out, next, refusal);
@@ -165,7 +183,7 @@ fn row_of(sailings: &[u8], i: usize) -> Row
 fn put_rides(sailings: &[u8], plan: &[u32], rides: usize, out: &mut [u8], at: usize) -> usize
     requires { ⌜ SoundFile versionOne (now sailings) × RidesIn (headOf versionOne (now sailings) .rows) (now plan) rides ⌝ }
     requires { ⌜ at + rides * lineWidth ≤ length (now out) ⌝ }
-    ensures { λ r. ⌜ Put (now (out .entry)) at (linesIn (decode versionOne (now (sailings .entry)) .rows) (now (plan .entry)) 0 rides) (now (out .exit)) r ⌝ }
+    ensures { λ r. ⌜ Put (now (out .entry)) at (linesIn (decode versionOne (now (sailings .entry)) .rows) (now (plan .entry)) 0 rides) (now (out .exit)) r × (r ≤ length (now (out .entry))) ⌝ }
 {
     let mut next = at;
     let mut i = 0;
@@ -189,8 +207,94 @@ fn put_plan(
 ) -> usize
     requires { ⌜ SoundFile versionOne (now sailings) × RidesIn (headOf versionOne (now sailings) .rows) (now plan) rides ⌝ }
     requires { ⌜ firstWidth + rides * lineWidth ≤ length (now out) ⌝ }
-    ensures { λ r. ⌜ Put (now (out .entry)) 0 (firstText rides expected latest ++ linesIn (decode versionOne (now (sailings .entry)) .rows) (now (plan .entry)) 0 rides) (now (out .exit)) r ⌝ }
+    ensures { λ r. ⌜ Put (now (out .entry)) 0 (firstText rides expected latest ++ linesIn (decode versionOne (now (sailings .entry)) .rows) (now (plan .entry)) 0 rides) (now (out .exit)) r × (r ≤ length (now (out .entry))) ⌝ }
 {
     let next = put_first(out, rides, expected, latest);
     put_rides(sailings, plan, rides, out, next)
+}
+
+// The query's four numbers.
+fn query_in(query: &[u8]) -> Query
+    requires { ⌜ length (now query) ≡ 8 ⌝ }
+    ensures { λ r. ⌜ r ≡ queryOf (now (query .entry)) ⌝ }
+{
+    Query {
+        source: cell(u16_at(query, 0)),
+        target: cell(u16_at(query, 2)),
+        minute: cell(u16_at(query, 4)),
+        code: cell(u16_at(query, 6)),
+    }
+}
+
+// The number of a refusal; a sound file has none.
+fn refusal_of(checked: Checked) -> usize
+    ensures { λ r. ⌜ r ≡ answerOf checked .number ⌝ }
+{
+    match checked {
+        Checked::Sound {
+            stops: _,
+            rows: _,
+            classes: _,
+        } => 0,
+        Checked::Refused { number, place: _ } => number,
+    }
+}
+
+// Work for the most rows that there can be, 4n + 2,500 numbers.
+fn work_cells() -> [u32; 10500] {
+    [0u32; 10500]
+}
+
+// A plan of the most rides that there can be, 3n numbers.
+fn plan_cells() -> [u32; 6000] {
+    [0u32; 6000]
+}
+
+// The sheet of a sound file and a query: a plan or a planning refusal.
+fn put_planned(sailings: &[u8], q: Query, out: &mut [u8]) -> usize
+    requires { ⌜ (fileVerdict versionOne (now sailings) ≡ fine) × (sheetRoom ≤ length (now out)) ⌝ }
+    ensures { λ r. ⌜ Put (now (out .entry)) 0 (askedText (decode versionOne (now (sailings .entry))) q) (now (out .exit)) r × (r ≤ length (now (out .entry))) ⌝ }
+{
+    let mut work = work_cells();
+    let mut rides = plan_cells();
+    let planned = plan(sailings, q, &mut work, &mut rides);
+    match planned {
+        Planned::Refused {
+            number: refusal,
+            place: _,
+        } => put_refused(out, number(refusal)),
+        Planned::Plan {
+            rides: count,
+            expected,
+            latest,
+            bound: _,
+        } => put_plan(sailings, &rides, number(count), expected, latest, out),
+    }
+}
+
+// The sheet of a file of sailings and a query, from the first byte of `out` on; bytes beyond it stay.
+// A checked file goes on to planning; any other answer prints its number at once.
+pub fn sheet(sailings: &[u8], query: &[u8], out: &mut [u8]) -> Sheeted
+    ensures { λ r. ⌜ (r ≡ sheetOutcome (now (sailings .entry)) (now (query .entry)) (now (out .entry)) .answer)
+        × (now (out .exit) ≡ sheetOutcome (now (sailings .entry)) (now (query .entry)) (now (out .entry)) .out) ⌝ }
+{
+    if out.len() < SHEET_ROOM {
+        return Sheeted::NoRoom;
+    }
+    let checked = check(sailings);
+    let Checked::Sound {
+        stops: _,
+        rows: _,
+        classes: _,
+    } = checked
+    else {
+        let length = put_refused(out, refusal_of(checked));
+        return Sheeted::Text { length };
+    };
+    if query.len() != 8 {
+        let length = put_refused(out, 6);
+        return Sheeted::Text { length };
+    }
+    let length = put_planned(sailings, query_in(query), out);
+    Sheeted::Text { length }
 }

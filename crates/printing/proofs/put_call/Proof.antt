@@ -31,7 +31,7 @@ returns c =
     let byte = minute .before .before .before in
     let stop = byte .before .before .before .before in (
       put-more (stop .put-number .ensures .0)
-      (put-more (byte .put-byte .ensures .0) (put-as (ap timeText (minute .cell .ensures)) (time .put-time .ensures .0))),
+          (put-more (byte .put-byte .ensures .0) (put-as (ap timeText (minute .cell .ensures)) (time .put-time .ensures .0))),
       omega (arith, byte .put-byte .ensures .1, stop .put-number .ensures .1, time .put-time .ensures .1),
     )
 

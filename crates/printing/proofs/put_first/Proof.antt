@@ -44,10 +44,10 @@ returns c =
     let rides = second .before .before .before .before in
     let plan = rides .before .before .before .before in (
       put-more (plan .put-text .ensures .0)
-      (put-more (rides .put-number .ensures .0)
-      (put-more (second .put-byte .ensures .0)
-      (put-more (expected .put-expected .ensures .0)
-      (put-more (third .put-byte2 .ensures .0) (put-more (latest .put-time .ensures .0) (end .put-byte3 .ensures .0)))))),
+          (put-more (rides .put-number .ensures .0)
+          (put-more (second .put-byte .ensures .0)
+          (put-more (expected .put-expected .ensures .0)
+          (put-more (third .put-byte2 .ensures .0) (put-more (latest .put-time .ensures .0) (end .put-byte3 .ensures .0)))))),
       omega (
         arith,
         plan .put-text .ensures .1,

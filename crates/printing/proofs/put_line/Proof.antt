@@ -37,9 +37,9 @@ returns c =
     let first = lands .before .before .before .before in
     let boards = first .before .before .before .before in (
       put-more (boards .put-call .ensures .0)
-      (put-more (first .put-byte .ensures .0)
-      (put-more (lands .put-call2 .ensures .0)
-      (put-more (second .put-byte2 .ensures .0) (put-more (expected .put-expected .ensures .0) (end .put-byte3 .ensures .0))))),
+          (put-more (first .put-byte .ensures .0)
+          (put-more (lands .put-call2 .ensures .0)
+          (put-more (second .put-byte2 .ensures .0) (put-more (expected .put-expected .ensures .0) (end .put-byte3 .ensures .0))))),
       omega (
         arith,
         boards .put-call .ensures .1,

@@ -1,4 +1,5 @@
 -- `printing::put_refused` meets its contract: its texts one behind the other. Assumes nothing.
+use native.Mathlib.Omega.{arith}
 use Rattle.printing.specs.Sheet.{refusedText}
 use Rattle.printing.proofs.Putting.{put-more}
 use borrow.Author.Needs.{needs}
@@ -25,8 +26,10 @@ unfolding refusedText
 returns c =
     let end = c .before .before in
     let refusal = end .before .before .before .before in
-    let word = refusal .before .before .before .before in
-    put-more (word .put-text .ensures .0) (put-more (refusal .put-number .ensures .0) (end .put-byte .ensures .0))
+    let word = refusal .before .before .before .before in (
+      put-more (word .put-text .ensures .0) (put-more (refusal .put-number .ensures .0) (end .put-byte .ensures .0)),
+      omega (arith, word .put-text .ensures .1, refusal .put-number .ensures .1, end .put-byte .ensures .1, c .before .before .before .before .before .before .before .before .before .before .before .before .before .before .pre),
+    )
 
 pub put-refused-spec : {M : Type 1} → statement M
 put-refused-spec =

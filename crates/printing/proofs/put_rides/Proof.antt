@@ -120,7 +120,10 @@ same-length c = omega arith
 returns : tie.Need-returns Inv-loop μ-loop
 returns c =
     let a = c .before .before .before .before .before .args in
-    lines-end (decode versionOne (a .sailings .now) .rows) (a .plan .now) (c .before .loop .i) (a .rides) (omega arith) (c .before .loop .inv .0)
+    let all : c .before .loop .i ≡ a .rides = omega arith in (
+      lines-end (decode versionOne (a .sailings .now) .rows) (a .plan .now) (c .before .loop .i) (a .rides) (omega arith) (c .before .loop .inv .0),
+      omega arith,
+    )
 
 pub put-rides-spec : {M : Type 1} → statement M
 put-rides-spec =

@@ -37,7 +37,7 @@ returns c =
     ap (λ h. h .rowstart) (c .before .before .before .head-at .ensures .0)
     in (
       c .row-at .ensures .0
-      ∙ ap (λ k. rowAt (a .args .sailings .now) (k + 12 * a .args .i)) start ∙ sym (a .pre .0 .row-read (a .args .i) (a .pre .1)),
+          ∙ ap (λ k. rowAt (a .args .sailings .now) (k + 12 * a .args .i)) start ∙ sym (a .pre .0 .row-read (a .args .i) (a .pre .1)),
       c .row-at .ensures .1,
     )
 
