@@ -1,2 +1,3 @@
--- The plan as three numbers a ride.
+-- The plan as three numbers a ride, and the marks of the rows that it wants.
 pub mod Extracted
+pub mod Marks

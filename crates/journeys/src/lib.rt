@@ -8,6 +8,8 @@ ghost use Rattle.plans.specs.declared.Query.{Query};
 ghost use Rattle.cells.specs.Cells.{cellOf};
 ghost use Rattle.reading.specs.Reading.{rowsIn, tablesIn, timetableIn, Stand, Cut, TablesHeld};
 ghost use Rattle.journeys.specs.Query.{queryOf};
+ghost use Rattle.journeys.specs.Cells.{ready, landingOf, Placed, Boarded, Landed, Sailed};
+ghost use Rattle.journeys.specs.Swept.{Swept, Found, SameBehind};
 use cells::MOST_STOPS;
 use cells::MOST_TRIPS;
 use cells::NONE;
@@ -49,8 +51,6 @@ pub fn earliest_arrival(
 }
 
 // Row by row, until one departs when the target is reached already.
-// intended: ready minutes and flags after rows first .. i are those of `reach` (a fold over the rows);
-// rows that depart at or after the target's ready minute leave that minute as it is
 fn sail_until(
     file: &[u8],
     s: Sailings,
@@ -58,7 +58,13 @@ fn sail_until(
     target: usize,
     first: usize,
     work: &mut [u32],
-) {
+)
+    requires { ⌜ Stand (now file) s × TablesHeld (now tables) (tablesIn (now file) s) × (target < 200) × (first ≤ s .rows)
+        × (2400 ≤ length (now work)) ⌝ }
+    ensures { λ r. ⌜ SameBehind (now (work .entry)) (now (work .exit)) × ((source minute : ℕ)
+        → Swept (timetableIn (now (file .entry)) s) source minute first (now (work .entry))
+        → Found (timetableIn (now (file .entry)) s) source minute target (ready (now (work .exit)) target)) ⌝ }
+{
     let mut i = first;
     while i < s.rows {
         let row = nth_row(file, s, i);
@@ -71,20 +77,43 @@ fn sail_until(
 }
 
 // One row: who is aboard or can board lands by a + M.
-// intended: work' ≡ cond aboard-or-open (set (STOPS + land) (min ready (a + M)) (set trip 1 work)) work
-fn sail(row: Row, tables: &[u32], work: &mut [u32]) {
+fn sail(row: Row, tables: &[u32], work: &mut [u32])
+    requires { ⌜ Placed (now tables) row × (length (now tables) ≡ 4096) × (2400 ≤ length (now work)) ⌝ }
+    ensures { λ r. ⌜ Sailed row (landingOf (now (tables .entry)) row) (now (work .entry)) (now (work .exit)) ⌝ }
+{
+    if !board(row, work) {
+        return;
+    }
+    land(row, tables, work);
+}
+
+// Aboard since an earlier row of the trip, or from this one on?
+fn board(row: Row, work: &mut [u32]) -> bool
+    requires { ⌜ (row .board < 200) × (row .trip < 2000) × (2400 ≤ length (now work)) ⌝ }
+    ensures { λ r. ⌜ Boarded row (now (work .entry)) (now (work .exit)) r ⌝ }
+{
     let trip = TRIPS + row.trip;
-    let board = STOPS + row.board;
-    let land = STOPS + row.land;
-    let class = BLOCK * row.class;
-    if work[trip] == 0 {
-        if !opens(row.departure, number(work[board])) {
-            return;
-        }
+    let stop = STOPS + row.board;
+    if work[trip] != 0 {
+        return true;
+    }
+    if opens(row.departure, number(work[stop])) {
         work[trip] = 1;
+        return true;
     }
+    false
+}
+
+// Lands by a + M: the stop's cell keeps the earlier minute.
+fn land(row: Row, tables: &[u32], work: &mut [u32])
+    requires { ⌜ Placed (now tables) row × (length (now tables) ≡ 4096) × (2400 ≤ length (now work)) ⌝ }
+    ensures { λ r. ⌜ Landed (row .land) (landingOf (now (tables .entry)) row) (now (work .entry)) (now (work .exit)) ⌝ }
+{
+    let stop = STOPS + row.land;
+    let class = BLOCK * row.class;
     let landing = cell(row.arrival) + tables[class + LONGEST];
-    if landing < work[land] {
-        work[land] = landing;
+    if work[stop] <= landing {
+        return;
     }
+    work[stop] = landing;
 }

@@ -1,6 +1,6 @@
 -- The chosen rides of one stop, as its stack holds them, and what getting off asks of the lent cells.
-use Prim.Native.Nat.{ℕ, suc, _+_, _*_, _/_, _≤_, _<_}
-use mathlib.Core.Bool.{Bool, cond}
+use Prim.Native.Nat.{ℕ, _+_, _*_, _/_, _≤_, _<_}
+use mathlib.Core.Bool.{cond}
 use mathlib.Core.List.{List, [], _∷_, map, List·Memᴰ}
 use mathlib.Core.Path.{_≡_}
 use lib.Dec.{eqb}
@@ -10,7 +10,6 @@ use Rattle.plans.specs.Rides.{Ride}
 use Rattle.plans.specs.Worth.{Valued}
 use Rattle.cells.specs.Cells.{Entry, keyOf, stackOf, stackStart, stackSize}
 use Rattle.reading.specs.Reading.{BlockHeld, SharesFit}
-use Rattle.landing.specs.declared.Goal.{Goal}
 
 -- the chosen rides that board at a stop
 unfoldable pub atStop : ℕ → List Valued → List Valued

@@ -1,12 +1,14 @@
 // Document 01, "Expected arrival in ticks": what getting off a row is worth, by its stop's stack of chosen rows.
 ghost use mathlib.Core.Path.{_≡_};
 ghost use mathlib.Core.List.{List};
-ghost use Prim.Native.Nat.{ℕ, _+_, _*_, _/_, _%_, _≤_, _<_};
-ghost use lib.ListN.{length};
-ghost use Rattle.plans.specs.Worth.{Valued};
+ghost use Prim.Native.Nat.{ℕ, _+_, _*_, _/_, _%_, _<_};
+ghost use Rattle.timetable.specs.Classes.{whole};
+ghost use Rattle.plans.specs.Journeys.{within};
+ghost use Rattle.plans.specs.Worth.{Valued, up, weigh};
 ghost use Rattle.plans.specs.Chosen.{offInTicks};
 ghost use Rattle.cells.specs.Cells.{cellOf};
 ghost use Rattle.landing.specs.Landing.{Ready, SomeReady, rideOff, Falling, FirstOpenAt};
+ghost use Rattle.landing.specs.Boarding.{Boarding, SomeBoarding};
 use cells::NONE;
 use cells::PAIRS;
 use cells::SIZES;
@@ -41,7 +43,7 @@ pub fn getting_off(row: Row, tables: &[u32], goal: Goal, work: &[u32]) -> u32
     let class = BLOCK * row.class;
     let landing = row.arrival + number(tables[class + LONGEST]);
     if row.land == goal.target {
-        if !within(goal.bound, landing) {
+        if !bounded(goal.bound, landing) {
             return NONE;
         }
         return cell(256 * row.arrival) + tables[class + EXPECTED];
@@ -60,8 +62,9 @@ pub fn getting_off(row: Row, tables: &[u32], goal: Goal, work: &[u32]) -> u32
 }
 
 // A minute is within the bound.
-// intended: ensures r ≡ within bound minute
-fn within(bound: usize, minute: usize) -> bool {
+fn bounded(bound: usize, minute: usize) -> bool
+    ensures { λ r. ⌜ r ≡ within bound minute ⌝ }
+{
     bound == 0 || minute <= bound
 }
 
@@ -89,10 +92,11 @@ pub fn first_open(work: &[u32], start: usize, size: usize, minute: usize) -> usi
     let mut left = size;
     while 1 < left {
         let half = left / 2;
-        if opens(departure_of(work[start + 2 * (low + half)]), minute) {
-            low += half;
-        }
+        let middle = low + half;
         left -= half;
+        if opens(departure_of(work[start + 2 * middle]), minute) {
+            low = middle;
+        }
     }
     start + 2 * low
 }
@@ -100,8 +104,6 @@ pub fn first_open(work: &[u32], start: usize, size: usize, minute: usize) -> usi
 // The sum over delays of share x worth of the ride caught, in runs of delays that catch the same ride,
 // divided by 4,096 and rounded up. The first entry caught is at cell `at`; `arrival` is a, `landing`
 // is a + M, `shares` the cell of the class's first cumulative share.
-// intended: requires entry at .. down to one that opens `landing`; TablesHeld;
-// ensures r ≡ up whole (weigh shares a (λ m. caught (stackAt ..) m))
 fn changing(
     work: &[u32],
     at: usize,
@@ -109,7 +111,12 @@ fn changing(
     landing: usize,
     tables: &[u32],
     shares: usize,
-) -> u32 {
+) -> u32
+    requires { ⌜ SomeBoarding (now work) (now tables) at arrival landing shares ⌝ }
+    ensures { λ r. ⌜ ((start first : ℕ) (held : List ℕ) (caught : ℕ → ℕ) → at ≡ start + 2 * first
+        → Boarding (now (work .entry)) (now (tables .entry)) start first arrival landing shares held caught
+        → r ≡ up whole (weigh held arrival caught)) ⌝ }
+{
     let mut entry = at;
     let mut departure = departure_of(work[entry]);
     let mut done = 0;
@@ -125,12 +132,17 @@ fn changing(
     short((sum + (WHOLE - 1)) / WHOLE)
 }
 
-// intended: ensures r ≡ x × r < 4294967296
-fn long(x: u32) -> u64 {
+// A cell as a number of 64 bits.
+fn long(x: u32) -> u64
+    ensures { λ r. ⌜ (r ≡ x) × (r < 4294967296) ⌝ }
+{
     x as u64
 }
 
-// intended: requires x < 4294967296; ensures r ≡ x
-fn short(x: u64) -> u32 {
+// A number of 64 bits as a cell.
+fn short(x: u64) -> u32
+    requires { ⌜ x < 4294967296 ⌝ }
+    ensures { λ r. ⌜ r ≡ x ⌝ }
+{
     x as u32
 }

@@ -8,3 +8,4 @@ pub mod Members
 pub mod Alternatives
 pub mod Below
 pub mod Quotients
+pub mod Places

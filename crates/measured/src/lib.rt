@@ -2,7 +2,7 @@
 use layout::Checked;
 use planner::Earliest;
 use planner::Planned;
-use planner::earliest;
+use planner::earliest_safe_arrival;
 use planner::plan;
 use plans::Query;
 use sailings::check;
@@ -86,7 +86,7 @@ pub extern "C" fn measured_earliest(
     work: &mut [u32],
     answer: &mut [u32],
 ) {
-    let arrival = earliest(file, source, target, minute, work);
+    let arrival = earliest_safe_arrival(file, source, target, minute, work);
     match arrival {
         Earliest::Arrival { minute } => {
             if 2 <= answer.len() {

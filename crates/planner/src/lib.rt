@@ -1,4 +1,20 @@
-// Document 01, "What the planner covers": what planning answers.
+// Document 01, "What the planner covers": the plan and the earliest safe arrival, or a numbered refusal.
+ghost use mathlib.Core.Path.{_≡_};
+ghost use mathlib.Core.Bool.{true};
+ghost use Prim.Native.Nat.{_+_, _*_, _≤_, _<_};
+ghost use lib.ListN.{length};
+ghost use Rattle.layout.specs.Decode.{headOf, decode};
+ghost use Rattle.layout.proofs.Sound.{SoundFile};
+ghost use Rattle.plans.specs.Journeys.{boundOf};
+ghost use Rattle.plans.specs.Plan.{planned, earliest as earliestIn};
+ghost use Rattle.cells.specs.Cells.{used, cellOf};
+ghost use Rattle.reading.specs.Reading.{rowsIn, timetableIn, Stand};
+ghost use Rattle.reading.specs.Sections.{sailingsOf, Plannable};
+ghost use Rattle.scan.specs.Scanned.{scanIn, ScanHeld};
+ghost use Rattle.planner.specs.Outcome.{journeyRule, codeRule, workRoom, planSound, planOutcome, earliestSound, earliestOutcome};
+ghost use Rattle.planner.specs.Steps.{FoundSound, Asked, Laid, Reaches, RowsWithin, Part, planIn, Answers, KeptBehind};
+ghost use Rattle.planner.specs.declared.Planned.the-variants.{Refused as NoPlan};
+ghost use Rattle.planner.specs.declared.Earliest.the-variants.{Refused as NoArrival};
 use cells::NONE;
 use cells::PAIRS;
 use cells::SIZES;
@@ -41,38 +57,12 @@ pub enum Earliest {
     Refused { number: u32, place: u32 },
 }
 
-// Document 01's 6: a stop not below S, source equals target, T above 10,079.
-// intended: ensures r ≡ journeyRule f stops q
-fn journey_rule(format: Format, stops: usize, q: Query) -> bool {
-    let source = number(q.source);
-    let target = number(q.target);
-    if stops <= source {
-        return false;
-    }
-    if stops <= target {
-        return false;
-    }
-    if source == target {
-        return false;
-    }
-    number(q.minute) <= format.latest
-}
-
-// 6: q not 0 or 4 to 16.
-// intended: ensures r ≡ codeRule q
-fn code_rule(q: Query) -> bool {
-    q.code == 0 || (4 <= q.code && q.code <= 16)
-}
-
-// 7: the cells that work needs.
-// intended: ensures r ≡ workRoom rows
-fn work_room(rows: usize) -> usize {
-    4 * rows + 2500
-}
-
 // The minimum expected arrival plan for a sailing file and a query, or a refusal.
-// intended: no requires; ensures (answer, work', plan') ≡ planOutcome file q work plan
-pub fn plan(file: &[u8], q: Query, work: &mut [u32], plan: &mut [u32]) -> Planned {
+pub fn plan(file: &[u8], q: Query, work: &mut [u32], plan: &mut [u32]) -> Planned
+    ensures { λ r. ⌜ (r ≡ planOutcome (now (file .entry)) q (now (work .entry)) (now (plan .entry)) .answer)
+        × (now (work .exit) ≡ planOutcome (now (file .entry)) q (now (work .entry)) (now (plan .entry)) .work)
+        × (now (plan .exit) ≡ planOutcome (now (file .entry)) q (now (work .entry)) (now (plan .entry)) .plan) ⌝ }
+{
     let checked = check(file);
     match checked {
         Checked::Refused { number, place } => Planned::Refused {
@@ -87,54 +77,96 @@ pub fn plan(file: &[u8], q: Query, work: &mut [u32], plan: &mut [u32]) -> Planne
     }
 }
 
-// intended: requires the file sound with these numbers; ensures ≡ planSound f (decode f file) q work plan
+// The refusals 6 and 7 of planning in a sound file, then the plan or 8; then work is cleared.
 fn plan_sound(
     file: &[u8],
-    format: Format,
+    f: Format,
     stops: usize,
     count: usize,
     q: Query,
     work: &mut [u32],
     plan: &mut [u32],
-) -> Planned {
-    if !journey_rule(format, stops, q) {
+) -> Planned
+    requires { ⌜ FoundSound f (now file) stops count ⌝ }
+    ensures { λ r. ⌜ (r ≡ planSound f (decode f (now (file .entry))) q (now (work .entry)) (now (plan .entry)) .answer)
+        × (now (work .exit) ≡ planSound f (decode f (now (file .entry))) q (now (work .entry)) (now (plan .entry)) .work)
+        × (now (plan .exit) ≡ planSound f (decode f (now (file .entry))) q (now (work .entry)) (now (plan .entry)) .plan) ⌝ }
+{
+    if !journey_rule(f, stops, q) {
         return no_plan(6);
     }
     if !code_rule(q) {
         return no_plan(6);
     }
-    if work.len() < work_room(count) {
+    let room = work_room(count);
+    if work.len() < room {
         return no_plan(7);
     }
     if plan.len() < 3 * count {
         return no_plan(7);
     }
-    let answer = plan_in_room(file, format, q, work, plan);
-    fill(work, 0, work_room(count), 0);
+    let answer = plan_in_room(file, f, q, work, plan);
+    fill(work, 0, room, 0);
     answer
 }
 
-fn no_plan(number: u32) -> Planned {
+// 6: a stop not below S, source equals target, T above the last minute.
+fn journey_rule(f: Format, stops: usize, q: Query) -> bool
+    ensures { λ r. ⌜ r ≡ journeyRule f stops q ⌝ }
+{
+    let source = number(q.source);
+    let target = number(q.target);
+    if stops <= source {
+        return false;
+    }
+    if stops <= target {
+        return false;
+    }
+    if source == target {
+        return false;
+    }
+    number(q.minute) <= f.latest
+}
+
+// 6: q not 0 or 4 to 16.
+fn code_rule(q: Query) -> bool
+    ensures { λ r. ⌜ r ≡ codeRule q ⌝ }
+{
+    if q.code == 0 {
+        return true;
+    }
+    if q.code < 4 {
+        return false;
+    }
+    q.code <= 16
+}
+
+// 7: the numbers that work must hold.
+fn work_room(rows: usize) -> usize
+    requires { ⌜ rows ≤ 2000 ⌝ }
+    ensures { λ r. ⌜ r ≡ workRoom rows ⌝ }
+{
+    4 * rows + 2500
+}
+
+fn no_plan(number: u32) -> Planned
+    ensures { λ r. ⌜ r ≡ NoPlan number 0 ⌝ }
+{
     Planned::Refused { number, place: 0 }
 }
 
-// intended: requires sound, in range, room; ensures r and plan' ≡ planAnswered (planned t q) _ plan; length work' ≡ length work,
-// cells from workRoom on unchanged
-fn plan_in_room(
-    file: &[u8],
-    format: Format,
-    q: Query,
-    work: &mut [u32],
-    plan: &mut [u32],
-) -> Planned {
+// The plan or 8, with room for it.
+fn plan_in_room(file: &[u8], f: Format, q: Query, work: &mut [u32], plan: &mut [u32]) -> Planned
+    requires { ⌜ Asked f (now file) q × (codeRule q ≡ true) × (used (headOf f (now file) .rows) ≤ length (now work))
+        × (3 * headOf f (now file) .rows ≤ length (now plan)) ⌝ }
+    ensures { λ r. ⌜ Answers (planned (decode f (now (file .entry))) q) r (now (plan .entry)) (now (plan .exit))
+        × KeptBehind (used (headOf f (now (file .entry)) .rows)) (now (work .entry)) (now (work .exit)) ⌝ }
+{
     let mut tables = [0u32; 4096];
-    let s = sailings_in(file, format);
+    let s = sailings_in(file, f);
     read_tables(file, s, &mut tables);
     let first = rows_before(file, s, number(q.minute));
-    let source = number(q.source);
-    let target = number(q.target);
-    let minute = number(q.minute);
-    let end = earliest_arrival(file, s, &tables, source, target, minute, first, work);
+    let end = reach(file, s, &tables, q, first, work);
     if end == NONE {
         return no_plan(8);
     }
@@ -142,16 +174,44 @@ fn plan_in_room(
     plan_within(file, s, &tables, q, bound, first, work, plan)
 }
 
+// Where a sound file's sections stand.
+fn sailings_in(file: &[u8], f: Format) -> Sailings
+    requires { ⌜ Plannable f × SoundFile f (now file) ⌝ }
+    ensures { λ r. ⌜ r ≡ sailingsOf f (headOf f (now (file .entry))) ⌝ }
+{
+    let head = head_at(file, file.len() - f.trailer);
+    Sailings {
+        rows: head.rows,
+        rowstart: head.rowstart,
+        width: f.width,
+        classes: head.classes,
+        tablestart: head.tablestart,
+    }
+}
+
+// The earliest safe arrival E, or NONE.
+fn reach(file: &[u8], s: Sailings, tables: &[u32], q: Query, first: usize, work: &mut [u32]) -> u32
+    requires { ⌜ Laid (now file) s (now tables) q first × (2400 ≤ length (now work)) ⌝ }
+    ensures { λ r. ⌜ (r ≡ cellOf (earliestIn (timetableIn (now (file .entry)) s) q)) × KeptBehind 2400 (now (work .entry)) (now (work .exit)) ⌝ }
+{
+    let source = number(q.source);
+    let target = number(q.target);
+    let minute = number(q.minute);
+    earliest_arrival(file, s, tables, source, target, minute, first, work)
+}
+
 // T + q(E - T)/4 rounded down; 0 stands for no bound.
-// intended: requires T ≤ e < 65536, code ≤ 16; ensures r ≡ boundOf q e
-fn bound_of(q: Query, end: u32) -> u32 {
+fn bound_of(q: Query, end: u32) -> u32
+    requires { ⌜ (q .minute ≤ end) × (end < 65536) × (q .code ≤ 16) ⌝ }
+    ensures { λ r. ⌜ r ≡ boundOf q end ⌝ }
+{
     if q.code == 0 {
         return 0;
     }
     q.minute + q.code * (end - q.minute) / 4
 }
 
-// intended: ensures ≡ planAnswered (planWithin t q bound (firstOpen ..)) _ plan
+// The plan within a bound that does not lie before T, or 8.
 fn plan_within(
     file: &[u8],
     s: Sailings,
@@ -161,43 +221,78 @@ fn plan_within(
     first: usize,
     work: &mut [u32],
     plan: &mut [u32],
-) -> Planned {
-    let target = number(q.target);
-    let source = number(q.source);
+) -> Planned
+    requires { ⌜ Laid (now file) s (now tables) q first × Reaches (q .minute) bound
+        × (used (s .rows) ≤ length (now work)) × (3 * s .rows ≤ length (now plan)) ⌝ }
+    ensures { λ r. ⌜ Answers (planIn (now (file .entry)) s q bound) r (now (plan .entry)) (now (plan .exit))
+        × KeptBehind (used (s .rows)) (now (work .entry)) (now (work .exit)) ⌝ }
+{
     let end = rows_within(file, s, bound);
     let goal = Goal {
-        target,
+        target: number(q.target),
         bound: number(bound),
     };
     scan_back(file, s, tables, goal, first, end, work);
-    let size = number(work[SIZES + source]);
-    if size == 0 {
-        return no_plan(8);
-    }
-    let top = PAIRS + 2 * (number(work[STOPS + source]) + size - 1);
-    let key = work[top];
-    let expected = work[top + 1];
-    let written = write_plan(file, s, tables, goal, first, row_of(key), end, work, plan);
-    Planned::Plan {
-        rides: cell(written.rides),
-        expected,
-        latest: written.latest,
-        bound,
-    }
+    plan_scanned(file, s, tables, q, goal, first, end, work, plan)
 }
 
-// A row that departs at or after the bound lands behind it: the rows ahead of such rows.
-// intended: ensures (bound ≡ 0 → r ≡ count) × (0 < bound → Cut rows bound r)
-fn rows_within(file: &[u8], s: Sailings, bound: u32) -> usize {
+// The rows that a plan within the bound can board: a row that departs at or after a real bound lands
+// behind it.
+fn rows_within(file: &[u8], s: Sailings, bound: u32) -> usize
+    requires { ⌜ Stand (now file) s ⌝ }
+    ensures { λ r. ⌜ RowsWithin (rowsIn (now (file .entry)) s) bound r ⌝ }
+{
     if bound == 0 {
         return s.rows;
     }
     rows_before(file, s, number(bound))
 }
 
+// The plan that the scan's cells lead to, or 8.
+fn plan_scanned(
+    file: &[u8],
+    s: Sailings,
+    tables: &[u32],
+    q: Query,
+    goal: Goal,
+    first: usize,
+    end: usize,
+    work: &mut [u32],
+    plan: &mut [u32],
+) -> Planned
+    requires { ⌜ Laid (now file) s (now tables) q first × Part (now file) s q goal first end × (used (s .rows) ≤ length (now work))
+        × (3 * s .rows ≤ length (now plan)) × ScanHeld (now work) (s .rows) first end (scanIn (now file) s goal first end) ⌝ }
+    ensures { λ r. ⌜ Answers (planIn (now (file .entry)) s q (goal .bound)) r (now (plan .entry)) (now (plan .exit))
+        × KeptBehind (used (s .rows)) (now (work .entry)) (now (work .exit)) ⌝ }
+{
+    let source = number(q.source);
+    let size = number(work[SIZES + source]);
+    if size == 0 {
+        return no_plan(8);
+    }
+    let top = PAIRS + 2 * (number(work[STOPS + source]) + size - 1);
+    let head = row_of(work[top]);
+    let expected = work[top + 1];
+    let written = write_plan(file, s, tables, goal, first, head, end, work, plan);
+    Planned::Plan {
+        rides: cell(written.rides),
+        expected,
+        latest: written.latest,
+        bound: cell(goal.bound),
+    }
+}
+
 // The earliest safe arrival for a sailing file, or a refusal.
-// intended: no requires; ensures (answer, work') ≡ earliestOutcome file source target minute work
-pub fn earliest(file: &[u8], source: u32, target: u32, minute: u32, work: &mut [u32]) -> Earliest {
+pub fn earliest_safe_arrival(
+    file: &[u8],
+    source: u32,
+    target: u32,
+    minute: u32,
+    work: &mut [u32],
+) -> Earliest
+    ensures { λ r. ⌜ (r ≡ earliestOutcome (now (file .entry)) source target minute (now (work .entry)) .answer)
+        × (now (work .exit) ≡ earliestOutcome (now (file .entry)) source target minute (now (work .entry)) .work) ⌝ }
+{
     let q = Query {
         source,
         target,
@@ -218,54 +313,48 @@ pub fn earliest(file: &[u8], source: u32, target: u32, minute: u32, work: &mut [
     }
 }
 
-// intended: ensures ≡ earliestSound f (decode f file) q work
+// The refusals 6 and 7 in a sound file, then E or 8; then work is cleared.
 fn earliest_sound(
     file: &[u8],
-    format: Format,
+    f: Format,
     stops: usize,
     count: usize,
     q: Query,
     work: &mut [u32],
-) -> Earliest {
-    if !journey_rule(format, stops, q) {
+) -> Earliest
+    requires { ⌜ FoundSound f (now file) stops count ⌝ }
+    ensures { λ r. ⌜ (r ≡ earliestSound f (decode f (now (file .entry))) q (now (work .entry)) .answer)
+        × (now (work .exit) ≡ earliestSound f (decode f (now (file .entry))) q (now (work .entry)) .work) ⌝ }
+{
+    if !journey_rule(f, stops, q) {
         return no_arrival(6);
     }
-    if work.len() < work_room(count) {
+    let room = work_room(count);
+    if work.len() < room {
         return no_arrival(7);
     }
-    let end = earliest_in_room(file, format, q, work);
-    fill(work, 0, work_room(count), 0);
+    let end = earliest_in_room(file, f, q, work);
+    fill(work, 0, room, 0);
     if end == NONE {
         return no_arrival(8);
     }
     Earliest::Arrival { minute: end }
 }
 
-fn no_arrival(number: u32) -> Earliest {
+fn no_arrival(number: u32) -> Earliest
+    ensures { λ r. ⌜ r ≡ NoArrival number 0 ⌝ }
+{
     Earliest::Refused { number, place: 0 }
 }
 
-// intended: ensures r ≡ E or NONE
-fn earliest_in_room(file: &[u8], format: Format, q: Query, work: &mut [u32]) -> u32 {
+// E or NONE, with room to find it.
+fn earliest_in_room(file: &[u8], f: Format, q: Query, work: &mut [u32]) -> u32
+    requires { ⌜ Asked f (now file) q × (used (headOf f (now file) .rows) ≤ length (now work)) ⌝ }
+    ensures { λ r. ⌜ (r ≡ cellOf (earliestIn (decode f (now (file .entry))) q)) × KeptBehind 2400 (now (work .entry)) (now (work .exit)) ⌝ }
+{
     let mut tables = [0u32; 4096];
-    let s = sailings_in(file, format);
+    let s = sailings_in(file, f);
     read_tables(file, s, &mut tables);
-    let minute = number(q.minute);
-    let first = rows_before(file, s, minute);
-    let source = number(q.source);
-    let target = number(q.target);
-    earliest_arrival(file, s, &tables, source, target, minute, first, work)
-}
-
-// Where a sound file's sections stand.
-// intended: requires trailer ≤ length, 16 ≤ trailer; ensures r ≡ sailingsOf f (headOf f file)
-fn sailings_in(file: &[u8], format: Format) -> Sailings {
-    let head = head_at(file, file.len() - format.trailer);
-    Sailings {
-        rows: head.rows,
-        rowstart: head.rowstart,
-        width: format.width,
-        classes: head.classes,
-        tablestart: head.tablestart,
-    }
+    let first = rows_before(file, s, number(q.minute));
+    reach(file, s, &tables, q, first, work)
 }

@@ -1,2 +1,5 @@
--- What the lent cells hold after the scan backward.
+-- What the lent cells hold after the scan backward, and within it.
 pub mod Scanned
+pub mod Stores
+pub mod Regions
+pub mod Held

@@ -1,12 +1,12 @@
 -- The scan's worths, leaving rows and chosen rows, as the lent cells hold them.
 use Prim.Native.Nat.{ℕ, suc, _+_, _-_, _*_, _≤_, _<_}
-use mathlib.Core.List.{List, []}
+use mathlib.Core.List.{List}
 use mathlib.Core.Option.{Option, none, some}
 use mathlib.Core.Path.{_≡_}
-use lib.ListN.{length, getD}
+use lib.ListN.{getD}
 use lib.Seq.{slice}
 use Rattle.plans.specs.Worth.{Valued}
-use Rattle.plans.specs.Chosen.{Weighed, Scan, scan, offInTicks}
+use Rattle.plans.specs.Chosen.{Scan, scan, offInTicks}
 use Rattle.cells.specs.Cells.{pairs, used, missing, stackStart, stackSize}
 use Rattle.reading.specs.declared.Sailings.{Sailings}
 use Rattle.reading.specs.Reading.{rowsIn, tablesIn}

@@ -2,9 +2,13 @@
 ghost use mathlib.Core.Path.{_≡_};
 ghost use Prim.Native.Nat.{ℕ, _+_, _≤_, _<_};
 ghost use lib.ListN.{length, drop};
-ghost use Rattle.cells.specs.Cells.{used};
-ghost use Rattle.reading.specs.Reading.{tablesIn, Stand, TablesHeld};
+ghost use lib.Seq.{slice};
+ghost use Rattle.cells.specs.Cells.{pairs, used, keyOf};
+ghost use Rattle.reading.specs.Reading.{rowsIn, tablesIn, Stand, TablesHeld};
+ghost use Rattle.scan.specs.Held.{Held, Inside};
+ghost use Rattle.scan.specs.Regions.{below, Counted, Parted};
 ghost use Rattle.scan.specs.Scanned.{scanIn, ScanHeld};
+ghost use Rattle.scan.specs.Stores.{pairCell, paired, sizeOf, Chose, Pushable, Weighable, Weighs};
 use cells::MOST_STOPS;
 use cells::MOST_TRIPS;
 use cells::NONE;
@@ -49,8 +53,11 @@ pub fn scan_back(
 }
 
 // How many rows board at each stop.
-// intended: requires sizes 0; ensures cell SIZES + s ≡ count of rows first .. end with board s; other cells unchanged
-fn count_boardings(file: &[u8], s: Sailings, first: usize, end: usize, work: &mut [u32]) {
+fn count_boardings(file: &[u8], s: Sailings, first: usize, end: usize, work: &mut [u32])
+    requires { ⌜ Stand (now file) s × (first ≤ end) × (end ≤ s .rows) × (pairs ≤ length (now work))
+        × ((stop : ℕ) → stop < 200 → sizeOf (now work) stop ≡ 0) ⌝ }
+    ensures { λ r. ⌜ Counted (slice first end (rowsIn (now (file .entry)) s)) (now (work .entry)) (now (work .exit)) ⌝ }
+{
     let mut i = first;
     while i < end {
         let row = nth_row(file, s, i);
@@ -61,8 +68,10 @@ fn count_boardings(file: &[u8], s: Sailings, first: usize, end: usize, work: &mu
 }
 
 // A region of pairs for each stop, one behind the other from pair `from` on; the stacks are empty.
-// intended: ensures STOPS + s ≡ from + count of rows with board < s; SIZES + s ≡ 0; other cells unchanged
-fn part_stacks(from: usize, work: &mut [u32]) {
+fn part_stacks(from: usize, work: &mut [u32])
+    requires { ⌜ (pairs ≤ length (now work)) × (from + below (sizeOf (now work)) 200 < 4294967296) ⌝ }
+    ensures { λ r. ⌜ Parted from (now (work .entry)) (now (work .exit)) ⌝ }
+{
     let mut stop = 0;
     let mut start = cell(from);
     while stop < MOST_STOPS {
@@ -73,7 +82,7 @@ fn part_stacks(from: usize, work: &mut [u32]) {
     }
 }
 
-// intended: loop invariant Held work (scan .. i (rows i .. end)); step `weigh_row`
+// From row `end` down to row `first`: each row's worth, then whether it is chosen.
 fn weigh_rows(
     file: &[u8],
     s: Sailings,
@@ -82,7 +91,12 @@ fn weigh_rows(
     first: usize,
     end: usize,
     work: &mut [u32],
-) {
+)
+    requires { ⌜ Stand (now file) s × TablesHeld (now tables) (tablesIn (now file) s) × (first ≤ end) × (end ≤ s .rows)
+        × (used (s .rows) ≤ length (now work)) × Held (now file) s goal first end end (now work) ⌝ }
+    ensures { λ r. ⌜ Held (now (file .entry)) s goal first end first (now (work .exit))
+        × Inside (s .rows) (now (work .entry)) (now (work .exit)) ⌝ }
+{
     let mut i = end;
     while first < i {
         i -= 1;
@@ -96,9 +110,10 @@ fn weigh_rows(
 }
 
 // A row's worth is the least over getting off and staying on; at equal worth the ride stays aboard.
-// intended: ensures work' ≡ set (pair i) worth (set (pair i + 1) leave (set trip i work)),
-// with (worth, leave) the cells of `least (getOff ..) (stayOn ..)`
-fn weigh_row(row: Row, i: usize, off: u32, work: &mut [u32]) {
+fn weigh_row(row: Row, i: usize, off: u32, work: &mut [u32])
+    requires { ⌜ Weighable row i (now work) ⌝ }
+    ensures { λ r. ⌜ Weighs row i off (now (work .entry)) (now (work .exit)) ⌝ }
+{
     let trip = TRIPS + row.trip;
     let pair = PAIRS + 2 * i;
     let next = PAIRS + 2 * number(work[trip]);
@@ -115,8 +130,10 @@ fn weigh_row(row: Row, i: usize, off: u32, work: &mut [u32]) {
 
 // A row with a worth below that of its stop's first chosen row goes on the stack; in the same minute it
 // replaces that row.
-// intended: ensures work' decodes to choose target best chosen (stackAt of its stop), other cells unchanged
-fn choose(row: Row, i: usize, work: &mut [u32]) {
+fn choose(row: Row, i: usize, work: &mut [u32])
+    requires { ⌜ Pushable row i (now work) ⌝ }
+    ensures { λ r. ⌜ Chose row i (now (work .entry)) (now (work .exit)) ⌝ }
+{
     let board = row.board;
     let worth = work[PAIRS + 2 * i];
     let size = number(work[SIZES + board]);
@@ -142,8 +159,10 @@ fn choose(row: Row, i: usize, work: &mut [u32]) {
 }
 
 // An entry at pair `pair`.
-// intended: ensures work' ≡ set (2400 + 2 pair + 1) worth (set (2400 + 2 pair) (2048 departure + i) work)
-fn push(row: Row, i: usize, worth: u32, pair: usize, work: &mut [u32]) {
+fn push(row: Row, i: usize, worth: u32, pair: usize, work: &mut [u32])
+    requires { ⌜ (keyOf (row .departure) i < 4294967296) × (pairCell pair + 1 < length (now work)) ⌝ }
+    ensures { λ r. ⌜ now (work .exit) ≡ paired (now (work .entry)) pair (keyOf (row .departure) i) worth ⌝ }
+{
     let at = PAIRS + 2 * pair;
     work[at] = cell(KEY * row.departure + i);
     work[at + 1] = worth;

@@ -1,3 +1,5 @@
 -- Laws of running sums.
 pub mod Running
 pub mod Block
+pub mod Held
+pub mod Settled

@@ -1,9 +1,8 @@
 -- `tables::read_shares` meets its contract: so far the first `minute` running sums stand in their cells. Assumes nothing.
-use Prim.Native.Nat.{ℕ, suc, _+_, _-_, _*_, _≤_}
+use Prim.Native.Nat.{suc, _+_, _-_, _*_, _≤_}
 use mathlib.Core.Path.{_≡_, ap, sym, subst, _∙_}
 use native.Mathlib.Omega.{arith}
-use borrow.Author.Needs.{needs}
-use lib.ListN.{length, take, set}
+use lib.ListN.{take, set}
 use lib.Seq.{take-all}
 use Rattle.timetable.specs.Classes.{whole}
 use Rattle.layout.specs.Decode.{sharesFrom}
@@ -81,9 +80,12 @@ loop-again : tie.Need-loop-again Inv-loop μ-loop
 loop-again c =
     let a = c .before .before .before .before .before .before in
     let l = c .before .before .before .loop in
-    let more = so-far-more (a .args .file .now) (a .args .at) (a .args .longest) (a .args .into) (a .args .tables .now) (l .tables) (l .minute) (l .total) (l .late)
+    let more = so-far-more (a .args .file .now) (a .args .at) (a .args .longest) (a .args .into) (a .args .tables .now) (l .tables) (l .minute)
+    (l .total) (l .late)
     (c .before .u16-at .result) (l .inv) (omega arith) (c .before .u16-at .ensures .0) (a .pre .0 .few) (a .pre .1) in
-    subst (λ x. SoFar (a .args .file .now) (a .args .at) (a .args .longest) (a .args .into) (a .args .tables .now) (set (l .tables) (a .args .into + l .minute) x) (l .minute + 1) (l .total + c .before .u16-at .result) (l .late + c .before .u16-at .result * l .minute))
+    subst (λ x. SoFar (a .args .file .now) (a .args .at) (a .args .longest) (a .args .into) (a .args .tables .now)
+    (set (l .tables) (a .args .into + l .minute) x) (l .minute + 1) (l .total + c .before .u16-at .result)
+    (l .late + c .before .u16-at .result * l .minute))
     (sym (c .cell .ensures)) more
 
 same-length : tie.Need-same-length Inv-loop μ-loop
@@ -95,7 +97,8 @@ returns c =
     let l = c .before .loop in
     let shares = sharesFrom (a .file .now) (a .at) (suc (a .longest)) in
     let all : l .minute ≡ suc (a .longest) = omega arith in
-    let whole-list : take (l .minute) shares ≡ shares = take-all (l .minute) shares (omega (arith, shares-length (a .file .now) (a .at) (suc (a .longest)))) in
+    let whole-list : take (l .minute) shares ≡ shares = take-all (l .minute) shares
+    (omega (arith, shares-length (a .file .now) (a .at) (suc (a .longest)))) in
     (l .inv .late-sum ∙ ap (λ xs. weigh xs 0 (λ v. v)) whole-list, subst (Summed (a .tables .now) (l .tables) (a .into) shares) all (l .inv .summed))
 
 pub read-shares-spec : {M : Type 1} → statement M

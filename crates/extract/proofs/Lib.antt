@@ -1,0 +1,14 @@
+-- Laws of writing the plan.
+pub mod Passing
+pub mod Laid
+pub mod Going
+pub mod Timed
+pub mod Kept
+pub mod Stacked
+pub mod Windows
+pub mod Wanting
+pub mod Writing
+pub mod Aboard
+pub mod Headed
+pub mod Turn
+pub mod Settled

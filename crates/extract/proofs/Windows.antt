@@ -1,0 +1,45 @@
+-- Windows: what one wants, and which one a landing opens. Assumes nothing.
+use Prim.Native.Nat.{ℕ, _≤_}
+use mathlib.Core.Bool.{true}
+use mathlib.Core.List.{List, [], _∷_, _++_}
+use mathlib.Core.Logic.{_≢_}
+use mathlib.Core.Option.{some}
+use mathlib.Core.Path.{_≡_, ap, _∙_}
+use borrow.Author.Tests.{eq-eqb, ne-eqb, leb-true, le-leb}
+use lib.Dec.{leb}
+use Rattle.laws.proofs.Tests.{both, both-left, both-right, cond-true, cond-false}
+use Rattle.plans.specs.Rides.{Ride, latest, boards}
+use Rattle.plans.specs.Worth.{Valued, firstOpen}
+use Rattle.plans.specs.Plan.{Window, inWindow, upTo, windowsOf}
+
+-- a ride in a window boards at its stop, from its minute on, and departs no later than its end
+pub window-boards : (w : Window) (r : Ride) → inWindow w r ≡ true → boards r (w .stop) (w .minute) ≡ true
+unfolding inWindow
+window-boards w r e = both-left (boards r (w .stop) (w .minute)) (leb (r .departs) (w .until)) e
+
+pub window-until : (w : Window) (r : Ride) → inWindow w r ≡ true → r .departs ≤ w .until
+unfolding inWindow
+window-until w r e =
+    leb-true (r .departs) (w .until) (both-right (boards r (w .stop) (w .minute)) (leb (r .departs) (w .until)) e)
+
+pub in-window : (w : Window) (r : Ride) → boards r (w .stop) (w .minute) ≡ true → r .departs ≤ w .until → inWindow w r ≡ true
+unfolding inWindow
+in-window w r boarded until = both boarded (le-leb (r .departs) (w .until) until)
+
+-- a ride that ends at the target opens no window
+pub none-more : (target : ℕ) (r : Ride) (behind : List Valued) (ws : List Window) → r .to ≡ target → windowsOf target r behind ++ ws ≡ ws
+unfolding windowsOf
+none-more target r behind ws e =
+    ap (λ (l : List Window). l ++ ws) (cond-true [] (upTo (r .to) (r .arrives) (firstOpen behind (r .to) (latest r))) (eq-eqb (r .to) target e))
+
+-- any other opens one, up to and including the first ride at or after its last landing
+abbrev pub window : Ride → Valued → Window
+window r safe = record { stop = r .to; minute = r .arrives; until = safe .ride .departs }
+
+pub one-more : (target : ℕ) (r : Ride) (behind : List Valued) (ws : List Window) (safe : Valued) → r .to ≢ target
+    → firstOpen behind (r .to) (latest r) ≡ some safe → windowsOf target r behind ++ ws ≡ window r safe ∷ ws
+unfolding windowsOf upTo
+one-more target r behind ws safe away e =
+    ap (λ (l : List Window). l ++ ws)
+    (cond-false [] (upTo (r .to) (r .arrives) (firstOpen behind (r .to) (latest r))) (ne-eqb (r .to) target away)
+    ∙ ap (upTo (r .to) (r .arrives)) e)

@@ -1,0 +1,7 @@
+-- Laws of a stop's chosen rides, of its stack, and of sums over delays.
+pub mod AtStop
+pub mod Stack
+pub mod Runs
+pub mod Turns
+pub mod Landings
+pub mod Settled

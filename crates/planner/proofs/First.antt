@@ -1,0 +1,208 @@
+-- The first chosen row at the source: what the top of the source's stack holds, and the plan that it begins. Uses a sound file's rows.
+use Prim.Native.Nat.{ℕ, suc, pred, _+_, _-_, _*_, _%_, _≤_, _<_}
+use native.Mathlib.Omega.{arith}
+use mathlib.Core.Bool.{cond}
+use mathlib.Core.List.{List, [], _∷_, _++_, List·Memᴰ}
+use mathlib.Core.Option.{Option, none, some}
+use mathlib.Core.Path.{_≡_, sym, ap, subst, _∙_}
+use lib.ListN.{length, getD}
+use lib.Seq.{slice, length-slice}
+use Rattle.laws.proofs.Tests.{ifb}
+use Rattle.laws.proofs.Places.{member-at}
+use Rattle.timetable.specs.Timetable.{Timetable}
+use Rattle.timetable.specs.declared.Row.{Row}
+use Rattle.plans.specs.declared.Query.{Query}
+use Rattle.plans.specs.Rides.{Ride}
+use Rattle.plans.specs.Worth.{Valued, firstOpen}
+use Rattle.plans.specs.Chosen.{GettingOff, scan, choose, others, offInTicks, bestOf}
+use Rattle.plans.specs.Plan.{Window, wanted, upTo, windowsOf, extract, ridesFrom, latestOf, chosenFor, planWithin}
+use Rattle.plans.proofs.Choice.{choice, Choice, worthless, at-target, behind, added, same-minute}
+use Rattle.plans.proofs.BestRides.{best-boards, chosen-picked}
+use Rattle.cells.specs.Cells.{Entry, entryAt, stackStart, stackSize}
+use Rattle.reading.specs.declared.Sailings.{Sailings}
+use Rattle.reading.specs.Reading.{timetableIn}
+use Rattle.reading.proofs.Cuts.{Idle, scanPart, part-chosen, part-first, part-rides}
+use Rattle.landing.specs.Landing.{atStop, entryOf, EntryFits}
+use Rattle.landing.proofs.AtStop.{first-open-at-stop, first-open-at, first-open-none, at-stop-from, at-stop-member}
+use Rattle.landing.proofs.Stack.{stack-size, entry-at}
+use Rattle.scan.specs.Scanned.{ScanHeld}
+use Rattle.planner.specs.Steps.{Laid, planIn}
+
+-- chosen rides are no more than the rows
+others-few : (r : Ride) (vs : List Valued) → length (others r vs) ≤ length vs
+unfolding others
+others-few r [] = omega arith
+others-few r (v ∷ vs) =
+    ifb (λ b. length (cond b (others r vs) (v ∷ others r vs)) ≤ suc (length vs)) (same-minute (v .ride) r)
+    (λ _. let z : length (others r vs) ≤ suc (length vs) = omega (arith, others-few r vs) in z)
+    (λ _. let z : suc (length (others r vs)) ≤ suc (length vs) = omega (arith, others-few r vs) in z)
+
+choice-few : (target : ℕ) {best : Option Valued} {old new : List Valued} → Choice target old best new → length new ≤ suc (length old)
+choice-few target worthless = omega arith
+choice-few target (at-target p) = omega arith
+choice-few target (behind p) = omega arith
+choice-few target {old = old} (added {v = v} apart lead) = omega (arith, others-few (v .ride) old)
+
+chosen-few : (off : GettingOff) (target : ℕ) (tables : List (List ℕ)) (i : ℕ) (rows : List Row)
+    → length (scan off target tables i rows .chosen) ≤ length rows
+unfolding scan
+chosen-few off target tables i [] = omega arith
+chosen-few off target tables i (r ∷ rows) =
+    let later = scan off target tables (suc i) rows in
+    let best = bestOf off tables i r later in
+    let z : length (choose target best (later .chosen)) ≤ suc (length rows) =
+    omega (arith, choice-few target (choice target best (later .chosen)), chosen-few off target tables (suc i) rows)
+    in z
+
+extract-few : (target : ℕ) (ws : List Window) (vs : List Valued) → length (extract target ws vs) ≤ length vs
+unfolding extract
+extract-few target ws [] = omega arith
+extract-few target ws (v ∷ vs) =
+    ifb
+    (λ b. length (cond b (v ∷ extract target (windowsOf target (v .ride) vs ++ ws) vs) (extract target ws vs)) ≤ suc (length vs))
+    (wanted ws (v .ride))
+    (λ _. let z : suc (length (extract target (windowsOf target (v .ride) vs ++ ws) vs)) ≤ suc (length vs) =
+    omega (arith, extract-few target (windowsOf target (v .ride) vs ++ ws) vs) in z)
+    (λ _. let z : length (extract target ws vs) ≤ suc (length vs) = omega (arith, extract-few target ws vs) in z)
+
+-- the part of the rows from `first` to before `end`, and the cells after its scan
+module _
+    (file : List ℕ)
+    (s : Sailings)
+    (tables : List ℕ)
+    (q : Query)
+    (first : ℕ)
+    (laid : Laid file s tables q first)
+    (bound end : ℕ)
+    (ordered : first ≤ end)
+    (inside : end ≤ s .rows)
+    (work : List ℕ)
+  where
+    abbrev t : Timetable
+    t = timetableIn file s
+
+    abbrev chosen : ℕ → List Valued
+    chosen target = scanPart (offInTicks target bound) target t first end .chosen
+
+    abbrev size : ℕ
+    size = stackSize work (q .source)
+
+    -- the cell of the top of the source's stack
+    abbrev pub top : ℕ
+    top = 2400 + 2 * (getD work (2000 + q .source) 0 + size - 1)
+
+    abbrev rides : ℕ → Valued → List Valued
+    rides target v = extract target (upTo (q .source) (q .minute) (some v)) (chosen target)
+
+    -- what the top of the stack tells of the plan
+    pub record Top (target : ℕ) : Type 0 where
+      pub ride : Valued
+      pub row : getD work top 0 % 2048 ≡ ride .ride .board
+      pub worth : getD work (top + 1) 0 ≡ ride .worth
+      pub first-here : firstOpen (chosen target) (q .source) (q .minute) ≡ some ride
+      pub is-plan :
+          planIn file s q bound
+          ≡ some (record { rides = rides target ride; expected = ride .worth; last = latestOf (rides target ride); bound = bound })
+      pub few : length (rides target ride) ≤ 2000
+
+    abbrev pub Told : ℕ → Type 0
+    Told target = (size ≡ 0 → planIn file s q bound ≡ none) × (0 < size → Top target)
+
+    module _ (held : ScanHeld work (s .rows) first end (scanPart (offInTicks (q .target) bound) (q .target) t first end))
+        (idle : Idle (offInTicks (q .target) bound) (q .target) t end) where
+      here : List Valued
+      here = atStop (q .source) (chosen (q .target))
+
+      abbrev someone : Valued
+      someone = record { ride = record { board = 0; leave = 0; from = 0; departs = 0; to = 0; arrives = 0; shares = [] }; worth = 0 }
+
+      counted : size ≡ length here
+      unfolding here
+      counted = stack-size work (stackStart work (q .source)) size here (held .stack-holds (q .source) (laid .source))
+
+      seen : firstOpen (chosenFor t (q .target) bound) (q .source) (q .minute) ≡ firstOpen (chosen (q .target)) (q .source) (q .minute)
+      seen = part-first t (laid .timely) (q .target) bound (q .source) (q .minute) first end (laid .cut) ordered idle
+
+      none-here : size ≡ 0 → planIn file s q bound ≡ none
+      unfolding here planWithin
+      none-here e =
+          ap (planWithin t q bound)
+          (seen ∙ first-open-at-stop (chosen (q .target)) (q .source) (q .minute)
+          ∙ first-open-none here (q .source) (q .minute) someone (λ k h. absurd (let z : ⊥ = omega (arith, counted) in z)))
+
+      -- a chosen row of this part departs at or after T
+      departs-later : (v : Valued) → List·Memᴰ v (chosen (q .target)) → q .minute ≤ v .ride .departs
+      departs-later v m =
+          let off = offInTicks (q .target) bound in
+          let picked = chosen-picked off (q .target) t first (let z : first ≤ length (t .rows) = omega (arith, laid .stand .rows-count) in z) v
+          (subst (λ (l : List Valued). List·Memᴰ v l) (part-chosen off (q .target) t end idle first ordered) m) in
+          subst (λ d. q .minute ≤ d) (sym (best-boards off (q .target) t (v .ride .board) (picked .inside) v (picked .best) .minute))
+          (laid .cut .behind (v .ride .board) (picked .here) (picked .inside))
+
+      abbrev ahead : Valued
+      ahead = getD here 0 someone
+
+      is-first : 0 < size → firstOpen (chosen (q .target)) (q .source) (q .minute) ≡ some ahead
+      unfolding here
+      is-first h =
+          let some-here : 0 < length here = omega (arith, counted) in
+          first-open-at-stop (chosen (q .target)) (q .source) (q .minute)
+          ∙ first-open-at here (q .source) (q .minute) 0 someone some-here (at-stop-from (q .source) (chosen (q .target)) 0 someone some-here)
+          (departs-later ahead (at-stop-member (q .source) (chosen (q .target)) ahead (member-at here 0 someone some-here)))
+          (λ k below. absurd (let z : ⊥ = omega arith in z))
+
+      first-plan : (v : Valued) → firstOpen (chosen (q .target)) (q .source) (q .minute) ≡ some v → planIn file s q bound
+          ≡ some (record { rides = rides (q .target) v; expected = v .worth; last = latestOf (rides (q .target) v); bound = bound })
+      unfolding planWithin ridesFrom
+      first-plan v e =
+          ap (planWithin t q bound) (seen ∙ e)
+          ∙ ap (λ (vs : List Valued). some (record { rides = vs; expected = v .worth; last = latestOf vs; bound = bound }))
+          (part-rides t (laid .timely) q bound first end (laid .cut) ordered idle
+          ∙ ap (λ (o : Option Valued). extract (q .target) (upTo (q .source) (q .minute) o) (chosen (q .target))) e)
+
+      top-entry : 0 < size → entryAt work top ≡ entryOf ahead
+      unfolding here
+      top-entry h =
+          let place : pred size + 1 ≡ size = omega arith in
+          let cell : 2400 + 2 * getD work (2000 + q .source) 0 + 2 * pred size ≡ top = omega arith in
+          ap (entryAt work) (sym cell)
+          ∙ entry-at work (stackStart work (q .source)) size here (held .stack-holds (q .source) (laid .source)) 0 (pred size) someone
+          (let z : 0 + suc (pred size) ≡ size = omega arith in z)
+
+      entry-fits : 0 < size → EntryFits ahead
+      unfolding here
+      entry-fits h =
+          let some-here : 0 < length here = omega (arith, counted) in
+          held .climbing (q .source) (laid .source) .fits ahead (member-at here 0 someone some-here)
+
+      told : Told (q .target)
+      told = (
+        none-here,
+        λ h.
+            let entry = top-entry h in
+            let fits = entry-fits h in
+            let key : getD work top 0 ≡ 2048 * ahead .ride .departs + ahead .ride .board = ap (λ (x : Entry). x .key) entry in
+            record {
+              ride = ahead;
+              row = (let z : getD work top 0 % 2048 ≡ ahead .ride .board = omega (arith, key, fits .row) in z);
+              worth = ap (λ (x : Entry). x .worth) entry;
+              first-here = is-first h;
+              is-plan = first-plan ahead (is-first h);
+              few =
+                  (let z : length (rides (q .target) ahead) ≤ 2000 = omega (
+                    arith,
+                    extract-few (q .target) (upTo (q .source) (q .minute) (some ahead)) (chosen (q .target)),
+                    chosen-few (offInTicks (q .target) bound) (q .target) (t .tables) first (slice first end (t .rows)),
+                    length-slice first end (t .rows) (let y : end ≤ length (t .rows) = omega (arith, laid .stand .rows-count) in y),
+                    laid .stand .few-rows,
+                  ) in z);
+            },
+      )
+
+    -- the same of a goal whose target is the query's
+    pub goal-told : (target : ℕ) → target ≡ q .target → ScanHeld work (s .rows) first end (scanPart (offInTicks target bound) target t first end)
+        → Idle (offInTicks target bound) target t end → Told target
+    goal-told target e =
+        subst
+        (λ x. ScanHeld work (s .rows) first end (scanPart (offInTicks x bound) x t first end) → Idle (offInTicks x bound) x t end → Told x)
+        (sym e) told

@@ -1,0 +1,69 @@
+-- What is laid out of a sound file before planning, and the plan by its E. Uses a sound file's rows and tables.
+use Prim.Native.Nat.{ℕ, _≤_, _<_}
+use native.Mathlib.Omega.{arith}
+use mathlib.Core.List.{List}
+use mathlib.Core.Option.{some}
+use mathlib.Core.Path.{_≡_, sym, ap, subst, _∙_}
+use Rattle.layout.specs.declared.Format.{Format}
+use Rattle.layout.specs.Decode.{headOf, decode}
+use Rattle.plans.specs.declared.Query.{Query}
+use Rattle.plans.specs.Sound.{Timely}
+use Rattle.plans.specs.Journeys.{boundOf}
+use Rattle.plans.specs.Plan.{planned, planBefore, earliest}
+use Rattle.reading.specs.declared.Sailings.{Sailings}
+use Rattle.reading.specs.Reading.{rowsIn, tablesIn, timetableIn, Stand, BlocksStand, Cut, TablesHeld}
+use Rattle.reading.specs.Sections.{sailingsOf}
+use Rattle.reading.proofs.Standing.{stands, blocks-stand, timely, same-earliest, same-plan}
+use Rattle.journeys.specs.Query.{queryOf}
+use Rattle.planner.proofs.Bounds.{earliest-fits}
+use Rattle.planner.specs.Steps.{Asked, Laid, planIn}
+
+-- a query by its numbers
+pub as-asked : (q : Query) (source target minute : ℕ) → source ≡ q .source → target ≡ q .target → minute ≡ q .minute
+    → queryOf source target minute (q .code) ≡ q
+as-asked q source target minute a b m =
+    ap (λ x. queryOf x target minute (q .code)) a ∙ ap (λ x. queryOf (q .source) x minute (q .code)) b
+    ∙ ap (λ x. queryOf (q .source) (q .target) x (q .code)) m
+
+module _ (f : Format) (file : List ℕ) (q : Query) (asked : Asked f file q) (s : Sailings) (where-they-stand : s ≡ sailingsOf f (headOf f file)) where
+  pub rows-stand : Stand file s
+  rows-stand = subst (Stand file) (sym where-they-stand) (stands f (asked .plannable) file (asked .sound))
+
+  pub tables-stand : BlocksStand file s
+  tables-stand = subst (BlocksStand file) (sym where-they-stand) (blocks-stand f (asked .plannable) file (asked .sound))
+
+  pub lays : (tables : List ℕ) (first minute : ℕ) → TablesHeld tables (tablesIn file s) → minute ≡ q .minute → Cut (rowsIn file s) minute first
+      → Laid file s tables q first
+  lays tables first minute held same cut =
+      record {
+        stand = rows-stand;
+        held = held;
+        timely = subst (λ (x : Sailings). Timely (timetableIn file x)) (sym where-they-stand) (timely f (asked .plannable) file (asked .sound));
+        source = asked .source;
+        target = asked .target;
+        apart = asked .apart;
+        minute = omega (arith, asked .minute, asked .plannable .minutes-fit);
+        cut = subst (λ m. Cut (rowsIn file s) m first) same cut;
+      }
+
+  pub earliest-there : earliest (decode f file) q ≡ earliest (timetableIn file s) q
+  earliest-there =
+      same-earliest f file q ∙ ap (λ (x : Sailings). earliest (timetableIn file x) q) (sym where-they-stand)
+
+  pub plan-there : planned (decode f file) q ≡ planned (timetableIn file s) q
+  plan-there = same-plan f file q ∙ ap (λ (x : Sailings). planned (timetableIn file x) q) (sym where-they-stand)
+
+  pub rows-there : s .rows ≡ headOf f file .rows
+  rows-there = ap (λ (x : Sailings). x .rows) where-they-stand
+
+  -- the plan is the one within the bound that E gives
+  pub plan-by-arrival : (e : ℕ) → earliest (timetableIn file s) q ≡ some e → planned (decode f file) q ≡ planIn file s q (boundOf q e)
+  unfolding planned planBefore
+  plan-by-arrival e found = plan-there ∙ ap (planBefore (timetableIn file s) q) found
+
+  -- E is a minute of 16 bits that does not lie before T
+  pub arrival-there : (e : ℕ) → earliest (decode f file) q ≡ some e → (q .minute ≤ e) × (e < 65536)
+  arrival-there e found =
+      earliest-fits file s rows-stand
+      (subst (λ (x : Sailings). Timely (timetableIn file x)) (sym where-they-stand) (timely f (asked .plannable) file (asked .sound)))
+      q e (sym earliest-there ∙ found)

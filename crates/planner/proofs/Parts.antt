@@ -1,0 +1,59 @@
+-- The part of the rows that planning looks at, by T and the bound. Uses a sound file's rows.
+use Prim.Native.Nat.{ℕ, _≤_, _<_}
+use native.Mathlib.Omega.{arith}
+use mathlib.Core.List.{List}
+use mathlib.Core.Path.{_≡_, sym, subst}
+use lib.Dec.{eqb, ltb}
+use lib.ListN.{length}
+use borrow.Author.Tests.{eqb-true, eqb-false, ltb-true, ltb-false}
+use Rattle.laws.proofs.Tests.{ifb}
+use Rattle.timetable.specs.Timetable.{Timetable}
+use Rattle.timetable.specs.declared.Row.{Row}
+use Rattle.plans.specs.declared.Query.{Query}
+use Rattle.plans.specs.Sound.{Timely}
+use Rattle.plans.specs.Chosen.{offInTicks}
+use Rattle.reading.specs.declared.Sailings.{Sailings}
+use Rattle.reading.specs.Reading.{rowsIn, timetableIn, Cut}
+use Rattle.reading.proofs.Cuts.{Idle, idle-end, bound-idle}
+use Rattle.landing.specs.declared.Goal.{Goal}
+use Rattle.planner.specs.Steps.{Laid, Reaches, RowsWithin, Part}
+
+-- rows that depart before an earlier minute stand ahead of those that do not before a later one
+cuts-in-order : (rows : List Row) (minute bound first end : ℕ) → Cut rows minute first → Cut rows bound end → minute ≤ bound → first ≤ end
+cuts-in-order rows minute bound first end early late h =
+    ifb (λ _. first ≤ end) (ltb end first)
+    (λ e.
+    let past : end < first = ltb-true end first e in
+    let inside : end < length rows = omega (arith, early .inside) in
+    absurd (let z : ⊥ = omega (arith, early .before end past, late .behind end (let y : end ≤ end = omega arith in y) inside) in z))
+    (λ e. ltb-false end first e)
+
+-- rows from `end` on are worth nothing, whether there is a bound or not
+within-idle : (t : Timetable) → Timely t → (target bound end : ℕ) → RowsWithin (t .rows) bound end → Idle (offInTicks target bound) target t end
+within-idle t timely target bound end within =
+    ifb (λ _. Idle (offInTicks target bound) target t end) (eqb bound 0)
+    (λ e. subst (Idle (offInTicks target bound) target t) (sym (within .all (eqb-true bound 0 e))) (idle-end (offInTicks target bound) target t))
+    (λ e. bound-idle t timely target bound (eqb-false bound 0 e) end (within .before (eqb-false bound 0 e)))
+
+within-ordered : (rows : List Row) (minute bound first end : ℕ) → Cut rows minute first → Reaches minute bound → RowsWithin rows bound end
+    → first ≤ end
+within-ordered rows minute bound first end cut reaches within =
+    ifb (λ _. first ≤ end) (eqb bound 0) (λ e. omega (arith, cut .inside, within .all (eqb-true bound 0 e)))
+    (λ e. cuts-in-order rows minute bound first end cut (within .before (eqb-false bound 0 e)) (reaches (eqb-false bound 0 e)))
+
+within-inside : (rows : List Row) (bound end : ℕ) → RowsWithin rows bound end → end ≤ length rows
+within-inside rows bound end within =
+    ifb (λ _. end ≤ length rows) (eqb bound 0) (λ e. omega (arith, within .all (eqb-true bound 0 e)))
+    (λ e. within .before (eqb-false bound 0 e) .inside)
+
+pub is-part : (file : List ℕ) (s : Sailings) (tables : List ℕ) (q : Query) (goal : Goal) (first end : ℕ) → Laid file s tables q first
+    → goal .target ≡ q .target → goal .bound < 4294967296 → Reaches (q .minute) (goal .bound) → RowsWithin (rowsIn file s) (goal .bound) end
+    → Part file s q goal first end
+is-part file s tables q goal first end laid target fits reaches within =
+    record {
+      target = target;
+      bound = fits;
+      ordered = within-ordered (rowsIn file s) (q .minute) (goal .bound) first end (laid .cut) reaches within;
+      inside = omega (arith, within-inside (rowsIn file s) (goal .bound) end within, laid .stand .rows-count);
+      idle = within-idle (timetableIn file s) (laid .timely) (goal .target) (goal .bound) end within;
+    }

@@ -1,0 +1,28 @@
+-- Document 01, "What every contract settles": any two outcomes that an entry point permits coincide, slices too. Assumes nothing.
+use mathlib.Core.Path.{_≡_, sym, _∙_}
+use contract.Lifetimes.{Lfts}
+use denote.Ref.{now}
+use denote.Triple.Clauses.{AtExit}
+use borrow.Fn.Kinds.{Dens, resT, endedOf}
+use Rattle.planner.proofs.plan.Kinds as plan-kinds
+use Rattle.planner.proofs.plan.Reads as plan-reads
+use Rattle.planner.proofs.earliest_safe_arrival.Kinds as arrival-kinds
+use Rattle.planner.proofs.earliest_safe_arrival.Reads as arrival-reads
+
+-- the answer, then work, then the plan slice
+pub plan-settled :
+    (κs : Lfts 3) (arguments : Dens κs plan-kinds.ps) (one other : resT plan-kinds.r κs .Denot)
+    (ending another : AtExit (endedOf 3 plan-kinds.ps plan-kinds.r) κs) → plan-reads.Post κs arguments one ending
+    → plan-reads.Post κs arguments other another
+    → (one ≡ other) × (now (ending .1 .1 .0) ≡ now (another .1 .1 .0)) × (now (ending .1 .1 .1 .0) ≡ now (another .1 .1 .1 .0))
+plan-settled κs arguments one other ending another first second =
+    (first .0 ∙ sym (second .0), first .1 ∙ sym (second .1), first .2 ∙ sym (second .2))
+
+-- the answer, then work
+pub earliest-safe-arrival-settled :
+    (κs : Lfts 2) (arguments : Dens κs arrival-kinds.ps) (one other : resT arrival-kinds.r κs .Denot)
+    (ending another : AtExit (endedOf 2 arrival-kinds.ps arrival-kinds.r) κs) → arrival-reads.Post κs arguments one ending
+    → arrival-reads.Post κs arguments other another
+    → (one ≡ other) × (now (ending .1 .1 .1 .1 .0) ≡ now (another .1 .1 .1 .1 .0))
+earliest-safe-arrival-settled κs arguments one other ending another first second =
+    (first .0 ∙ sym (second .0), first .1 ∙ sym (second .1))

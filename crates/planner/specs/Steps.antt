@@ -1,0 +1,82 @@
+-- What the steps of planning ask of each other: a sound file, what is laid out of it in the lent cells, and the plan within a bound.
+use Prim.Native.Nat.{ℕ, _≤_, _<_}
+use mathlib.Core.List.{List, []}
+use mathlib.Core.Logic.{_≢_}
+use mathlib.Core.Option.{Option}
+use mathlib.Core.Path.{_≡_}
+use lib.ListN.{length, drop}
+use Rattle.timetable.specs.declared.Row.{Row}
+use Rattle.layout.specs.declared.Format.{Format}
+use Rattle.layout.specs.Decode.{decode}
+use Rattle.layout.proofs.Sound.{SoundFile}
+use Rattle.plans.specs.declared.Query.{Query}
+use Rattle.plans.specs.Sound.{Timely}
+use Rattle.plans.specs.Worth.{firstOpen}
+use Rattle.plans.specs.Chosen.{offInTicks}
+use Rattle.plans.specs.Plan.{Plan, chosenFor, planWithin}
+use Rattle.reading.specs.declared.Sailings.{Sailings}
+use Rattle.reading.specs.Reading.{rowsIn, tablesIn, timetableIn, Stand, Cut, TablesHeld}
+use Rattle.reading.specs.Sections.{Plannable}
+use Rattle.reading.proofs.Cuts.{Idle}
+use Rattle.landing.specs.declared.Goal.{Goal}
+use Rattle.planner.specs.declared.Planned.{Planned}
+use Rattle.planner.specs.Outcome.{planAnswered}
+
+-- a sound file, with the numbers that the check answers
+pub record FoundSound (f : Format) (file : List ℕ) (stops rows : ℕ) : Type 0 where
+  pub plannable : Plannable f
+  pub sound : SoundFile f file
+  pub stops-are : stops ≡ decode f file .stops
+  pub rows-are : rows ≡ length (decode f file .rows)
+
+-- a sound file, and a query of its stops and minutes
+pub record Asked (f : Format) (file : List ℕ) (q : Query) : Type 0 where
+  pub plannable : Plannable f
+  pub sound : SoundFile f file
+  pub source : q .source < 200
+  pub target : q .target < 200
+  pub apart : q .source ≢ q .target
+  pub minute : q .minute ≤ f .latest
+
+-- a sound file's rows, its tables as lent cells, and the first row at or after T
+pub record Laid (file : List ℕ) (s : Sailings) (tables : List ℕ) (q : Query) (first : ℕ) : Type 0 where
+  pub stand : Stand file s
+  pub held : TablesHeld tables (tablesIn file s)
+  pub timely : Timely (timetableIn file s)
+  pub source : q .source < 200
+  pub target : q .target < 200
+  pub apart : q .source ≢ q .target
+  pub minute : q .minute < 65536
+  pub cut : Cut (rowsIn file s) (q .minute) first
+
+-- no bound, or one that does not lie before the minute
+abbrev pub Reaches : (minute bound : ℕ) → Type 0
+Reaches minute bound = bound ≢ 0 → minute ≤ bound
+
+-- all rows where there is no bound, else those that depart before it
+pub record RowsWithin (rows : List Row) (bound end : ℕ) : Type 0 where
+  pub all : bound ≡ 0 → end ≡ length rows
+  pub before : bound ≢ 0 → Cut rows bound end
+
+-- the rows from `first` to before `end` are all that a plan for this goal can board
+pub record Part (file : List ℕ) (s : Sailings) (q : Query) (goal : Goal) (first end : ℕ) : Type 0 where
+  pub target : goal .target ≡ q .target
+  pub bound : goal .bound < 4294967296
+  pub ordered : first ≤ end
+  pub inside : end ≤ s .rows
+  pub idle : Idle (offInTicks (goal .target) (goal .bound)) (goal .target) (timetableIn file s) end
+
+-- the plan within a bound, none if no chosen row can be boarded at the source from T on
+abbrev pub planIn : List ℕ → Sailings → Query → ℕ → Option Plan
+planIn file s q bound =
+    planWithin (timetableIn file s) q bound (firstOpen (chosenFor (timetableIn file s) (q .target) bound) (q .source) (q .minute))
+
+-- the answer that a plan or its absence gives, and the plan slice afterwards
+pub record Answers (o : Option Plan) (r : Planned) (plan plan' : List ℕ) : Type 0 where
+  pub answer : r ≡ planAnswered o [] plan .answer
+  pub written : plan' ≡ planAnswered o [] plan .plan
+
+-- cells from `from` on are as they were
+pub record KeptBehind (from : ℕ) (work work' : List ℕ) : Type 0 where
+  pub same-length : length work' ≡ length work
+  pub kept : drop from work' ≡ drop from work
