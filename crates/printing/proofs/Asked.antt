@@ -66,8 +66,9 @@ module _ (t : Timetable) (p : Plan) {rides : ℕ} (count : rides ≡ length (p .
   unfolding over
   rides-told plan laid are = rw (laid, count) (rides-inside t (p .rides) (drop (length (written (p .rides))) plan) are)
 
-  lines-told : {expected last : ℕ} (plan : List ℕ) {after : List ℕ} → expected ≡ p .expected → last ≡ p .last → after ≡ over (written (p .rides)) plan
-      → ((v : Valued) → List·Memᴰ v (p .rides) → IsRide t (v .ride)) → firstText rides expected last ++ linesIn (t .rows) after 0 rides ≡ planText p
+  lines-told : {expected last : ℕ} (plan : List ℕ) {after : List ℕ} → expected ≡ p .expected → last ≡ p .last
+      → after ≡ over (written (p .rides)) plan → ((v : Valued) → List·Memᴰ v (p .rides) → IsRide t (v .ride))
+      → firstText rides expected last ++ linesIn (t .rows) after 0 rides ≡ planText p
   unfolding planText over
   lines-told plan expects ends laid are =
       rw (laid, count, expects, ends)
@@ -104,14 +105,17 @@ module _ (file : List ℕ) (q : Query) (work plan : List ℕ) (sound : fileVerdi
       ∙ ap (λ x. cond rule x (refusedPlan 6 0 work plan))
       (cond-true _ _ (both (le-leb (workRoom n) (length work) cells) (le-leb (planRoom n) (length plan) slice)))
 
-  pub refusal-text : {number place : ℕ} → NoPlan number place ≡ planOutcome file q work plan .answer → refusedText number ≡ askedText (decode versionOne file) q
+  pub refusal-text : {number place : ℕ} → NoPlan number place ≡ planOutcome file q work plan .answer
+      → refusedText number ≡ askedText (decode versionOne file) q
   unfolding askedText t rule
   refusal-text e = refusal-when rule (planned t q) _ work plan (e ∙ ap (λ o. o .answer) outcome)
 
   module _ {rides expected last bound : ℕ} {after : List ℕ} (answered : AsPlan rides expected last bound ≡ planOutcome file q work plan .answer)
       (laid : after ≡ planOutcome file q work plan .plan) where
     told : Told rule (planned t q) rides expected last plan after
-    told = plan-when rule (planned t q) (cleared (workRoom (length (t .rows))) work) work plan after (answered ∙ ap (λ o. o .answer) outcome) (laid ∙ ap (λ o. o .plan) outcome)
+    told =
+        plan-when rule (planned t q) (cleared (workRoom (length (t .rows))) work) work plan after
+        (answered ∙ ap (λ o. o .answer) outcome) (laid ∙ ap (λ o. o .plan) outcome)
 
     are-rides : (v : Valued) → List·Memᴰ v (told .told .rides) → IsRide (decode versionOne file) (v .ride)
     unfolding t
@@ -120,7 +124,9 @@ module _ (file : List ℕ) (q : Query) (work plan : List ℕ) (sound : fileVerdi
         for-ride t timely (q .target) (told .told .bound) v (plan-member t timely q (told .told) (plan-made t q (told .told) (told .is-found)) v m)
 
     pub plan-inside : RidesIn (headOf versionOne file .rows) after rides
-    plan-inside = subst (λ n. RidesIn n after rides) (holds .rows-count) (rides-told (decode versionOne file) (told .told) (told .count) plan (told .laid) are-rides)
+    plan-inside =
+        subst (λ n. RidesIn n after rides) (holds .rows-count)
+        (rides-told (decode versionOne file) (told .told) (told .count) plan (told .laid) are-rides)
 
     pub plan-lines : firstText rides expected last ++ linesIn (decode versionOne file .rows) after 0 rides ≡ askedText (decode versionOne file) q
     unfolding askedText plannedText t rule

@@ -27,7 +27,8 @@ ahead bytes k a h =
     ∙ ap (λ x. x ∷ drop (suc k) (set bytes k a)) (getD-set-same bytes k a 0 h)
     ∙ ap (λ l. a ∷ l) (drop-set-lt (suc k) bytes k a (omega arith))
 
-pub counted-start : (n : ℕ) (bytes : List ℕ) → length bytes ≡ numberWidth → n < 2 ^ 64 → Counted n (set bytes 19 (digitOf (n % 10))) 19 (n / 10)
+pub counted-start : (n : ℕ) (bytes : List ℕ) → length bytes ≡ numberWidth → n < 2 ^ 64
+    → Counted n (set bytes 19 (digitOf (n % 10))) 19 (n / 10)
 unfolding numberText
 counted-start n bytes wide small =
     let h : 19 < length bytes = omega arith in
@@ -52,7 +53,9 @@ counted-on {n} {bytes} (suc k) {left} w some =
     let digit : ℕ = digitOf (left % 10) in
     rw one-less
     (record {
-      text = ap (decimal (left / 10)) (ahead bytes k digit (omega (arith, w .wide, w .inside))) ∙ sym (decimal-on left (drop (suc k) bytes) some) ∙ w .text;
+      text =
+          ap (decimal (left / 10)) (ahead bytes k digit (omega (arith, w .wide, w .inside)))
+          ∙ sym (decimal-on left (drop (suc k) bytes) some) ∙ w .text;
       wide = length-set bytes k digit ∙ w .wide;
       room = omega (arith, w .room, pow-suc 10 k);
       inside = omega (arith, w .inside);

@@ -36,12 +36,14 @@ module _ (rows : List Row) (plan : List ℕ) (i rides : ℕ) where
       ap (linesIn rows plan i) none
 
   -- the loop over the rides: the line of ride i is written
-  pub lines-on : {out : List ℕ} {at : ℕ} {whole between : List ℕ} {next : ℕ} → i < rides → Left out at whole between next (linesIn rows plan i (rides - i))
+  pub lines-on : {out : List ℕ} {at : ℕ} {whole between : List ℕ} {next : ℕ} → i < rides
+      → Left out at whole between next (linesIn rows plan i (rides - i))
       → {text after : List ℕ} {last : ℕ} → text ≡ lineIn rows plan i → Put between next text after last
       → Left out at whole after last (linesIn rows plan (i + 1) (rides - (i + 1)))
   lines-on inside l same p =
       left-on (lineIn rows plan i) (linesIn rows plan (i + 1) (rides - (i + 1))) (rw (more-lines inside) at l) (put-as same p)
 
-  pub lines-end : {out : List ℕ} {at : ℕ} {whole between : List ℕ} {next : ℕ} → rides ≤ i → Left out at whole between next (linesIn rows plan i (rides - i))
+  pub lines-end : {out : List ℕ} {at : ℕ} {whole between : List ℕ} {next : ℕ} → rides ≤ i
+      → Left out at whole between next (linesIn rows plan i (rides - i))
       → Put out at whole between next
   lines-end past l = left-none (rw (no-more-lines past) at l)

@@ -10,7 +10,7 @@ use Rattle.layout.specs.Check.{checked, checkedAs, fileVerdict, headVerdict, le
 use Rattle.plans.specs.Worth.{weigh, firstOpen, worthOr, caught, arrivalWorth, changeWorth}
 use Rattle.plans.specs.Chosen.{whenSafe, offInTicks, worthOf, offInMinutes, nextOf, getOff, stayOn, least, firstAt, leads, others, choose, bestOf, scan, scanned}
 use Rattle.plans.specs.Plan.{earliest, chosenFor, inWindow, wanted, upTo, windowsOf, extract, ridesFrom, latestOf, planWithin, planBefore, planned}
-use Rattle.plans.specs.Cases.{wBytes}
+use Rattle.plans.specs.Cases.{Case, Hold, wBytes}
 use Rattle.planner.specs.Outcome.{journeyRule, codeRule}
 use Rattle.clock.specs.Clock.{dayOf, dayStart, sinceMidnight, hourOf, minuteOfHour, roundedUp}
 use Rattle.clock.specs.Text.{digitsOnto, decimal, faceText, timeText}
@@ -29,28 +29,22 @@ linesW =
     ∷ 49 ∷ 49 ∷ 58 ∷ 48 ∷ 48 ∷ 32 ∷ 100 ∷ 49 ∷ 32 ∷ 49 ∷ 49 ∷ 58 ∷ 48 ∷ 48 ∷ 10 ∷ 49 ∷ 32 ∷ 100 ∷ 49 ∷ 32 ∷ 49 ∷ 48 ∷ 58 ∷ 53
     ∷ 48 ∷ 32 ∷ 50 ∷ 32 ∷ 100 ∷ 49 ∷ 32 ∷ 49 ∷ 49 ∷ 58 ∷ 51 ∷ 48 ∷ 32 ∷ 100 ∷ 49 ∷ 32 ∷ 49 ∷ 49 ∷ 58 ∷ 51 ∷ 48 ∷ 10 ∷ []
 
-pub case-w-prints : sheetText wBytes queryW ≡ linesW
+abbrev printedCases : List Case
+printedCases =
+    record { answered = sheetText wBytes queryW; expected = linesW }
+    -- from a stop to itself: 6
+    ∷ record { answered = sheetText wBytes (0 ∷ 0 ∷ 0 ∷ 0 ∷ 78 ∷ 2 ∷ 0 ∷ 0 ∷ []); expected = refusedText 6 }
+    -- a query of seven bytes: 6
+    ∷ record { answered = sheetText wBytes (0 ∷ 0 ∷ 2 ∷ 0 ∷ 78 ∷ 2 ∷ 0 ∷ []); expected = refusedText 6 }
+    -- no files: 1
+    ∷ record { answered = sheetText [] []; expected = refusedText 1 }
+    -- T 601: 8
+    ∷ record { answered = sheetText wBytes (0 ∷ 0 ∷ 2 ∷ 0 ∷ 89 ∷ 2 ∷ 0 ∷ 0 ∷ []); expected = refusedText 8 }
+    ∷ []
+
+pub cases-print : Hold printedCases
 unfolding sheetText checkedText soundText askedText plannedText planText firstText ridesText rideText lineText callText refusedText numberText queryOf journeyRule codeRule timeText faceText decimal digitsOnto dayOf dayStart sinceMidnight hourOf minuteOfHour roundedUp wBytes u16At u32At checked checkedAs fileVerdict headVerdict lengthRule headRule classVerdict classesVerdict joined sectionsJoin rangesOf answered decode headOf headAt trailerAt rowsFrom rowAt tablesFrom tableAt sharesFrom blockEnd tablesEnd ownRule departureRule lastOfTrip follows tripRule rowVerdict rowsVerdict sum sharesRule planned planBefore earliest weigh firstOpen worthOr caught arrivalWorth changeWorth whenSafe offInTicks worthOf offInMinutes nextOf getOff stayOn least firstAt leads others choose bestOf scan scanned chosenFor inWindow wanted upTo windowsOf extract ridesFrom latestOf planWithin
-case-w-prints = refl
-
--- from source to source: 6
-pub same-stop-prints : sheetText wBytes (0 ∷ 0 ∷ 0 ∷ 0 ∷ 78 ∷ 2 ∷ 0 ∷ 0 ∷ []) ≡ refusedText 6
-unfolding sheetText checkedText soundText askedText plannedText planText firstText ridesText rideText lineText callText numberText queryOf journeyRule codeRule timeText faceText decimal digitsOnto dayOf dayStart sinceMidnight hourOf minuteOfHour roundedUp wBytes u16At u32At checked checkedAs fileVerdict headVerdict lengthRule headRule classVerdict classesVerdict joined sectionsJoin rangesOf answered decode headOf headAt trailerAt rowsFrom rowAt tablesFrom tableAt sharesFrom blockEnd tablesEnd ownRule departureRule lastOfTrip follows tripRule rowVerdict rowsVerdict sum sharesRule planned planBefore earliest weigh firstOpen worthOr caught arrivalWorth changeWorth whenSafe offInTicks worthOf offInMinutes nextOf getOff stayOn least firstAt leads others choose bestOf scan scanned chosenFor inWindow wanted upTo windowsOf extract ridesFrom latestOf planWithin
-same-stop-prints = refl
-
--- a query of seven bytes: 6, behind the file's own refusals
-pub short-query-prints : sheetText wBytes (0 ∷ 0 ∷ 2 ∷ 0 ∷ 78 ∷ 2 ∷ 0 ∷ []) ≡ refusedText 6
-unfolding sheetText checkedText soundText askedText plannedText planText firstText ridesText rideText lineText callText numberText queryOf journeyRule codeRule timeText faceText decimal digitsOnto dayOf dayStart sinceMidnight hourOf minuteOfHour roundedUp wBytes u16At u32At checked checkedAs fileVerdict headVerdict lengthRule headRule classVerdict classesVerdict joined sectionsJoin rangesOf answered decode headOf headAt trailerAt rowsFrom rowAt tablesFrom tableAt sharesFrom blockEnd tablesEnd ownRule departureRule lastOfTrip follows tripRule rowVerdict rowsVerdict sum sharesRule planned planBefore earliest weigh firstOpen worthOr caught arrivalWorth changeWorth whenSafe offInTicks worthOf offInMinutes nextOf getOff stayOn least firstAt leads others choose bestOf scan scanned chosenFor inWindow wanted upTo windowsOf extract ridesFrom latestOf planWithin
-short-query-prints = refl
-
-pub no-files-print : sheetText [] [] ≡ refusedText 1
-unfolding sheetText checkedText checked checkedAs fileVerdict headVerdict lengthRule headRule answered decode headOf headAt trailerAt
-no-files-print = refl
-
--- T 601: 8
-pub too-late-prints : sheetText wBytes (0 ∷ 0 ∷ 2 ∷ 0 ∷ 89 ∷ 2 ∷ 0 ∷ 0 ∷ []) ≡ refusedText 8
-unfolding sheetText checkedText soundText askedText plannedText planText firstText ridesText rideText lineText callText numberText queryOf journeyRule codeRule timeText faceText decimal digitsOnto dayOf dayStart sinceMidnight hourOf minuteOfHour roundedUp wBytes u16At u32At checked checkedAs fileVerdict headVerdict lengthRule headRule classVerdict classesVerdict joined sectionsJoin rangesOf answered decode headOf headAt trailerAt rowsFrom rowAt tablesFrom tableAt sharesFrom blockEnd tablesEnd ownRule departureRule lastOfTrip follows tripRule rowVerdict rowsVerdict sum sharesRule planned planBefore earliest weigh firstOpen worthOr caught arrivalWorth changeWorth whenSafe offInTicks worthOf offInMinutes nextOf getOff stayOn least firstAt leads others choose bestOf scan scanned chosenFor inWindow wanted upTo windowsOf extract ridesFrom latestOf planWithin
-too-late-prints = refl
+cases-print = (refl, (refl, (refl, (refl, (refl, tt)))))
 
 -- `refused 4`
 pub refusal-prints : refusedText 4 ≡

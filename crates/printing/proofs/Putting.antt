@@ -20,7 +20,9 @@ pub put-more : {out : List ℕ} {at : ℕ} {a between : List ℕ} {next : ℕ} �
     → {b after : List ℕ} {last : ℕ} → Put between next b after last → Put out at (a ++ b) after last
 put-more {out} {at} {a} {between} {next} p {b} {after} {last} p' =
     record {
-      says = p' .says ∙ ap (λ k. sets between k b) (p .ends) ∙ ap (λ l. sets l (at + length a) b) (p .says) ∙ sym (sets-append a b out at);
+      says =
+          p' .says ∙ ap (λ k. sets between k b) (p .ends)
+          ∙ ap (λ l. sets l (at + length a) b) (p .says) ∙ sym (sets-append a b out at);
       ends = omega (arith, p .ends, p' .ends, length-append a b);
     }
 
@@ -49,23 +51,27 @@ pub left-on : {out : List ℕ} {at : ℕ} {whole between : List ℕ} {next : ℕ
     → {after : List ℕ} {last : ℕ} → Put between next a after last → Left out at whole after last b
 left-on {between = between} {next} a b l {after} {last} p =
     record {
-      says = ap (λ k. sets after k b) (p .ends) ∙ ap (λ x. sets x (next + length a) b) (p .says) ∙ sym (sets-append a b between next) ∙ l .says;
+      says =
+          ap (λ k. sets after k b) (p .ends) ∙ ap (λ x. sets x (next + length a) b) (p .says)
+          ∙ sym (sets-append a b between next) ∙ l .says;
       ends = omega (arith, p .ends, l .ends, length-append a b);
     }
 
 -- nothing is left
-pub left-none : {out : List ℕ} {at : ℕ} {whole between : List ℕ} {next : ℕ} → Left out at whole between next [] → Put out at whole between next
+pub left-none : {out : List ℕ} {at : ℕ} {whole between : List ℕ} {next : ℕ} → Left out at whole between next []
+    → Put out at whole between next
 left-none {next = next} l = record { says = l .says; ends = sym (add-zero next) ∙ l .ends }
 
 -- the loop over a text: the character at i is written
 pub text-on : {out : List ℕ} {at : ℕ} {whole between : List ℕ} {next : ℕ} (text : List ℕ) (i : ℕ) → i < length text
-    → Left out at whole between next (drop i text) → Left out at whole (set between next (getD text i 0)) (next + 1) (drop (i + 1) text)
+    → Left out at whole between next (drop i text)
+    → Left out at whole (set between next (getD text i 0)) (next + 1) (drop (i + 1) text)
 text-on {between = between} {next} text i inside l =
     rw (add-one i)
     (left-on (getD text i 0 ∷ []) (drop (suc i) text) (rw (drop-cons text i 0) at l) (put-one between next (getD text i 0)))
 
-pub text-end : {out : List ℕ} {at : ℕ} {whole between : List ℕ} {next : ℕ} (text : List ℕ) (i : ℕ) → length text ≤ i → i ≤ length text
-    → Left out at whole between next (drop i text) → Put out at whole between next
+pub text-end : {out : List ℕ} {at : ℕ} {whole between : List ℕ} {next : ℕ} (text : List ℕ) (i : ℕ)
+    → length text ≤ i → i ≤ length text → Left out at whole between next (drop i text) → Put out at whole between next
 text-end {out} {at} {whole} {between} {next} text i past inside l =
     let last : i ≡ length text = omega arith in
     left-none (rw (last, drop-length text) at l)

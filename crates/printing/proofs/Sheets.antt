@@ -24,7 +24,8 @@ use Rattle.printing.specs.Put.{Put}
 use Rattle.printing.specs.Sheet.{queryOf, refusedText, askedText, soundText, checkedText, sheetText}
 use Rattle.printing.specs.Outcome.{sheetRoom, SheetOutcome, written, sheetOutcome}
 
-pub sound-is-fine : (sailings : List ℕ) {stops rows classes : ℕ} → checked sailings ≡ Sound stops rows classes → fileVerdict versionOne sailings ≡ fine
+pub sound-is-fine : (sailings : List ℕ) {stops rows classes : ℕ} → checked sailings ≡ Sound stops rows classes
+    → fileVerdict versionOne sailings ≡ fine
 unfolding checked
 sound-is-fine sailings {stops} {rows} {classes} e = sound-checked versionOne sailings stops rows classes e .0
 
@@ -44,9 +45,12 @@ module _ (sailings query : List ℕ) where
     unfolding soundText
     short-sheet short = sym (sound-sheet ∙ cond-false _ _ (ne-eqb (length query) 8 short))
 
-    pub asked-sheet : length query ≡ 8 → (q : Query) → q ≡ queryOf query → askedText (decode versionOne sailings) q ≡ sheetText sailings query
+    pub asked-sheet : length query ≡ 8 → (q : Query) → q ≡ queryOf query
+        → askedText (decode versionOne sailings) q ≡ sheetText sailings query
     unfolding soundText
-    asked-sheet whole q is = ap (askedText (decode versionOne sailings)) is ∙ sym (sound-sheet ∙ cond-true _ _ (eq-eqb (length query) 8 whole))
+    asked-sheet whole q is =
+        ap (askedText (decode versionOne sailings)) is
+        ∙ sym (sound-sheet ∙ cond-true _ _ (eq-eqb (length query) 8 whole))
 
   -- what is answered, and the bytes afterwards
   abbrev pub Answers : (out : List ℕ) → Sheeted → List ℕ → Type 0
@@ -55,15 +59,15 @@ module _ (sailings query : List ℕ) where
   pub no-room : (out : List ℕ) → length out < sheetRoom → Answers out NoRoom out
   unfolding sheetOutcome
   no-room out short =
-      let e = cond-false (written (sheetText sailings query) out) (record { answer = NoRoom; out = out }) (lt-leb sheetRoom (length out) short) in
+      let e = cond-false (written (sheetText sailings query) out) _ (lt-leb sheetRoom (length out) short) in
       (sym (ap (λ o. o .answer) e), sym (ap (λ o. o .out) e))
 
-  pub sheet-written : (out : List ℕ) → sheetRoom ≤ length out → {text after : List ℕ} {next : ℕ} → Put out 0 text after next → next ≤ length out
-      → text ≡ sheetText sailings query → Answers out (Text next) after
+  pub sheet-written : (out : List ℕ) → sheetRoom ≤ length out → {text after : List ℕ} {next : ℕ} → Put out 0 text after next
+      → next ≤ length out → text ≡ sheetText sailings query → Answers out (Text next) after
   unfolding sheetOutcome written over
   sheet-written out room {text} {after} {next} p inside same =
       let fits : 0 + length text ≤ length out = omega (arith, p .ends) in
-      let e = cond-true (written (sheetText sailings query) out) (record { answer = NoRoom; out = out }) (le-leb sheetRoom (length out) room) in (
+      let e = cond-true (written (sheetText sailings query) out) _ (le-leb sheetRoom (length out) room) in (
         ap Text (p .ends ∙ zero-add (length text) ∙ ap length same) ∙ sym (ap (λ o. o .answer) e),
         p .says ∙ sets-eq text out 0 fits ∙ ap (λ k. text ++ drop k out) (zero-add (length text)) ∙ ap (λ t. t ++ drop (length t) out) same
             ∙ sym (ap (λ o. o .out) e),

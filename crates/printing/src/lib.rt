@@ -80,7 +80,9 @@ fn put_byte(out: &mut [u8], at: usize, byte: u8) -> usize
 // The text from `from` on, written from `at` on; where the next one goes.
 fn put_text(out: &mut [u8], at: usize, text: &[u8], from: usize) -> usize
     requires { ⌜ (from ≤ length (now text)) × (at + (length (now text) - from) ≤ length (now out)) ⌝ }
-    ensures { λ r. ⌜ Put (now (out .entry)) at (drop from (now (text .entry))) (now (out .exit)) r × (r ≡ at + (length (now (text .entry)) - from)) ⌝ }
+    ensures { λ r. ⌜ Put (now (out .entry)) at
+        (drop from (now (text .entry)))
+        (now (out .exit)) r × (r ≡ at + (length (now (text .entry)) - from)) ⌝ }
 {
     let mut next = at;
     let mut i = from;
@@ -136,7 +138,9 @@ fn put_call(out: &mut [u8], at: usize, stop: usize, minute: usize) -> usize
 // The line of a ride: boarding stop and time, landing stop and time, expected.
 fn put_line(out: &mut [u8], at: usize, board: Row, leave: Row, worth: u32) -> usize
     requires { ⌜ (at + lineWidth ≤ length (now out)) × (board .departure < 65536) × (leave .arrival < 65536) ⌝ }
-    ensures { λ r. ⌜ Put (now (out .entry)) at (lineText (board .board) (board .departure) (leave .land) (leave .arrival) worth) (now (out .exit)) r × (r ≤ at + lineWidth) ⌝ }
+    ensures { λ r. ⌜ Put (now (out .entry)) at
+        (lineText (board .board) (board .departure) (leave .land) (leave .arrival) worth)
+        (now (out .exit)) r × (r ≤ at + lineWidth) ⌝ }
 {
     let next = put_call(out, at, board.board, board.departure);
     let next = put_byte(out, next, b' ');
@@ -183,7 +187,9 @@ fn row_of(sailings: &[u8], i: usize) -> Row
 fn put_rides(sailings: &[u8], plan: &[u32], rides: usize, out: &mut [u8], at: usize) -> usize
     requires { ⌜ SoundFile versionOne (now sailings) × RidesIn (headOf versionOne (now sailings) .rows) (now plan) rides ⌝ }
     requires { ⌜ at + rides * lineWidth ≤ length (now out) ⌝ }
-    ensures { λ r. ⌜ Put (now (out .entry)) at (linesIn (decode versionOne (now (sailings .entry)) .rows) (now (plan .entry)) 0 rides) (now (out .exit)) r × (r ≤ length (now (out .entry))) ⌝ }
+    ensures { λ r. ⌜ Put (now (out .entry)) at
+        (linesIn (decode versionOne (now (sailings .entry)) .rows) (now (plan .entry)) 0 rides)
+        (now (out .exit)) r × (r ≤ length (now (out .entry))) ⌝ }
 {
     let mut next = at;
     let mut i = 0;
@@ -207,7 +213,9 @@ fn put_plan(
 ) -> usize
     requires { ⌜ SoundFile versionOne (now sailings) × RidesIn (headOf versionOne (now sailings) .rows) (now plan) rides ⌝ }
     requires { ⌜ firstWidth + rides * lineWidth ≤ length (now out) ⌝ }
-    ensures { λ r. ⌜ Put (now (out .entry)) 0 (firstText rides expected latest ++ linesIn (decode versionOne (now (sailings .entry)) .rows) (now (plan .entry)) 0 rides) (now (out .exit)) r × (r ≤ length (now (out .entry))) ⌝ }
+    ensures { λ r. ⌜ Put (now (out .entry)) 0
+        (firstText rides expected latest ++ linesIn (decode versionOne (now (sailings .entry)) .rows) (now (plan .entry)) 0 rides)
+        (now (out .exit)) r × (r ≤ length (now (out .entry))) ⌝ }
 {
     let next = put_first(out, rides, expected, latest);
     put_rides(sailings, plan, rides, out, next)
@@ -253,7 +261,9 @@ fn plan_cells() -> [u32; 6000] {
 // The sheet of a sound file and a query: a plan or a planning refusal.
 fn put_planned(sailings: &[u8], q: Query, out: &mut [u8]) -> usize
     requires { ⌜ (fileVerdict versionOne (now sailings) ≡ fine) × (sheetRoom ≤ length (now out)) ⌝ }
-    ensures { λ r. ⌜ Put (now (out .entry)) 0 (askedText (decode versionOne (now (sailings .entry))) q) (now (out .exit)) r × (r ≤ length (now (out .entry))) ⌝ }
+    ensures { λ r. ⌜ Put (now (out .entry)) 0
+        (askedText (decode versionOne (now (sailings .entry))) q)
+        (now (out .exit)) r × (r ≤ length (now (out .entry))) ⌝ }
 {
     let mut work = work_cells();
     let mut rides = plan_cells();

@@ -18,7 +18,8 @@ same-length c = search needs
 
 returns : tie.Need-returns
 returns c =
-    (put-as (ap timeText (c .before .before .before .of-ticks .ensures)) (c .before .before .put-time .ensures .0), c .before .before .put-time .ensures .1)
+    let time = c .before .before in
+    (put-as (ap timeText (time .before .of-ticks .ensures)) (time .put-time .ensures .0), time .put-time .ensures .1)
 
 pub put-expected-spec : {M : Type 1} → statement M
 put-expected-spec = tie.close (tie.spec of-ticks-requires put-time-requires same-length returns)

@@ -98,7 +98,9 @@ returns-2 c =
     (sym (told .planned2 .given .1) ∙ planning .plan .ensures .0) (planning .plan .ensures .2) in
     let numbers = told .planned2 .given .0 in
     let shown =
-    ap (λ n. firstText n (numbers .1 .0) (numbers .1 .1 .0) ++ linesIn (decode versionOne (start .args .sailings .now) .rows) (planning .plan .last .1 .1 .1 .0) 0 n)
+    ap
+    (λ n. firstText n (numbers .1 .0) (numbers .1 .1 .0)
+    ++ linesIn (decode versionOne (start .args .sailings .now) .rows) (planning .plan .last .1 .1 .1 .0) 0 n)
     (put .before .before .number2 .ensures .0)
     in
     (put-as (shown ∙ same) (put .put-plan .ensures .0), put .put-plan .ensures .1)

@@ -28,7 +28,13 @@ returns c =
     let refusal = end .before .before .before .before in
     let word = refusal .before .before .before .before in (
       put-more (word .put-text .ensures .0) (put-more (refusal .put-number .ensures .0) (end .put-byte .ensures .0)),
-      omega (arith, word .put-text .ensures .1, refusal .put-number .ensures .1, end .put-byte .ensures .1, c .before .before .before .before .before .before .before .before .before .before .before .before .before .before .pre),
+      omega (
+        arith,
+        word .put-text .ensures .1,
+        refusal .put-number .ensures .1,
+        end .put-byte .ensures .1,
+        word .before .before .before .before .pre,
+      ),
     )
 
 pub put-refused-spec : {M : Type 1} → statement M
