@@ -60,7 +60,7 @@ use Rattle.planner.proofs.Answered.{
 }
 
 -- a sound file's timetable
-timely-decoded : (file : List ℕ) (stops rows classes : ℕ) → checked file ≡ Sound stops rows classes → Timely (decode versionOne file)
+pub timely-decoded : (file : List ℕ) (stops rows classes : ℕ) → checked file ≡ Sound stops rows classes → Timely (decode versionOne file)
 unfolding decode
 timely-decoded file stops rows classes e =
     let found = found-sound file stops rows classes e in

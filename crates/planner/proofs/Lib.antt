@@ -7,4 +7,5 @@ pub mod Answered
 pub mod Laying
 pub mod Settled
 pub mod Demands
+pub mod Arrivals
 pub mod ShutOut

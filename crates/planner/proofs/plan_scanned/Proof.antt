@@ -51,7 +51,7 @@ top-of : (c : tie.After-number3) →
     let a = begun c in
     Top (a .args .file .now) (a .args .s) (a .args .tables .now) (a .args .q) (a .args .first) (a .pre .0) (a .args .goal .bound) (a .args .end)
     (a .pre .1 .ordered) (a .pre .1 .inside) (a .args .work .now) (a .args .goal .target)
-top-of c = told begun c .1 (some-here c)
+top-of c = told (begun c) .1 (some-here c)
 
 -- the cell of the top
 same-top : (c : tie.After-number3) →
