@@ -1,0 +1,10 @@
+-- What writing the sheet's texts one behind the other comes to.
+pub mod Putting
+pub mod Digits
+pub mod Times
+pub mod Lines
+pub mod PlanLines
+pub mod Asked
+pub mod Sheets
+pub mod Pinned
+pub mod Settled
