@@ -58,7 +58,7 @@ impl Minute {
     }
 
     // The day, from 1.
-    pub fn day(self) -> u32
+    fn day(self) -> u32
         ensures { λ r. ⌜ r ≡ dayOf (self .minute) ⌝ }
     {
         let day = self.held_by();
@@ -66,14 +66,14 @@ impl Minute {
     }
 
     // The hour of the day.
-    pub fn hour(self) -> u32
+    fn hour(self) -> u32
         ensures { λ r. ⌜ r ≡ hourOf (self .minute) ⌝ }
     {
         self.since_midnight() / 60
     }
 
     // The minute of the hour.
-    pub fn minute_of_hour(self) -> u32
+    fn minute_of_hour(self) -> u32
         ensures { λ r. ⌜ r ≡ minuteOfHour (self .minute) ⌝ }
     {
         self.since_midnight() % 60
