@@ -1,0 +1,44 @@
+// For the office: words, numbers and times on the standard output.
+ghost use Prim.Native.Nat.{_<_};
+use clock::Minute;
+use libc::STDOUT_FILENO;
+
+pub fn say(words: &[u8]) {
+    io::write_all(STDOUT_FILENO, words);
+}
+
+// Words, then a number.
+pub fn say_number(words: &[u8], number: usize) {
+    say(words);
+    io::print_decimal(STDOUT_FILENO, number as u64);
+}
+
+// Words, then a time.
+pub fn say_time(words: &[u8], minute: usize)
+    requires { ⌜ minute < 4294967296 ⌝ }
+{
+    say(words);
+    let time = Minute {
+        minute: minute as u32,
+    };
+    say_clock(time);
+}
+
+// Words, then an expected arrival, rounded up to a minute.
+pub fn say_expected(words: &[u8], ticks: u32) {
+    say(words);
+    say_clock(Minute::of_ticks(ticks));
+}
+
+fn say_clock(time: Minute) {
+    let text = time.time_text();
+    let bytes = text.bytes;
+    say_from(&bytes, text.start);
+}
+
+// The bytes from `start` on.
+fn say_from(bytes: &[u8], start: usize) {
+    if start < bytes.len() {
+        say(&bytes[start..]);
+    }
+}
