@@ -61,6 +61,9 @@ extern "C" {
 /* Room that no file exceeds: 12 bytes a row, at most 2,000 rows. */
 #define SAYURIMPAK_MOST_BYTES 24000u
 
+/* Stack that a call needs, with room to spare: tests/hard measures some 82,500 bytes. */
+#define SAYURIMPAK_STACK_BYTES 131072u
+
 /* Bytes of a ride in `out`, and where its three numbers start. */
 #define SAYURIMPAK_RIDE_BYTES 12u
 #define SAYURIMPAK_BOARDING_ROW 0u
@@ -125,9 +128,6 @@ extern "C" {
 uint32_t sayurimpak_plan(const uint8_t *file, size_t file_len, uint32_t source,
                          uint32_t target, uint32_t minute, uint32_t bound_code,
                          uint8_t *out, size_t out_len);
-
-/* Stack that a call needs, with room to spare: tests/hard measures it. */
-#define SAYURIMPAK_STACK_BYTES 131072u
 
 /*
  * This call will stay as it is. A request that adds a number to the query adds

@@ -52,7 +52,8 @@ put-on numbers out out' i l h e =
     ap (λ o. sets o (4 * i) (u32Bytes x)) e
     ∙ ap (λ k. sets (put front out) k (u32Bytes x)) (sym long)
     ∙ put-behind front (u32Bytes x) out (omega (arith, length-u32 x, long))
-    ∙ ap (λ b. put b out) (sym (bytes-append (take i numbers) x) ∙ ap bytesOf (sym (take-suc numbers i 0 l)) ∙ ap (λ k. bytesOf (take k numbers)) next)
+    ∙ ap (λ b. put b out)
+    (sym (bytes-append (take i numbers) x) ∙ ap bytesOf (sym (take-suc numbers i 0 l)) ∙ ap (λ k. bytesOf (take k numbers)) next)
 
 pub length-put : (numbers out : List ℕ) (i : ℕ) → i ≤ length numbers → 4 * i ≤ length out
     → length (put (bytesOf (take i numbers)) out) ≡ length out

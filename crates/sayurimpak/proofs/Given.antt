@@ -55,7 +55,8 @@ module _ (plan rest out : List ℕ) where
       ∙ ap (λ b. record { answer = length (p .rides); bytes = put b out }) (bytes-written (p .rides))
 
   -- 6, 7, then the answer, where the work slice is wide enough and the two rooms agree
-  tests-given : (rule wide long enough : Bool) (o : PlanOutcome) (d : DeskOutcome) (work : List ℕ) → wide ≡ true → long ≡ enough → givenOn o rest out ≡ d
+  tests-given : (rule wide long enough : Bool) (o : PlanOutcome) (d : DeskOutcome) (work : List ℕ)
+      → wide ≡ true → long ≡ enough → givenOn o rest out ≡ d
       → givenOn (cond rule (cond (wide && long) o (refusedPlan 7 0 work plan)) (refusedPlan 6 0 work plan)) rest out
       ≡ cond rule (cond enough d (refused 7 out)) (refused 6 out)
   unfolding given

@@ -22,7 +22,19 @@ use Rattle.layout.proofs.Refusals.{refused-placed}
 use Rattle.plans.specs.declared.Query.{Query}
 use Rattle.plans.specs.Plan.{Plan, planned}
 use Rattle.extract.specs.Extracted.{written, over}
-use Rattle.planner.specs.Outcome.{PlanOutcome, workRoom, planRoom, refusedPlan, planAnswered, planSound, planChecked, planOutcome, journeyRule, codeRule, cleared}
+use Rattle.planner.specs.Outcome.{
+  PlanOutcome,
+  workRoom,
+  planRoom,
+  refusedPlan,
+  planAnswered,
+  planSound,
+  planChecked,
+  planOutcome,
+  journeyRule,
+  codeRule,
+  cleared,
+}
 use Rattle.sayurimpak.specs.Desk.{roomFor, deskOutcome}
 use Rattle.sayurimpak.specs.Given.{Fitting}
 use Rattle.sayurimpak.proofs.Given.{length-written, givenOn, checked-given}
@@ -34,7 +46,8 @@ rooms-agree n bytes few =
     (λ yes. let enough : 12 * n ≤ bytes = leb-true (12 * n) bytes yes in le-leb (3 * n) (min 6000 (bytes / 4)) (omega arith))
     (λ no. let short : bytes < 12 * n = leb-false (12 * n) bytes no in lt-leb (3 * n) (min 6000 (bytes / 4)) (omega arith))
 
-few-rows : (file : List ℕ) (stops rows classes : ℕ) → checkedAs versionOne file ≡ Sound stops rows classes → length (decode versionOne file .rows) ≤ 2000
+few-rows : (file : List ℕ) (stops rows classes : ℕ) → checkedAs versionOne file ≡ Sound stops rows classes
+    → length (decode versionOne file .rows) ≤ 2000
 unfolding checked
 few-rows file stops rows classes e = let s = checked-gives file stops rows classes e in omega (arith, s .rows-count, s .rows-few)
 

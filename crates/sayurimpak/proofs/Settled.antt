@@ -1,4 +1,4 @@
--- Document 01, "What every contract settles": any two outcomes that the desk's call permits have one answer and leave the same bytes. Assumes nothing.
+-- Document 01, "What every contract settles": any two permitted outcomes of the desk's call are one answer and the same bytes. Assumes nothing.
 use mathlib.Core.Path.{_≡_, sym, _∙_}
 use contract.Lifetimes.{Lfts}
 use denote.Ref.{now}

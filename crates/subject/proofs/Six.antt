@@ -27,7 +27,8 @@ six-stores buffer a b c d e f long =
     ∙ sym (cond-true ((a ∷ b ∷ c ∷ d ∷ e ∷ f ∷ []) ++ drop 6 buffer) buffer (le-leb 6 (length buffer) long))
 
 -- a sound file's S, n and K
-pub seen-sound : {c : Checked} {stops rows classes : ℕ} (buffer : List ℕ) (s n k : ℕ) → c ≡ Sound stops rows classes → s ≡ stops → n ≡ rows → k ≡ classes
+pub seen-sound : {c : Checked} {stops rows classes : ℕ} (buffer : List ℕ) (s n k : ℕ)
+    → c ≡ Sound stops rows classes → s ≡ stops → n ≡ rows → k ≡ classes
     → inSix (0 ∷ 0 ∷ s ∷ n ∷ k ∷ 0 ∷ []) buffer ≡ seen (answerOf c) buffer
 unfolding seen six answerOf
 seen-sound {c} {stops} {rows} {classes} buffer s n k e p q r =

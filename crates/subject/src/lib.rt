@@ -46,7 +46,9 @@ pub extern "C" fn subject_plan(
     rides: &mut [u32],
     answer: &mut [u32],
 )
-    ensures { λ r. ⌜ (now (answer .exit) ≡ seen (planAnswer (planOutcome (now (file .entry)) (asked source target minute code) (now (work .entry)) (now (rides .entry)) .answer)) (now (answer .entry)))
+    ensures { λ r. ⌜ (now (answer .exit) ≡ seen
+        (planAnswer (planOutcome (now (file .entry)) (asked source target minute code) (now (work .entry)) (now (rides .entry)) .answer))
+        (now (answer .entry)))
         × (now (work .exit) ≡ planOutcome (now (file .entry)) (asked source target minute code) (now (work .entry)) (now (rides .entry)) .work)
         × (now (rides .exit) ≡ planOutcome (now (file .entry)) (asked source target minute code) (now (work .entry)) (now (rides .entry)) .plan) ⌝ }
 {
@@ -70,7 +72,9 @@ pub extern "C" fn subject_earliest(
     work: &mut [u32],
     answer: &mut [u32],
 )
-    ensures { λ r. ⌜ (now (answer .exit) ≡ seen (earliestAnswer (earliestOutcome (now (file .entry)) source target minute (now (work .entry)) .answer)) (now (answer .entry)))
+    ensures { λ r. ⌜ (now (answer .exit) ≡ seen
+        (earliestAnswer (earliestOutcome (now (file .entry)) source target minute (now (work .entry)) .answer))
+        (now (answer .entry)))
         × (now (work .exit) ≡ earliestOutcome (now (file .entry)) source target minute (now (work .entry)) .work) ⌝ }
 {
     let found = earliest_safe_arrival(file, source, target, minute, work);

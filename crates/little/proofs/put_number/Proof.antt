@@ -48,7 +48,9 @@ returns : tie.Need-returns
 unfolding u16Bytes u32Bytes
 returns c =
     let a = c .args in
-    four-stores (a .out .now) (a .at) (a .number % 65536 % 256) (a .number % 65536 / 256 % 256) (a .number / 65536 % 256) (a .number / 65536 / 256 % 256)
+    let low = a .number % 65536 in
+    let high = a .number / 65536 in
+    four-stores (a .out .now) (a .at) (low % 256) (low / 256 % 256) (high % 256) (high / 256 % 256)
 
 pub put-number-spec : {M : Type 1} → statement M
 put-number-spec =

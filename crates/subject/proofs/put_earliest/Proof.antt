@@ -24,8 +24,9 @@ same-length c = search needs
 returns : tie.Need-returns
 unfolding seen six earliestAnswer
 returns c =
-    c .before .before .put-six .ensures
-    ∙ sym (ap (λ a. seen (earliestAnswer a) (c .before .before .before .before .before .before .before .before .args .answer .now)) (c .before .before .before .before .before .found .given .1))
+    let arm = c .before .before .before .before .before in
+    let answer = arm .before .before .before .args .answer .now in
+    c .before .before .put-six .ensures ∙ sym (ap (λ a. seen (earliestAnswer a) answer) (arm .found .given .1))
 
 same-length-2 : tie.Need-same-length-2
 same-length-2 c = search needs
@@ -33,8 +34,9 @@ same-length-2 c = search needs
 returns-2 : tie.Need-returns-2
 unfolding seen six earliestAnswer
 returns-2 c =
-    c .before .before .put-six2 .ensures
-    ∙ sym (ap (λ a. seen (earliestAnswer a) (c .before .before .before .before .before .before .before .before .args .answer .now)) (c .before .before .before .before .before .found2 .given .1))
+    let arm = c .before .before .before .before .before in
+    let answer = arm .before .before .before .args .answer .now in
+    c .before .before .put-six2 .ensures ∙ sym (ap (λ a. seen (earliestAnswer a) answer) (arm .found2 .given .1))
 
 pub put-earliest-spec : {M : Type 1} → statement M
 put-earliest-spec =

@@ -24,8 +24,9 @@ same-length c = search needs
 returns : tie.Need-returns
 unfolding seen six planAnswer
 returns c =
-    c .before .before .put-six .ensures
-    ∙ sym (ap (λ a. seen (planAnswer a) (c .before .before .before .before .before .before .before .before .args .answer .now)) (c .before .before .before .before .before .planned .given .1))
+    let arm = c .before .before .before .before .before in
+    let answer = arm .before .before .before .args .answer .now in
+    c .before .before .put-six .ensures ∙ sym (ap (λ a. seen (planAnswer a) answer) (arm .planned .given .1))
 
 same-length-2 : tie.Need-same-length-2
 same-length-2 c = search needs
@@ -33,8 +34,9 @@ same-length-2 c = search needs
 returns-2 : tie.Need-returns-2
 unfolding seen six planAnswer
 returns-2 c =
-    c .before .before .put-six2 .ensures
-    ∙ sym (ap (λ a. seen (planAnswer a) (c .before .before .before .before .before .before .before .before .args .answer .now)) (c .before .before .before .before .before .planned2 .given .1))
+    let arm = c .before .before .before .before .before in
+    let answer = arm .before .before .before .args .answer .now in
+    c .before .before .put-six2 .ensures ∙ sym (ap (λ a. seen (planAnswer a) answer) (arm .planned2 .given .1))
 
 pub put-planned-spec : {M : Type 1} → statement M
 put-planned-spec =

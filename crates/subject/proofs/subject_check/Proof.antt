@@ -33,8 +33,8 @@ faults : (c : tie.After-known-told2) → (c .before .checked2 .given .0 .0 < 429
 faults c =
     let file = c .before .before .before .before .before .before .args .file .now in
     let answer = c .before .checked2 .given .0 in
-    refusal-fits versionOne file (λ i. omega (arith, c .before .before .before .before .before .shared-slice-known .given i)) (answer .0) (answer .1 .0)
-    (refused-as file (answer .0) (answer .1 .0) (refused c))
+    refusal-fits versionOne file (λ i. omega (arith, c .before .before .before .before .before .shared-slice-known .given i)) (answer .0)
+    (answer .1 .0) (refused-as file (answer .0) (answer .1 .0) (refused c))
 
 check-requires : tie.Need-check-requires
 check-requires c κs = search needs
@@ -72,9 +72,11 @@ same-length c = search needs
 returns : tie.Need-returns
 returns c =
     let at = c .before .before .before .before in
+    let arm = at .before .before .before in
+    let answer = arm .before .before .before .before .before .before .args .answer .now in
     c .before .before .put-six .ensures
-    ∙ seen-sound (c .before .before .before .before .before .before .before .before .before .before .before .before .before .args .answer .now) (at .before .before .cell .result) (at .before .cell2 .result) (at .cell3 .result)
-    (sound (at .before .before .before)) (at .before .before .cell .ensures) (at .before .cell2 .ensures) (at .cell3 .ensures)
+    ∙ seen-sound answer (at .before .before .cell .result) (at .before .cell2 .result)
+    (at .cell3 .result) (sound arm) (at .before .before .cell .ensures) (at .before .cell2 .ensures) (at .cell3 .ensures)
 
 same-length-2 : tie.Need-same-length-2
 same-length-2 c = search needs
@@ -82,9 +84,11 @@ same-length-2 c = search needs
 returns-2 : tie.Need-returns-2
 returns-2 c =
     let at = c .before .before .before .before in
+    let arm = at .before .before in
+    let answer = arm .before .before .before .before .before .before .args .answer .now in
     c .before .before .put-six2 .ensures
-    ∙ seen-refused (c .before .before .before .before .before .before .before .before .before .before .before .before .args .answer .now) (at .before .cell4 .result) (at .cell5 .result)
-    (refused (at .before .before)) (at .before .cell4 .ensures) (at .cell5 .ensures)
+    ∙ seen-refused answer (at .before .cell4 .result) (at .cell5 .result)
+    (refused arm) (at .before .cell4 .ensures) (at .cell5 .ensures)
 
 pub subject-check-spec : {M : Type 1} → statement M
 subject-check-spec =

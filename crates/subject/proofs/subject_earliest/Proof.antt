@@ -20,8 +20,10 @@ same-length-2 c = search needs
 
 returns : tie.Need-returns
 returns c =
-    let found = c .before .before .before .before .before .before .earliest-safe-arrival in (
-      c .before .before .put-earliest .ensures ∙ ap (λ e. seen (earliestAnswer e) (c .before .before .before .before .before .before .before .before .before .before .before .args .answer .now)) (found .ensures .0),
+    let at = c .before .before .before .before .before .before in
+    let found = at .earliest-safe-arrival in
+    let answer = at .before .before .before .before .before .args .answer .now in (
+      c .before .before .put-earliest .ensures ∙ ap (λ e. seen (earliestAnswer e) answer) (found .ensures .0),
       found .ensures .1,
     )
 

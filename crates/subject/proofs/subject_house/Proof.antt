@@ -27,8 +27,10 @@ same-length c = search needs
 returns : tie.Need-returns
 unfolding seen six houseAnswer
 returns c =
+    let arm = c .before .before .before .before .before in
+    let asked = arm .before .before in
     c .before .before .put-six .ensures
-    ∙ sym (ap (λ a. seen (houseAnswer a) (c .before .before .before .before .before .before .before .before .before .args .answer .now)) (sym (c .before .before .before .before .before .before .before .house-share .ensures) ∙ c .before .before .before .before .before .share .given .1))
+    ∙ sym (ap (λ a. seen (houseAnswer a) (asked .before .before .args .answer .now)) (sym (asked .house-share .ensures) ∙ arm .share .given .1))
 
 same-length-2 : tie.Need-same-length-2
 same-length-2 c = search needs
@@ -36,8 +38,10 @@ same-length-2 c = search needs
 returns-2 : tie.Need-returns-2
 unfolding seen six houseAnswer
 returns-2 c =
+    let arm = c .before .before .before .before .before in
+    let asked = arm .before .before in
     c .before .before .put-six2 .ensures
-    ∙ sym (ap (λ a. seen (houseAnswer a) (c .before .before .before .before .before .before .before .before .before .args .answer .now)) (sym (c .before .before .before .before .before .before .before .house-share .ensures) ∙ c .before .before .before .before .before .share2 .given .1))
+    ∙ sym (ap (λ a. seen (houseAnswer a) (asked .before .before .args .answer .now)) (sym (asked .house-share .ensures) ∙ arm .share2 .given .1))
 
 pub subject-house-spec : {M : Type 1} → statement M
 subject-house-spec =

@@ -23,8 +23,10 @@ same-length-3 c = search needs
 
 returns : tie.Need-returns
 returns c =
-    let planned = c .before .before .before .before .before .before .before .before .plan in (
-      c .before .before .put-planned .ensures ∙ ap (λ p. seen (planAnswer p) (c .before .before .before .before .before .before .before .before .before .before .before .before .before .before .before .args .answer .now)) (planned .ensures .0),
+    let at = c .before .before .before .before .before .before .before .before in
+    let planned = at .plan in
+    let answer = at .before .before .before .before .before .before .before .args .answer .now in (
+      c .before .before .put-planned .ensures ∙ ap (λ p. seen (planAnswer p) answer) (planned .ensures .0),
       planned .ensures .1,
       planned .ensures .2,
     )
