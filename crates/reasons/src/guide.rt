@@ -1,8 +1,8 @@
 // A plan in words that a clerk can follow.
 ghost use Rattle.layout.specs.Small.{SmallRow};
-use cells::number;
 use crate::numbers::head_in;
 use crate::numbers::row_in;
+use cells::number;
 use timetable::Row;
 use wording::say;
 use wording::say_number;
