@@ -17,3 +17,4 @@ pub mod CaseW
 pub mod SoundFine
 pub mod Refusals
 pub mod Settled
+pub mod ByNumber

@@ -2,7 +2,7 @@
 use Prim.Native.Nat.{ℕ, _≤_, _<_}
 use native.Mathlib.Omega.{arith}
 use mathlib.Core.Bool.{true, false}
-use mathlib.Core.List.{List, []}
+use mathlib.Core.List.{List, [], _∷_}
 use mathlib.Core.Logic.{_↔_}
 use mathlib.Core.Option.{Option, none, some}
 use mathlib.Core.Path.{_≡_, refl, sym, ap, _∙_}
@@ -29,6 +29,7 @@ use Rattle.planner.specs.Outcome.{
   unbounded,
   earliestSound,
   earliestOutcome,
+  earliestAnswer,
 }
 use Rattle.planner.proofs.Rules.{journey-gives}
 use Rattle.planner.proofs.Answered.{
@@ -141,3 +142,14 @@ module _ (file : List ℕ) (source target minute : ℕ) (work : List ℕ) where
               (eight-is (earliest t q) (sym (ap (λ (x : EarliestOutcome). x .answer) answered-outcome) ∙ h)),
           λ gone. eight-answered (some-journey (earliest t q) refl gone),
         )
+
+        -- by document 01's number, place and values
+        pub arrival-answered : (e : ℕ) → earliest t q ≡ some e → earliestAnswer (outcome .answer) ≡ record { number = 0; place = 0; values = e ∷ [] }
+        unfolding earliestAnswer earliestAnswered
+        arrival-answered e h =
+            ap (λ (x : EarliestOutcome). earliestAnswer (x .answer)) answered-outcome
+            ∙ ap (λ (o : Option ℕ). earliestAnswer (earliestAnswered o (cleared (workRoom rows) work) .answer)) h
+
+        pub eight-by-number : ((end : ℕ) → Journey t q end → ⊥) → earliestAnswer (outcome .answer) ≡ record { number = 8; place = 0; values = [] }
+        unfolding earliestAnswer
+        eight-by-number gone = ap earliestAnswer (no-safe-journey .1 gone)

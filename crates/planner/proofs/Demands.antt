@@ -16,7 +16,7 @@ use Rattle.timetable.proofs.Places.{number-small}
 use Rattle.layout.specs.declared.Checked.the-variants.{Sound, Refused}
 use Rattle.layout.specs.Format.{versionOne}
 use Rattle.layout.specs.Decode.{decode}
-use Rattle.layout.specs.Check.{checked}
+use Rattle.layout.specs.Check.{Answer, checked}
 use Rattle.layout.proofs.Refusals.{refused-placed}
 use Rattle.plans.specs.declared.Query.{Query}
 use Rattle.plans.specs.Sound.{Timely}
@@ -25,6 +25,7 @@ use Rattle.plans.specs.Journeys.{Journey, IsEarliest, boundOf}
 use Rattle.plans.specs.Worth.{Valued}
 use Rattle.plans.specs.SafePlan.{SafePlan, Rising, expectedOf}
 use Rattle.plans.specs.Words.{InPlan}
+use Rattle.plans.specs.Walk.{Sailed, start, choices, Boards}
 use Rattle.plans.specs.Passenger.{Carries}
 use Rattle.plans.specs.Plan.{Plan, planned, chosenFor}
 use Rattle.plans.proofs.PlanExists.{CodeStands}
@@ -45,6 +46,7 @@ use Rattle.planner.specs.Outcome.{
   planAnswered,
   planSound,
   planOutcome,
+  planAnswer,
 }
 use Rattle.planner.proofs.Rules.{journey-gives, code-gives}
 use Rattle.planner.proofs.Answered.{
@@ -76,6 +78,16 @@ written-length (v ∷ rides) = omega (arith, written-length rides)
 -- a refusal is no plan
 pub refused-not-plan : {number place rides expected last bound : ℕ} → NoPlan number place ≡ AsPlan rides expected last bound → ⊥
 refused-not-plan e = let z : _≡_ {A = ℕ} 0 1 = cc in let y : ⊥ = omega arith in y
+
+-- a refusal carries its number and place and nothing else
+abbrev pub refusal : (number place : ℕ) → Answer
+refusal number place = record { number = number; place = place; values = [] }
+
+-- by document 01's number and place, for each refusal below
+pub refused-answered :
+    (o : PlanOutcome) (number place : ℕ) (work plan : List ℕ) → o ≡ refusedPlan number place work plan → planAnswer (o .answer) ≡ refusal number place
+unfolding planAnswer
+refused-answered o number place work plan e = ap (λ (x : PlanOutcome). planAnswer (x .answer)) e
 
 module _ (file : List ℕ) (q : Query) (work plan : List ℕ) where
   abbrev outcome : PlanOutcome
@@ -181,10 +193,46 @@ module _ (file : List ℕ) (q : Query) (work plan : List ℕ) where
             let none-here = eight-planned (planned t q) (sym (ap (λ (x : PlanOutcome). x .answer) answered-outcome) ∙ e) in
             (ap (λ (x : PlanOutcome). x .plan) (none-answered none-here), ap (λ (x : PlanOutcome). x .work) (none-answered none-here))
 
+        some-planned :
+            (o : Option Plan) (rides expected last bound : ℕ)
+            → planAnswered o (cleared (workRoom rows) work) plan .answer ≡ AsPlan rides expected last bound → (p : Plan) × (o ≡ some p)
+        unfolding planAnswered
+        some-planned none rides expected last bound e = absurd (refused-not-plan e)
+        some-planned (some p) rides expected last bound e = (p, refl)
+
+        -- a plan that is answered is the plan that the definitions give
+        pub plan-otherwise : (rides expected last bound : ℕ) → outcome .answer ≡ AsPlan rides expected last bound → (p : Plan) × (planned t q ≡ some p)
+        plan-otherwise rides expected last bound e =
+            some-planned (planned t q) rides expected last bound (sym (ap (λ (x : PlanOutcome). x .answer) answered-outcome) ∙ e)
+
+        eight-number : (o : Option Plan) → planAnswer (planAnswered o (cleared (workRoom rows) work) plan .answer) .number ≡ 8 → o ≡ none
+        unfolding planAnswered planAnswer
+        eight-number none e = refl
+        eight-number (some p) e = absurd (let z : ⊥ = omega arith in z)
+
+        -- number 8 by document 01, exactly if there is no safe journey
+        pub eight-exactly : (planAnswer (outcome .answer) ≡ refusal 8 0) ↔ ((end : ℕ) → Journey t q end → ⊥)
+        unfolding planAnswer
+        eight-exactly =
+            let exists = demand2.no-safe-journey t is-timely q stands apart in (
+              λ e.
+                  exists .0
+                  (eight-number (planned t q)
+                  (ap (λ (x : PlanOutcome). planAnswer (x .answer) .number) (sym answered-outcome) ∙ ap (λ (a : Answer). a .number) e)),
+              λ gone. ap planAnswer (no-safe-journey .1 gone),
+            )
+
         -- otherwise the answer's numbers are the plan's
         module _ (p : Plan) (is-plan : planned t q ≡ some p) where
           pub plan-numbers : outcome .answer ≡ AsPlan (length (p .rides)) (p .expected) (p .last) (p .bound)
           plan-numbers = ap (λ (x : PlanOutcome). x .answer) (some-answered p is-plan)
+
+          -- by document 01's number, place and values: ride count, expected ticks, latest minute and bound
+          pub plan-answered :
+              planAnswer (outcome .answer)
+              ≡ record { number = 0; place = 0; values = length (p .rides) ∷ p .expected ∷ p .last ∷ p .bound ∷ [] }
+          unfolding planAnswer
+          plan-answered = ap planAnswer plan-numbers
 
           -- the first 3 × rides numbers of the plan slice are its rides, and the rest is as it was
           pub plan-written : take (3 * length (p .rides)) (outcome .plan) ≡ written (p .rides)
@@ -230,3 +278,9 @@ module _ (file : List ℕ) (q : Query) (work plan : List ℕ) where
           -- demand 3: it carries every passenger by its latest minute, with its expected ticks
           pub carries : Carries q (ridesOf (p .rides)) (p .last) (p .expected)
           carries = demand3.plan-carries is-timely q p is-plan
+
+          -- and every ride is boarded under some such delays
+          pub every-ride-boarded :
+              (v : Valued) → List·Memᴰ v (p .rides)
+              → (sailed : List Sailed) × List·Memᴰ sailed (choices (ridesOf (p .rides))) × Boards (q .target) sailed (start q) (v .ride)
+          every-ride-boarded = demand3.every-ride-boarded is-timely q p is-plan

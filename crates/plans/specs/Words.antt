@@ -5,17 +5,12 @@ use mathlib.Core.Logic.{_≢_}
 use mathlib.Core.Option.{Option, none, some}
 use mathlib.Core.Path.{_≡_}
 use lib.Dec.{T}
-use lib.ListN.{getD, length}
+use lib.ListN.{getD}
 use Rattle.timetable.specs.Timetable.{Timetable, rowOf}
 use Rattle.plans.specs.declared.Query.{Query}
 use Rattle.plans.specs.Rides.{Ride, latest, boards}
 use Rattle.plans.specs.Worth.{Valued, firstOpen}
-use Rattle.plans.specs.Chosen.{Weighed, scanned, offInTicks, worthOf}
-use Rattle.plans.specs.Plan.{chosenFor}
-
--- what a row past the last would have
-abbrev unweighed : Weighed
-unweighed = record { trip = 0; best = none }
+use Rattle.plans.specs.Chosen.{scanned, offInTicks, worthOf}
 
 -- the best ride of row i, none if the row has no worth
 unfoldable pub bestRide : Timetable → (target bound i : ℕ) → Option Valued

@@ -1,5 +1,7 @@
 // Reading a file that may be broken anywhere: what is not there reads as 0.
-ghost use Prim.Native.Nat.{_<_};
+ghost use mathlib.Core.Path.{_≡_};
+ghost use Prim.Native.Nat.{_-_, _<_};
+ghost use lib.ListN.{length};
 ghost use Rattle.layout.specs.Small.{SmallHead, SmallRow};
 use layout::Head;
 use layout::VERSION_ONE;
@@ -19,7 +21,9 @@ pub fn number_at(file: &[u8], at: usize) -> usize
 }
 
 // Where the trailer starts.
-pub fn trailer_start(file: &[u8]) -> usize {
+pub fn trailer_start(file: &[u8]) -> usize
+    ensures { λ r. ⌜ r ≡ length (now (file .entry)) - 16 ⌝ }
+{
     if file.len() < VERSION_ONE.trailer {
         return 0;
     }

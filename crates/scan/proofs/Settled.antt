@@ -1,6 +1,6 @@
 -- Document 01, "What every contract settles": the scan settles each row's worth and leaving row, each stop's stack, the slice's length and the
--- cells that planning does not use. Trips' cells, a leaving row where there is no worth, and the room above each stack are scratch: they may
--- hold anything. Assumes nothing.
+-- cells that planning does not use. Scratch, which may hold anything: trips' cells, where each stack starts and the room above it, the pairs of
+-- rows outside first .. end and of row n, and a leaving row where there is no worth. Assumes nothing.
 use Prim.Native.Nat.{ℕ, _+_, _≤_, _<_}
 use mathlib.Core.List.{List}
 use mathlib.Core.Option.{Option, none, some}

@@ -1,5 +1,5 @@
 -- Document 01, "What every contract settles": the cells of each class that planning reads are settled. A block has 256 cells, and those behind
--- its last running sum are never read: they may hold anything. Assumes nothing.
+-- its last running sum, and the blocks of classes that the file does not have, are never read: they may hold anything. Assumes nothing.
 use Prim.Native.Nat.{ℕ, zero, suc, _+_, _<_}
 use mathlib.Core.List.{List}
 use mathlib.Core.Path.{_≡_, sym, ap, _∙_}
