@@ -1,9 +1,9 @@
-// The verified planner: the exported functions of the crate `subject`, which give whole answers.
+// The verified planner: the exported functions of the crate `trial`, which give whole answers.
 use crate::sailing::{Answer, Query};
 
 extern "C" {
-    fn subject_check(file: *const u8, file_len: usize, answer: *mut u32, answer_len: usize);
-    fn subject_plan(
+    fn trial_check(file: *const u8, file_len: usize, answer: *mut u32, answer_len: usize);
+    fn trial_plan(
         file: *const u8,
         file_len: usize,
         source: u32,
@@ -17,7 +17,7 @@ extern "C" {
         answer: *mut u32,
         answer_len: usize,
     );
-    fn subject_earliest(
+    fn trial_earliest(
         file: *const u8,
         file_len: usize,
         source: u32,
@@ -33,7 +33,7 @@ extern "C" {
 // The refusal's number, 0 for a sound file.
 pub fn check(file: &[u8]) -> usize {
     let mut answer = [0u32; 6];
-    unsafe { subject_check(file.as_ptr(), file.len(), answer.as_mut_ptr(), 6) };
+    unsafe { trial_check(file.as_ptr(), file.len(), answer.as_mut_ptr(), 6) };
     answer[0] as usize
 }
 
@@ -41,7 +41,7 @@ pub fn check(file: &[u8]) -> usize {
 pub fn plan(file: &[u8], q: Query, work: &mut [u32], rides: &mut [u32]) -> [u32; 6] {
     let mut answer = [0u32; 6];
     unsafe {
-        subject_plan(
+        trial_plan(
             file.as_ptr(),
             file.len(),
             q.source,
@@ -63,7 +63,7 @@ pub fn plan(file: &[u8], q: Query, work: &mut [u32], rides: &mut [u32]) -> [u32;
 pub fn earliest(file: &[u8], q: Query, work: &mut [u32]) -> [u32; 3] {
     let mut answer = [0u32; 6];
     unsafe {
-        subject_earliest(
+        trial_earliest(
             file.as_ptr(),
             file.len(),
             q.source,

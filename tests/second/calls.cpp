@@ -1,6 +1,6 @@
 #include "calls.hpp"
 
-#include "subject.h"
+#include "trial.h"
 
 namespace second {
 
@@ -99,13 +99,13 @@ Seen by_subject(const Bytes &file, const Call &call) {
   const uint8_t nothing = 0;
   const uint8_t *bytes = file.empty() ? &nothing : file.data();
   if (call.entry == Entry::check)
-    subject_check(bytes, file.size(), answer.start(), 6);
+    trial_check(bytes, file.size(), answer.start(), 6);
   else if (call.entry == Entry::plan)
-    subject_plan(bytes, file.size(), query.source, query.target, query.minute,
+    trial_plan(bytes, file.size(), query.source, query.target, query.minute,
                  query.code, work.start(), work.length(), plan.start(),
                  plan.length(), answer.start(), 6);
   else
-    subject_earliest(bytes, file.size(), query.source, query.target,
+    trial_earliest(bytes, file.size(), query.source, query.target,
                      query.minute, work.start(), work.length(),
                      answer.start(), 6);
   Seen seen;
@@ -121,7 +121,7 @@ Seen by_subject(const Bytes &file, const Call &call) {
 Answer house_by_subject(uint32_t pair, uint32_t minute) {
   Answer answer;
   answer.fill(UNSET);
-  subject_house(pair, minute, answer.data(), answer.size());
+  trial_house(pair, minute, answer.data(), answer.size());
   return answer;
 }
 

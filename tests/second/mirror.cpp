@@ -2,7 +2,7 @@
 #include <algorithm>
 
 #include "calls.hpp"
-#include "subject.h"
+#include "trial.h"
 
 using namespace second;
 
@@ -20,7 +20,7 @@ void give(const Answer &from, uint32_t *answer) {
 
 extern "C" {
 
-void subject_check(const uint8_t *file, size_t file_len, uint32_t *answer,
+void trial_check(const uint8_t *file, size_t file_len, uint32_t *answer,
                    size_t) {
   const CheckedFile checked = check_file(bytes_of(file, file_len));
   const Sailings &sailings = checked.sailings;
@@ -30,7 +30,7 @@ void subject_check(const uint8_t *file, size_t file_len, uint32_t *answer,
        answer);
 }
 
-void subject_plan(const uint8_t *file, size_t file_len, uint32_t source,
+void trial_plan(const uint8_t *file, size_t file_len, uint32_t source,
                   uint32_t target, uint32_t minute, uint32_t code,
                   uint32_t *work, size_t work_len, uint32_t *plan,
                   size_t plan_len, uint32_t *answer, size_t) {
@@ -44,7 +44,7 @@ void subject_plan(const uint8_t *file, size_t file_len, uint32_t source,
        answer);
 }
 
-void subject_earliest(const uint8_t *file, size_t file_len, uint32_t source,
+void trial_earliest(const uint8_t *file, size_t file_len, uint32_t source,
                       uint32_t target, uint32_t minute, uint32_t *work,
                       size_t work_len, uint32_t *answer, size_t) {
   Numbers lent_work(work, work + work_len);
@@ -54,7 +54,7 @@ void subject_earliest(const uint8_t *file, size_t file_len, uint32_t source,
   give({got.number, got.place, got.earliest, 0, 0, 0}, answer);
 }
 
-void subject_house(uint32_t pair, uint32_t minute, uint32_t *answer, size_t) {
+void trial_house(uint32_t pair, uint32_t minute, uint32_t *answer, size_t) {
   const std::optional<uint32_t> share = house_cumulative(pair, minute);
   give(share ? Answer{0, 0, *share, 0, 0, 0} : Answer{6, 0, 0, 0, 0, 0},
        answer);

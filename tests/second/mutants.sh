@@ -23,7 +23,7 @@ for header in definitions generate calls; do
   sed 's/namespace second/namespace mirrored/' "$here/$header.hpp" \
     > "$place/copy/$header.hpp"
 done
-cp "$here/subject.h" "$place/copy/"
+cp "$here/trial.h" "$place/copy/"
 for part in $parts mirror; do
   $build -c "$place/copy/$part.cpp" -o "$place/copy/$part.o" || exit 2
 done

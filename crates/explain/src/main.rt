@@ -28,5 +28,5 @@ fn main() {
     let mut query = [0u8; QUERY_ROOM];
     let long = read_file(b"sailings", &mut sailings);
     let short = read_file(b"query", &mut query);
-    office::explain(&sailings[..long], &query[..short]);
+    explain_all::explain(&sailings[..long], &query[..short]);
 }

@@ -11,19 +11,20 @@ use lib.Seq.{drop-drop}
 use Rattle.laws.proofs.Tests.{cond-true, cond-false}
 use Rattle.timetable.specs.Timetable.{Timetable}
 use Rattle.timetable.proofs.Places.{number-small, place-small}
-use Rattle.layout.specs.declared.Format.{Format}
-use Rattle.layout.specs.declared.Checked.the-variants.{Sound, Refused}
-use Rattle.layout.specs.Format.{versionOne}
-use Rattle.layout.specs.Numbers.{u16At}
-use Rattle.layout.specs.Decode.{trailerAt, headAt, headOf, decode}
-use Rattle.layout.specs.Check.{checkedAs, checked}
-use Rattle.layout.proofs.Sound.{checked-gives, sound-checked}
-use Rattle.layout.proofs.Refusals.{refused-placed}
+use Rattle.file_layout.specs.declared.Format.{Format}
+use Rattle.file_layout.specs.declared.Checked.the-variants.{Sound, Refused}
+use Rattle.file_layout.specs.Format.{versionOne}
+use Rattle.numbers.specs.Numbers.{u16At}
+use Rattle.file_layout.specs.Decode.{trailerAt, headAt, headOf, decode}
+use Rattle.file_layout.specs.Check.{checkedAs, checked}
+use Rattle.file_layout.proofs.Sound.{checked-gives, sound-checked}
+use Rattle.file_layout.proofs.Refusals.{refused-placed}
 use Rattle.plans.specs.declared.Query.{Query}
 use Rattle.plans.specs.Plan.{Plan, planned, planBefore, earliest}
-use Rattle.cells.specs.Cells.{missing, cellOf, filled}
-use Rattle.extract.specs.Extracted.{written, over}
-use Rattle.reading.proofs.Standing.{version-one-plannable}
+use Rattle.plan_cells.specs.Cells.{missing, cellOf, filled}
+use Rattle.plan_extract.specs.Extracted.{written}
+use Rattle.numbers.specs.Over.{over}
+use Rattle.plan_rows.proofs.Standing.{version-one-plannable}
 use Rattle.planner.specs.declared.Planned.{Planned}
 use Rattle.planner.specs.declared.Earliest.{Earliest}
 use Rattle.planner.specs.declared.Planned.the-variants.{Plan as AsPlan, Refused as NoPlan}

@@ -15,10 +15,9 @@ use Rattle.plans.specs.Sound.{Timely}
 use Rattle.plans.specs.Rides.{Ride, IsRide, latest}
 use Rattle.plans.specs.Journeys.{Onward, leaves, changes, boundOf}
 use Rattle.plans.specs.Plan.{earliest}
-use Rattle.plans.proofs.EarliestSafe.{earliest-is-least}
-use Rattle.plans.proofs.PlanExists.{journey-after}
-use Rattle.reading.specs.declared.Sailings.{Sailings}
-use Rattle.reading.specs.Reading.{timetableIn, Stand}
+use Rattle.plans.proofs.EarliestSafe.{earliest-is-least, journey-after}
+use Rattle.plan_rows.specs.declared.Sailings.{Sailings}
+use Rattle.plan_rows.specs.Reading.{timetableIn, Stand}
 use Rattle.planner.specs.Steps.{Reaches}
 
 module _ (file : List ℕ) (s : Sailings) (stand : Stand file s) where

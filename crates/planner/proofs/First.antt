@@ -18,14 +18,14 @@ use Rattle.plans.specs.Chosen.{GettingOff, scan, choose, others, offInTicks, be
 use Rattle.plans.specs.Plan.{Window, wanted, upTo, windowsOf, extract, ridesFrom, latestOf, chosenFor, planWithin}
 use Rattle.plans.proofs.Choice.{choice, Choice, worthless, at-target, behind, added, same-minute}
 use Rattle.plans.proofs.BestRides.{best-boards, chosen-picked}
-use Rattle.cells.specs.Cells.{Entry, entryAt, stackStart, stackSize}
-use Rattle.reading.specs.declared.Sailings.{Sailings}
-use Rattle.reading.specs.Reading.{timetableIn}
-use Rattle.reading.proofs.Cuts.{Idle, scanPart, part-chosen, part-first, part-rides}
-use Rattle.landing.specs.Landing.{atStop, entryOf, EntryFits}
-use Rattle.landing.proofs.AtStop.{first-open-at-stop, first-open-at, first-open-none, at-stop-from, at-stop-member}
-use Rattle.landing.proofs.Stack.{stack-size, entry-at}
-use Rattle.scan.specs.Scanned.{ScanHeld}
+use Rattle.plan_cells.specs.Cells.{Entry, entryAt, stackStart, stackSize}
+use Rattle.plan_rows.specs.declared.Sailings.{Sailings}
+use Rattle.plan_rows.specs.Reading.{timetableIn}
+use Rattle.plan_rows.proofs.Cuts.{Idle, scanPart, part-chosen, part-first, part-rides}
+use Rattle.plan_landing.specs.Landing.{atStop, entryOf, EntryFits}
+use Rattle.plan_landing.proofs.AtStop.{first-open-at-stop, first-open-at, first-open-none, at-stop-from, at-stop-member}
+use Rattle.plan_landing.proofs.Stack.{stack-size, entry-at}
+use Rattle.plan_scan.specs.Scanned.{ScanHeld}
 use Rattle.planner.specs.Steps.{Laid, planIn}
 
 -- chosen rides are no more than the rows

@@ -4,17 +4,17 @@ use native.Mathlib.Omega.{arith}
 use mathlib.Core.List.{List}
 use mathlib.Core.Option.{some}
 use mathlib.Core.Path.{_≡_, sym, ap, subst, _∙_}
-use Rattle.layout.specs.declared.Format.{Format}
-use Rattle.layout.specs.Decode.{headOf, decode}
+use Rattle.file_layout.specs.declared.Format.{Format}
+use Rattle.file_layout.specs.Decode.{headOf, decode}
 use Rattle.plans.specs.declared.Query.{Query}
 use Rattle.plans.specs.Sound.{Timely}
 use Rattle.plans.specs.Journeys.{boundOf}
 use Rattle.plans.specs.Plan.{planned, planBefore, earliest}
-use Rattle.reading.specs.declared.Sailings.{Sailings}
-use Rattle.reading.specs.Reading.{rowsIn, tablesIn, timetableIn, Stand, BlocksStand, Cut, TablesHeld}
-use Rattle.reading.specs.Sections.{sailingsOf}
-use Rattle.reading.proofs.Standing.{stands, blocks-stand, timely, same-earliest, same-plan}
-use Rattle.journeys.specs.Query.{queryOf}
+use Rattle.plan_rows.specs.declared.Sailings.{Sailings}
+use Rattle.plan_rows.specs.Reading.{rowsIn, tablesIn, timetableIn, Stand, BlocksStand, Cut, TablesHeld}
+use Rattle.plan_rows.specs.Sections.{sailingsOf}
+use Rattle.plan_rows.proofs.Standing.{stands, blocks-stand, timely, same-earliest, same-plan}
+use Rattle.plan_earliest.specs.Query.{queryOf}
 use Rattle.planner.proofs.Bounds.{earliest-fits}
 use Rattle.planner.specs.Steps.{Asked, Laid, planIn}
 

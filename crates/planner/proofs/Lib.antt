@@ -6,6 +6,3 @@ pub mod First
 pub mod Answered
 pub mod Laying
 pub mod Settled
-pub mod Demands
-pub mod Arrivals
-pub mod ShutOut

@@ -12,10 +12,10 @@ use Rattle.timetable.specs.declared.Row.{Row}
 use Rattle.plans.specs.declared.Query.{Query}
 use Rattle.plans.specs.Sound.{Timely}
 use Rattle.plans.specs.Chosen.{offInTicks}
-use Rattle.reading.specs.declared.Sailings.{Sailings}
-use Rattle.reading.specs.Reading.{rowsIn, timetableIn, Cut}
-use Rattle.reading.proofs.Cuts.{Idle, idle-end, bound-idle}
-use Rattle.landing.specs.declared.Goal.{Goal}
+use Rattle.plan_rows.specs.declared.Sailings.{Sailings}
+use Rattle.plan_rows.specs.Reading.{rowsIn, timetableIn, Cut}
+use Rattle.plan_rows.proofs.Cuts.{Idle, idle-end, bound-idle}
+use Rattle.plan_landing.specs.declared.Goal.{Goal}
 use Rattle.planner.specs.Steps.{Laid, Reaches, RowsWithin, Part}
 
 -- rows that depart before an earlier minute stand ahead of those that do not before a later one

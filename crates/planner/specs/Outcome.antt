@@ -6,16 +6,17 @@ use mathlib.Core.Option.{Option, none, some}
 use lib.Dec.{leb, ltb, eqb}
 use lib.ListN.{length, drop, replicate}
 use Rattle.timetable.specs.Timetable.{Timetable}
-use Rattle.layout.specs.declared.Format.{Format}
-use Rattle.layout.specs.declared.Checked.{Checked}
-use Rattle.layout.specs.declared.Checked.the-variants.{Sound, Refused}
-use Rattle.layout.specs.Check.{Answer, checkedAs}
-use Rattle.layout.specs.Decode.{decode}
-use Rattle.layout.specs.Format.{versionOne}
+use Rattle.file_layout.specs.declared.Format.{Format}
+use Rattle.file_layout.specs.declared.Checked.{Checked}
+use Rattle.file_layout.specs.declared.Checked.the-variants.{Sound, Refused}
+use Rattle.file_layout.specs.Check.{Answer, checkedAs}
+use Rattle.file_layout.specs.Decode.{decode}
+use Rattle.file_layout.specs.Format.{versionOne}
 use Rattle.plans.specs.declared.Query.{Query}
 use Rattle.plans.specs.Plan.{Plan, planned, earliest}
 use Rattle.plans.specs.Worth.{Valued}
-use Rattle.extract.specs.Extracted.{written, over}
+use Rattle.plan_extract.specs.Extracted.{written}
+use Rattle.numbers.specs.Over.{over}
 use Rattle.planner.specs.declared.Planned.{Planned}
 use Rattle.planner.specs.declared.Earliest.{Earliest}
 use Rattle.planner.specs.declared.Planned.the-variants.{Plan as AsPlan, Refused as NoPlan}

@@ -6,19 +6,19 @@ use mathlib.Core.Option.{Option}
 use mathlib.Core.Path.{_≡_}
 use lib.ListN.{length, drop}
 use Rattle.timetable.specs.declared.Row.{Row}
-use Rattle.layout.specs.declared.Format.{Format}
-use Rattle.layout.specs.Decode.{decode}
-use Rattle.layout.proofs.Sound.{SoundFile}
+use Rattle.file_layout.specs.declared.Format.{Format}
+use Rattle.file_layout.specs.Decode.{decode}
+use Rattle.file_layout.proofs.Sound.{SoundFile}
 use Rattle.plans.specs.declared.Query.{Query}
 use Rattle.plans.specs.Sound.{Timely}
 use Rattle.plans.specs.Worth.{firstOpen}
 use Rattle.plans.specs.Chosen.{offInTicks}
 use Rattle.plans.specs.Plan.{Plan, chosenFor, planWithin}
-use Rattle.reading.specs.declared.Sailings.{Sailings}
-use Rattle.reading.specs.Reading.{rowsIn, tablesIn, timetableIn, Stand, Cut, TablesHeld}
-use Rattle.reading.specs.Sections.{Plannable}
-use Rattle.reading.proofs.Cuts.{Idle}
-use Rattle.landing.specs.declared.Goal.{Goal}
+use Rattle.plan_rows.specs.declared.Sailings.{Sailings}
+use Rattle.plan_rows.specs.Reading.{rowsIn, tablesIn, timetableIn, Stand, Cut, TablesHeld}
+use Rattle.plan_rows.specs.Sections.{Plannable}
+use Rattle.plan_rows.proofs.Cuts.{Idle}
+use Rattle.plan_landing.specs.declared.Goal.{Goal}
 use Rattle.planner.specs.declared.Planned.{Planned}
 use Rattle.planner.specs.Outcome.{planAnswered}
 

@@ -16,7 +16,7 @@ use Rattle.laws.proofs.Members.{head-or-later}
 use Rattle.laws.proofs.Downward.{downward, from-greater}
 use Rattle.timetable.specs.Timetable.{Timetable, rowOf}
 use Rattle.plans.specs.Rides.{Ride, IsRide}
-use Rattle.plans.specs.RowWords.{NextOfTrip}
+use Rattle.plans.specs.Trips.{NextOfTrip}
 use Rattle.plans.specs.Worth.{Valued}
 use Rattle.plans.specs.Chosen.{GettingOff, leads, firstAt, getOff, stayOn, rowRide, boardedAt}
 use Rattle.plans.proofs.AtMost.{least-either}

@@ -168,3 +168,10 @@ module _ (t : Timetable) (timely : Timely t) (q : Query) where
   pub no-earliest : q .source ≢ q .target → earliest t q ≡ none → (end : ℕ) → Journey t q end → ⊥
   no-earliest apart h end j =
       found-at-most ⊥ (journey-first apart end j) (λ v e _. absent {a = v .worth} (sym h ∙ earliest-first ∙ ap worthOf e ∙ worth-of v))
+
+-- a journey ends after the query minute
+pub journey-after : (t : Timetable) → Timely t → (q : Query) (end : ℕ) → Journey t q end → q .minute < end
+journey-after t timely q end j =
+    let a : q .minute ≤ j .first .departs = boards-minute (j .first) (q .source) (q .minute) (T-true (j .in-time)) in
+    let b : j .first .departs < end = onward-after t (q .target) timely (j .onward) in
+    omega arith

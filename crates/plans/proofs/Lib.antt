@@ -1,5 +1,5 @@
--- The theorems of demands 2 and 3, and the laws that lead to them.
-pub mod Cases
+-- Laws of rides, worths, chosen rows and the plan that planning cites; the demands stand in `demands`.
+pub mod Misreadings
 pub mod Open
 pub mod AtMost
 pub mod FromRow
@@ -12,29 +12,8 @@ pub mod RideMinutes
 pub mod EarliestSafe
 pub mod InTicks
 pub mod Made
-pub mod PlanExists
 pub mod Weighing
 pub mod OwnWorth
 pub mod ChosenWorth
 pub mod Extracted
-pub mod PlanIsSafe
-pub mod Optimal
-pub mod PlanSet
-pub mod ChosenWords
-pub mod RowWorth
-pub mod Sorting
-pub mod Means
-pub mod Choices
-pub mod Forward
-pub mod Course
-pub mod Reached
-pub mod Sandwich
-pub mod Safe
-pub mod Walked
-pub mod RowNumbers
-pub mod Meeting
-pub mod EveryRide
-pub mod Boarded
-pub mod Demand3
-pub mod LastMinute
-pub mod Demand2
+pub mod PlanRides

@@ -9,16 +9,18 @@ use lib.Dec.{leb}
 use lib.ListN.{length, take, drop}
 use lib.Seq.{take-at}
 use Rattle.timetable.specs.Timetable.{Timetable}
-use Rattle.layout.specs.declared.Format.{Format}
-use Rattle.layout.specs.declared.Checked.{Checked}
-use Rattle.layout.specs.declared.Checked.the-variants.{Sound, Refused}
-use Rattle.layout.specs.Decode.{decode}
-use Rattle.layout.specs.Numbers.{u32Bytes}
-use Rattle.little.specs.Little.{bytesOf, put}
+use Rattle.file_layout.specs.declared.Format.{Format}
+use Rattle.file_layout.specs.declared.Checked.{Checked}
+use Rattle.file_layout.specs.declared.Checked.the-variants.{Sound, Refused}
+use Rattle.file_layout.specs.Decode.{decode}
+use Rattle.numbers.specs.Numbers.{u32Bytes}
+use Rattle.numbers.specs.Bytes.{bytesOf}
+use Rattle.numbers.specs.Over.{over}
 use Rattle.plans.specs.declared.Query.{Query}
 use Rattle.plans.specs.Plan.{Plan, planned}
 use Rattle.plans.specs.Worth.{Valued}
-use Rattle.extract.specs.Extracted.{written, over}
+use Rattle.plan_extract.specs.Extracted.{written}
+use Rattle.numbers.specs.Over.{over}
 use Rattle.planner.specs.Outcome.{PlanOutcome, workRoom, planRoom, refusedPlan, planAnswered, planSound, planChecked, journeyRule, codeRule, cleared}
 use Rattle.sayurimpak.specs.Desk.{DeskOutcome, refused, rideBytes, planBytes, deskAnswered, roomFor, deskSound, deskChecked}
 use Rattle.sayurimpak.specs.Given.{given}
@@ -45,14 +47,14 @@ givenOn o rest out = given (o .answer) (o .plan ++ rest) out
 
 module _ (plan rest out : List ℕ) where
   answered-given : (p : Option Plan) (work : List ℕ) → givenOn (planAnswered p work plan) rest out ≡ deskAnswered p out
-  unfolding given planAnswered deskAnswered over
+  unfolding given planAnswered deskAnswered
   answered-given none work = refl
   answered-given (some p) work =
       let numbers = written (p .rides) in
-      ap (λ l. record { answer = length (p .rides); bytes = put (bytesOf l) out })
+      ap (λ l. record { answer = length (p .rides); bytes = over (bytesOf l) out })
       (ap (take (3 * length (p .rides))) (append-assoc numbers (drop (length numbers) plan) rest)
       ∙ take-at numbers (drop (length numbers) plan ++ rest) (3 * length (p .rides)) (length-written (p .rides)))
-      ∙ ap (λ b. record { answer = length (p .rides); bytes = put b out }) (bytes-written (p .rides))
+      ∙ ap (λ b. record { answer = length (p .rides); bytes = over b out }) (bytes-written (p .rides))
 
   -- 6, 7, then the answer, where the work slice is wide enough and the two rooms agree
   tests-given : (rule wide long enough : Bool) (o : PlanOutcome) (d : DeskOutcome) (work : List ℕ)

@@ -11,17 +11,18 @@ use borrow.Author.Tests.{leb-true, leb-false, le-leb, lt-leb}
 use Rattle.laws.proofs.Tests.{ifb}
 use Rattle.timetable.specs.Timetable.{Timetable}
 use Rattle.timetable.proofs.Places.{number-small}
-use Rattle.layout.specs.declared.Format.{Format}
-use Rattle.layout.specs.declared.Checked.{Checked}
-use Rattle.layout.specs.declared.Checked.the-variants.{Sound, Refused}
-use Rattle.layout.specs.Check.{checkedAs, checked}
-use Rattle.layout.specs.Decode.{decode}
-use Rattle.layout.specs.Format.{versionOne}
-use Rattle.layout.proofs.Sound.{checked-gives}
-use Rattle.layout.proofs.Refusals.{refused-placed}
+use Rattle.file_layout.specs.declared.Format.{Format}
+use Rattle.file_layout.specs.declared.Checked.{Checked}
+use Rattle.file_layout.specs.declared.Checked.the-variants.{Sound, Refused}
+use Rattle.file_layout.specs.Check.{checkedAs, checked}
+use Rattle.file_layout.specs.Decode.{decode}
+use Rattle.file_layout.specs.Format.{versionOne}
+use Rattle.file_layout.proofs.Sound.{checked-gives}
+use Rattle.file_layout.proofs.Refusals.{refused-placed}
 use Rattle.plans.specs.declared.Query.{Query}
 use Rattle.plans.specs.Plan.{Plan, planned}
-use Rattle.extract.specs.Extracted.{written, over}
+use Rattle.plan_extract.specs.Extracted.{written}
+use Rattle.numbers.specs.Over.{over}
 use Rattle.planner.specs.Outcome.{
   PlanOutcome,
   workRoom,
@@ -69,7 +70,7 @@ module _ (plan rest out : List ℕ) where
   FitsOn o = length (o .plan) ≡ length plan → Fitting (o .answer) (o .plan ++ rest) out
 
   answered-fits : length plan ≤ length out / 4 → (p : Option Plan) (work : List ℕ) → FitsOn (planAnswered p work plan)
-  unfolding planAnswered Fitting over
+  unfolding planAnswered Fitting
   answered-fits l none work k = omega arith
   answered-fits l (some p) work k =
       let numbers = written (p .rides) in

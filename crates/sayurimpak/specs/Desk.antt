@@ -6,14 +6,14 @@ use mathlib.Core.Option.{Option, none, some}
 use lib.Dec.{leb}
 use lib.ListN.{length}
 use Rattle.timetable.specs.Timetable.{Timetable}
-use Rattle.layout.specs.declared.Format.{Format}
-use Rattle.layout.specs.declared.Checked.{Checked}
-use Rattle.layout.specs.declared.Checked.the-variants.{Sound, Refused}
-use Rattle.layout.specs.Check.{checkedAs}
-use Rattle.layout.specs.Decode.{decode}
-use Rattle.layout.specs.Format.{versionOne}
-use Rattle.layout.specs.Numbers.{u32Bytes}
-use Rattle.little.specs.Little.{put}
+use Rattle.file_layout.specs.declared.Format.{Format}
+use Rattle.file_layout.specs.declared.Checked.{Checked}
+use Rattle.file_layout.specs.declared.Checked.the-variants.{Sound, Refused}
+use Rattle.file_layout.specs.Check.{checkedAs}
+use Rattle.file_layout.specs.Decode.{decode}
+use Rattle.file_layout.specs.Format.{versionOne}
+use Rattle.numbers.specs.Numbers.{u32Bytes}
+use Rattle.numbers.specs.Over.{over}
 use Rattle.plans.specs.declared.Query.{Query}
 use Rattle.plans.specs.Plan.{Plan, planned}
 use Rattle.plans.specs.Worth.{Valued}
@@ -46,7 +46,7 @@ planBytes (v ∷ rides) = rideBytes v ++ planBytes rides
 -- the ride count, or 8; other bytes stay
 unfoldable pub deskAnswered : Option Plan → List ℕ → DeskOutcome
 deskAnswered none out = refused 8 out
-deskAnswered (some p) out = record { answer = length (p .rides); bytes = put (planBytes (p .rides)) out }
+deskAnswered (some p) out = record { answer = length (p .rides); bytes = over (planBytes (p .rides)) out }
 
 -- room below 12n is refusal 7
 abbrev pub roomFor : ℕ → ℕ

@@ -2,13 +2,14 @@
 use Prim.Native.Nat.{ℕ, _*_, _≤_}
 use mathlib.Core.List.{List}
 use lib.ListN.{length, take}
-use Rattle.little.specs.Little.{bytesOf, put}
+use Rattle.numbers.specs.Bytes.{bytesOf}
+use Rattle.numbers.specs.Over.{over}
 use Rattle.planner.specs.declared.Planned.{Planned}
 use Rattle.planner.specs.declared.Planned.the-variants.{Plan as AsPlan, Refused as NoPlan}
 use Rattle.sayurimpak.specs.Desk.{DeskOutcome, refused}
 
 unfoldable pub given : Planned → List ℕ → List ℕ → DeskOutcome
-given (AsPlan rides expected last bound) numbers out = record { answer = rides; bytes = put (bytesOf (take (3 * rides) numbers)) out }
+given (AsPlan rides expected last bound) numbers out = record { answer = rides; bytes = over (bytesOf (take (3 * rides) numbers)) out }
 given (NoPlan number place) numbers out = refused number out
 
 -- the plan is all there and has room; a refusal's number is one of document 01's

@@ -4,7 +4,7 @@ ghost use Prim.Native.Nat.{_/_, min};
 ghost use lib.ListN.{length};
 ghost use Rattle.sayurimpak.specs.Desk.{asked, deskOutcome};
 ghost use Rattle.sayurimpak.specs.Given.{given, Fitting};
-use little::put_numbers;
+use numbers::put_numbers;
 use planner::Planned;
 use planner::plan;
 use plans::Query;

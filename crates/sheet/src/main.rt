@@ -2,8 +2,8 @@
 ghost use Prim.Native.Nat.{_≤_};
 ghost use lib.ListN.{length};
 use libc::STDOUT_FILENO;
-use printing::SHEET_ROOM;
-use printing::Sheeted;
+use sheet_text::SHEET_ROOM;
+use sheet_text::Sheeted;
 
 // Longer than the longest sound file, so that one byte too many is seen; and so for the query's 8 bytes.
 const SAILINGS_ROOM: usize = 28000;
@@ -34,7 +34,7 @@ fn read_file(path: &[u8], room: &mut [u8]) -> usize
 // Writes the sheet of the two files' bytes.
 fn print_sheet(sailings: &[u8], query: &[u8]) {
     let mut out = sheet_room();
-    let sheeted = printing::sheet(sailings, query, &mut out);
+    let sheeted = sheet_text::sheet(sailings, query, &mut out);
     if let Sheeted::Text { length } = sheeted {
         if length <= SHEET_ROOM {
             io::write_all(STDOUT_FILENO, &out[..length]);

@@ -1,7 +1,7 @@
 -- `planner::earliest_in_room` meets its contract: the tables and rows of a sound file are laid out, then E is found. Assumes nothing.
 use mathlib.Core.Path.{refl, sym, ap, _∙_}
 use native.Mathlib.Omega.{arith}
-use Rattle.cells.specs.Cells.{cellOf}
+use Rattle.plan_cells.specs.Cells.{cellOf}
 use Rattle.planner.proofs.Laying.{rows-stand, tables-stand, lays, earliest-there}
 use borrow.Author.Needs.{needs}
 use Rattle.planner.proofs.earliest_in_room.Statement.{statement}

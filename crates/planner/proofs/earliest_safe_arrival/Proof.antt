@@ -1,7 +1,7 @@
 -- `planner::earliest_safe_arrival` meets its contract: the check's refusals, then E in a sound file. Assumes nothing.
 use mathlib.Core.Path.{sym, ap, ap₂, _∙_}
 use native.Mathlib.Omega.{arith}
-use Rattle.layout.specs.Format.{versionOne}
+use Rattle.file_layout.specs.Format.{versionOne}
 use Rattle.planner.specs.declared.Earliest.the-variants.{Refused as NoArrival}
 use Rattle.planner.specs.Outcome.{EarliestOutcome, earliestOutcome}
 use Rattle.planner.proofs.Answered.{

@@ -5,10 +5,10 @@ use mathlib.Core.Path.{_≡_, refl, sym, ap, _∙_}
 use native.Mathlib.Omega.{arith}
 use lib.ListN.{length}
 use borrow.Author.Tests.{not-true, not-false, le-leb, lt-leb}
-use Rattle.layout.specs.Decode.{headOf, decode}
+use Rattle.file_layout.specs.Decode.{headOf, decode}
 use Rattle.plans.specs.Plan.{earliest}
-use Rattle.cells.specs.Cells.{filled}
-use Rattle.reading.specs.Sections.{sailingsOf}
+use Rattle.plan_cells.specs.Cells.{filled}
+use Rattle.plan_rows.specs.Sections.{sailingsOf}
 use Rattle.planner.specs.Outcome.{journeyRule, workRoom, cleared, earliestAnswered, earliestSound}
 use Rattle.planner.specs.Steps.{Asked}
 use Rattle.planner.proofs.Rules.{asks}

@@ -1,7 +1,7 @@
 -- `planner::plan` meets its contract: the check's refusals, then planning in a sound file. Assumes nothing.
 use mathlib.Core.Path.{sym, ap, ap₂, _∙_}
 use native.Mathlib.Omega.{arith}
-use Rattle.layout.specs.Format.{versionOne}
+use Rattle.file_layout.specs.Format.{versionOne}
 use Rattle.planner.specs.declared.Planned.the-variants.{Refused as NoPlan}
 use Rattle.planner.specs.Outcome.{PlanOutcome, planOutcome}
 use Rattle.planner.proofs.Answered.{refusal-fits, refused-checked-as, refused-by-check, sound-by-check, refused-as, found-sound}

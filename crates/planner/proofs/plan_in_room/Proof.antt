@@ -4,10 +4,10 @@ use mathlib.Core.Option.{Option, some}
 use mathlib.Core.Path.{_≡_, refl, sym, ap, subst, _∙_}
 use native.Mathlib.Omega.{arith}
 use lib.ListN.{length}
-use Rattle.layout.specs.Decode.{headOf, decode}
+use Rattle.file_layout.specs.Decode.{headOf, decode}
 use Rattle.plans.specs.Plan.{Plan, planned, earliest}
-use Rattle.cells.specs.Cells.{used, missing}
-use Rattle.reading.specs.Reading.{timetableIn}
+use Rattle.plan_cells.specs.Cells.{used, missing}
+use Rattle.plan_rows.specs.Reading.{timetableIn}
 use Rattle.planner.specs.Steps.{Laid, Reaches, planIn, Answers, KeptBehind}
 use Rattle.planner.proofs.Rules.{code-most}
 use Rattle.planner.proofs.Bounds.{earliest-fits, bound-reaches}

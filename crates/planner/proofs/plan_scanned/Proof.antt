@@ -3,9 +3,9 @@ use Prim.Native.Nat.{_+_, _-_, _*_, _%_, _<_, _≤_}
 use mathlib.Core.Path.{_≡_, refl, sym, ap, ap₂, subst, _∙_}
 use native.Mathlib.Omega.{arith}
 use lib.ListN.{getD}
-use Rattle.cells.specs.Cells.{used, stackSize}
-use Rattle.scan.specs.Scanned.{scanIn}
-use Rattle.extract.specs.Extracted.{FirstRide}
+use Rattle.plan_cells.specs.Cells.{used, stackSize}
+use Rattle.plan_scan.specs.Scanned.{scanIn}
+use Rattle.plan_extract.specs.Extracted.{FirstRide}
 use Rattle.planner.specs.Steps.{planIn}
 use Rattle.planner.proofs.First.{top, Top, Told, goal-told}
 use Rattle.planner.proofs.Answered.{no-plan-answers, plan-answers}

@@ -7,9 +7,9 @@ use lib.Dec.{leb}
 use lib.ListN.{length}
 use borrow.Author.Tests.{not-true, not-false, le-leb, lt-leb}
 use Rattle.laws.proofs.Tests.{both}
-use Rattle.layout.specs.Decode.{headOf, decode}
+use Rattle.file_layout.specs.Decode.{headOf, decode}
 use Rattle.plans.specs.Plan.{planned}
-use Rattle.cells.specs.Cells.{used, filled}
+use Rattle.plan_cells.specs.Cells.{used, filled}
 use Rattle.planner.specs.Outcome.{journeyRule, codeRule, workRoom, planRoom, cleared, planSound}
 use Rattle.planner.proofs.Rules.{asks}
 use Rattle.planner.proofs.Answered.{

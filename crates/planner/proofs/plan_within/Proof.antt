@@ -3,8 +3,8 @@ use Prim.Native.Nat.{_≤_}
 use mathlib.Core.Path.{sym, subst}
 use native.Mathlib.Omega.{arith}
 use lib.ListN.{length}
-use Rattle.cells.specs.Cells.{used}
-use Rattle.reading.specs.Reading.{rowsIn}
+use Rattle.plan_cells.specs.Cells.{used}
+use Rattle.plan_rows.specs.Reading.{rowsIn}
 use Rattle.planner.specs.Steps.{Reaches, RowsWithin, Part, planIn, Answers}
 use Rattle.planner.proofs.Parts.{is-part}
 use Rattle.planner.proofs.Answered.{kept-both}

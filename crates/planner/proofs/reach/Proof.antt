@@ -3,8 +3,8 @@ use mathlib.Core.Path.{sym, ap, subst, _∙_}
 use native.Mathlib.Omega.{arith}
 use Rattle.plans.specs.declared.Query.{Query}
 use Rattle.plans.specs.Plan.{earliest}
-use Rattle.cells.specs.Cells.{cellOf}
-use Rattle.reading.specs.Reading.{rowsIn, timetableIn, Cut}
+use Rattle.plan_cells.specs.Cells.{cellOf}
+use Rattle.plan_rows.specs.Reading.{rowsIn, timetableIn, Cut}
 use Rattle.planner.proofs.Laying.{as-asked}
 use borrow.Author.Needs.{needs}
 use Rattle.planner.proofs.reach.Statement.{statement}

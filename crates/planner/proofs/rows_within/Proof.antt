@@ -1,7 +1,7 @@
 -- `planner::rows_within` meets its contract: all rows, or those before the bound. Assumes nothing.
 use mathlib.Core.Path.{_≡_, subst}
 use native.Mathlib.Omega.{arith}
-use Rattle.reading.specs.Reading.{rowsIn, Cut}
+use Rattle.plan_rows.specs.Reading.{rowsIn, Cut}
 use borrow.Author.Needs.{needs}
 use Rattle.planner.proofs.rows_within.Statement.{statement}
 use Rattle.planner.proofs.rows_within.Tie as tie

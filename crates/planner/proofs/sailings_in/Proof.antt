@@ -1,7 +1,7 @@
 -- `planner::sailings_in` meets its contract: the head that the check read. Assumes nothing.
 use mathlib.Core.Path.{ap}
-use Rattle.layout.specs.Decode.{headOf, trailerAt}
-use Rattle.reading.specs.Sections.{sailingsOf}
+use Rattle.file_layout.specs.Decode.{headOf, trailerAt}
+use Rattle.plan_rows.specs.Sections.{sailingsOf}
 use borrow.Author.Needs.{needs}
 use Rattle.planner.proofs.sailings_in.Statement.{statement}
 use Rattle.planner.proofs.sailings_in.Tie as tie

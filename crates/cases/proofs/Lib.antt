@@ -1,0 +1,2 @@
+-- The cases marked P hold.
+pub mod Cases

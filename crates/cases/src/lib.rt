@@ -1,0 +1,1 @@
+// No code: document 01's cases marked P, about the definitions (specs/), and that they hold (proofs/).

@@ -1,0 +1,101 @@
+-- Every ride of the plan is boarded under some delays. Uses all that a sound timetable keeps.
+use Prim.Native.Nat.{ℕ}
+use mathlib.Core.List.{List, List·Memᴰ}
+use mathlib.Core.Option.{Option, none, some}
+use mathlib.Core.Path.{_≡_, refl, sym, ap, subst}
+use native.Mathlib.Omega.{arith}
+use Rattle.laws.proofs.Options.{absent, same-thing}
+use Rattle.timetable.specs.Timetable.{Timetable}
+use Rattle.plans.specs.declared.Query.{Query}
+use Rattle.plans.specs.Rides.{Ride}
+use Rattle.plans.specs.Worth.{Valued, firstOpen}
+use Rattle.plans.specs.Journeys.{boundOf}
+use Rattle.plans.specs.Plan.{Plan, Window, upTo, extract, ridesFrom, chosenFor, earliest, latestOf, planWithin, planBefore, planned}
+use Rattle.plans.specs.Sound.{Timely}
+use Rattle.demands.specs.Walk.{Sailed, start, choices, Boards}
+use Rattle.plans.proofs.Open.{boards-stop, boards-minute, can-board}
+use Rattle.plans.proofs.RideMinutes.{ride-delays}
+use Rattle.plans.proofs.Made.{Made}
+use Rattle.plans.proofs.Extracted.{extract-member}
+use Rattle.plans.proofs.PlanRides.{for-ordered, for-ride}
+use Rattle.demands.proofs.PlanIsSafe.{ridesOf, plan-safe, plan-rising}
+use Rattle.demands.proofs.Choices.{Delayed, delayed-choice, delayed-rides}
+use Rattle.demands.proofs.Forward.{AllTimed, forward-timed}
+use Rattle.demands.proofs.Safe.{safe-forward}
+use Rattle.demands.proofs.Meeting.{Meets, meets-sooner, meets-boards}
+use Rattle.demands.proofs.EveryRide.{SomeShare, Entry, entries, up-to-is, taken-after, window-boards, window-until}
+
+module _ (t : Timetable) (timely : Timely t) (q : Query) (p : Plan) (made : Made t q p) where
+  chosen : List Valued
+  chosen = chosenFor t (q .target) (p .bound)
+
+  windows : List Window
+  windows = upTo (q .source) (q .minute) (firstOpen chosen (q .source) (q .minute))
+
+  some-share : SomeShare chosen
+  unfolding chosen
+  some-share v among = omega (arith, ride-delays t timely (v .ride) (for-ride t timely (q .target) (p .bound) v among))
+
+  -- what is met from the first window is met from the source at T
+  entry-meets :
+      {r : Ride} (e : Entry windows chosen (extract (q .target) windows chosen) r) → Meets r (e .sailed) (q .source) (q .minute)
+  unfolding chosen windows
+  entry-meets {r} e =
+      meets-sooner (q .minute)
+      (omega (
+        arith,
+        ap (λ w. w .minute) is,
+        boards-minute (e .first .ride) (e .window .stop) (e .window .minute) (window-boards (e .window) (e .first .ride) (e .in-window)),
+      ))
+      (λ s there opens. can-board (s .ride) (q .source) (e .first .ride .departs) (boards-stop (s .ride) (q .source) (q .minute) opens)
+      (omega (
+        arith,
+        window-until (e .window) (e .first .ride) (e .in-window),
+        ap (λ w. w .until) is,
+        taken-after chosen (extract (q .target) windows chosen) (for-ordered t timely (q .target) (p .bound))
+            (λ v among. extract-member (q .target) chosen windows among) (q .source) (q .minute) (found .1) (e .delayed) s there opens,
+      )))
+      (subst (λ (stop : ℕ). Meets r (e .sailed) stop (e .first .ride .departs)) (ap (λ w. w .stop) is) (e .meets))
+    where
+      found :
+          (v : Valued) × (firstOpen chosen (q .source) (q .minute) ≡ some v)
+          × (e .window ≡ record { stop = q .source; minute = q .minute; until = v .ride .departs })
+      found = up-to-is (q .source) (q .minute) (firstOpen chosen (q .source) (q .minute)) (e .among)
+
+      is : e .window ≡ record { stop = q .source; minute = q .minute; until = found .0 .ride .departs }
+      is = found .2
+
+  pub plan-boards :
+      (v : Valued) → List·Memᴰ v (p .rides)
+      → (sailed : List Sailed) × List·Memᴰ sailed (choices (ridesOf (p .rides))) × Boards (q .target) sailed (start q) (v .ride)
+  unfolding chosen windows ridesFrom
+  plan-boards v among = (
+    e .sailed,
+    delayed-choice delayed,
+    meets-boards (q .target) (e .sailed)
+        (subst (AllTimed (q .target)) (sym (delayed-rides delayed))
+        (forward-timed (safe-forward timely q (p .bound) (ridesOf (p .rides)) (plan-safe t timely q p made) (plan-rising t timely q p made))))
+        (start q) (entry-meets e),
+  )
+    where
+      e : Entry windows chosen (extract (q .target) windows chosen) (v .ride)
+      e =
+          entries (q .target) chosen (for-ordered t timely (q .target) (p .bound)) some-share windows v
+          (subst (List·Memᴰ v) (made .holds) among)
+
+      delayed : Delayed (ridesOf (p .rides)) (e .sailed)
+      delayed = subst (λ (l : List Valued). Delayed (ridesOf l) (e .sailed)) (sym (made .holds)) (e .delayed)
+
+-- the plan's latest minute is that of its rides
+pub plan-last : (t : Timetable) (q : Query) (p : Plan) → planned t q ≡ some p → p .last ≡ latestOf (p .rides)
+unfolding planned planBefore planWithin
+plan-last t q p is-planned = before (earliest t q) is-planned
+  where
+    within : (bound : ℕ) (first : Option Valued) → planWithin t q bound first ≡ some p → p .last ≡ latestOf (p .rides)
+    within bound none e = absent e
+    within bound (some first) e = subst (λ (x : Plan). x .last ≡ latestOf (x .rides)) (same-thing e) refl
+
+    before : (end : Option ℕ) → planBefore t q end ≡ some p → p .last ≡ latestOf (p .rides)
+    before none e = absent e
+    before (some end) e =
+        within (boundOf q end) (firstOpen (chosenFor t (q .target) (boundOf q end)) (q .source) (q .minute)) e

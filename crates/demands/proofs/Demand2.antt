@@ -1,0 +1,109 @@
+-- Demand 2: the plan is the minimum expected arrival plan, and there is none exactly if there is no safe journey.
+use Prim.Native.Nat.{ℕ, _≤_, _<_}
+use mathlib.Core.List.{List, List·Memᴰ}
+use mathlib.Core.Bool.{true}
+use lib.ListN.{length}
+use mathlib.Core.Logic.{_↔_, _≢_}
+use mathlib.Core.Option.{none, some}
+use mathlib.Core.Path.{_≡_}
+use Rattle.timetable.specs.Timetable.{Timetable, rowOf}
+use Rattle.plans.specs.Sound.{Timely}
+use Rattle.plans.specs.declared.Query.{Query}
+use Rattle.plans.specs.Rides.{Ride, latest, opens}
+use Rattle.plans.specs.Journeys.{Journey, IsEarliest, boundOf}
+use Rattle.plans.specs.Worth.{Valued, valued, firstOpen}
+use Rattle.plans.specs.Plan.{Plan, planned, earliest, chosenFor}
+use Rattle.demands.specs.SafePlan.{SafePlan, Rising, expectedOf}
+use Rattle.demands.specs.Words.{Chosen, InPlan, HasWorth, bestRide}
+use Rattle.demands.specs.RowWords.{OpenWay, LeastWay, StaysAboard}
+use Rattle.plans.proofs.EarliestSafe.{earliest-is-least, no-earliest}
+use Rattle.demands.proofs.PlanExists.{CodeStands, plan-exists, bound-real}
+use Rattle.demands.proofs.ChosenWords.{chosen-in-words, first-chosen-least}
+use Rattle.demands.proofs.RowWorth.{worth-in-words, no-worth, stays-aboard}
+use Rattle.demands.proofs.PlanIsSafe.{ridesOf, plan-safe, plan-rising, plan-valued, plan-expected, plan-last}
+use Rattle.demands.proofs.PlanSet.{plan-set}
+use Rattle.demands.proofs.Optimal.{expected-stands, plan-least}
+use Rattle.demands.proofs.Sorting.{sorted, safe-sorted}
+use Rattle.plans.proofs.Made.{plan-made}
+
+module _ (t : Timetable) (timely : Timely t) (q : Query) where
+  -- the earliest safe arrival E is the least a + M of a last ride, and a safe journey reaches it
+  pub earliest-safe : (e : ℕ) → earliest t q ≡ some e → IsEarliest t q e
+  earliest-safe = earliest-is-least t timely q
+
+  pub no-earliest-safe : q .source ≢ q .target → earliest t q ≡ none → (end : ℕ) → Journey t q end → ⊥
+  no-earliest-safe = no-earliest t timely q
+
+  -- "no safe journey" exactly if none exists
+  pub no-safe-journey : CodeStands (q .code) → q .source ≢ q .target → (planned t q ≡ none) ↔ ((end : ℕ) → Journey t q end → ⊥)
+  no-safe-journey = plan-exists t timely q
+
+  -- a real bound does not lie before E and is never 0, which stands for none
+  pub bound-stands : (e : ℕ) → earliest t q ≡ some e → 4 ≤ q .code → (e ≤ boundOf q e) × (0 < boundOf q e)
+  bound-stands = bound-real t timely q
+
+  -- a row's worth is the least over getting off and staying on; it has none if none of these is open
+  pub row-worth : (bound i : ℕ) → i < length (t .rows) → (w : ℕ) → HasWorth t (q .target) bound i w ↔ LeastWay t (q .target) bound i w
+  row-worth bound = worth-in-words t timely (q .target) bound
+
+  pub no-row-worth : (bound i : ℕ) → i < length (t .rows) → (bestRide t (q .target) bound i ≡ none) ↔ ((w : ℕ) → OpenWay t (q .target) bound i w → ⊥)
+  no-row-worth bound = no-worth t timely (q .target) bound
+
+  -- its ride stays aboard while the next row's worth equals the boarded row's
+  pub ride-leaves : (bound i : ℕ) → i < length (t .rows) → (v : Valued) → bestRide t (q .target) bound i ≡ some v → StaysAboard t (q .target) bound v
+  ride-leaves bound = stays-aboard t timely (q .target) bound
+
+  -- the chosen rows are those of document 01
+  pub chosen-rows :
+      (bound : ℕ) (v : Valued) → List·Memᴰ v (chosenFor t (q .target) bound)
+      ↔ (Chosen t (q .target) bound (v .ride .board) × (bestRide t (q .target) bound (v .ride .board) ≡ some v))
+  chosen-rows bound = chosen-in-words t (q .target) bound timely
+
+  -- who can board a row finds a first chosen row that is worth no more
+  pub first-chosen :
+      (bound i w s m : ℕ) → HasWorth t (q .target) bound i w → opens (rowOf (t .rows) i .board) (rowOf (t .rows) i .departure) s m ≡ true
+      → s ≢ q .target
+      → (v : Valued) × (firstOpen (chosenFor t (q .target) bound) s m ≡ some v) × (v .worth ≤ w)
+  first-chosen bound = first-chosen-least t (q .target) bound timely
+
+  module _ (p : Plan) (is-plan : planned t q ≡ some p) where
+    -- its bound is that of E
+    pub bounded : (e : ℕ) × IsEarliest t q e × (p .bound ≡ boundOf q e)
+    bounded = let made = plan-made t q p is-plan in (made .end, earliest-is-least t timely q (made .end) (made .reached), made .bounded)
+
+    -- it is a safe plan within that bound, by boarding row rising
+    pub safe-plan : SafePlan t q (p .bound) (ridesOf (p .rides))
+    safe-plan = plan-safe t timely q p (plan-made t q p is-plan)
+
+    pub rising : Rising (ridesOf (p .rides))
+    rising = plan-rising t timely q p (plan-made t q p is-plan)
+
+    -- its worths and its expected arrival are those that its own rides give
+    pub own-worths : valued (q .target) (ridesOf (p .rides)) ≡ p .rides
+    own-worths = plan-valued t timely q p (plan-made t q p is-plan)
+
+    pub own-expected : expectedOf q (ridesOf (p .rides)) ≡ some (p .expected)
+    own-expected = plan-expected t timely q p (plan-made t q p is-plan)
+
+    -- its rides are those of document 01 and nothing else
+    pub its-rides : (v : Valued) → List·Memᴰ v (p .rides) ↔ InPlan q (chosenFor t (q .target) (p .bound)) v
+    its-rides = plan-set t timely q p (plan-made t q p is-plan)
+
+    -- its latest minute is the largest a + M of its rides
+    pub latest-minute :
+        ((v : Valued) → List·Memᴰ v (p .rides) → latest (v .ride) ≤ p .last) × ((v : Valued) × List·Memᴰ v (p .rides) × (latest (v .ride) ≡ p .last))
+    latest-minute = plan-last t timely q p (plan-made t q p is-plan)
+
+    -- no safe plan within the same bound has a smaller expected arrival
+    pub minimum : (rides : List Ride) → SafePlan t q (p .bound) rides → Rising rides → (x : ℕ) → expectedOf q rides ≡ some x → p .expected ≤ x
+    minimum = plan-least t timely q p (plan-made t q p is-plan)
+
+  -- every safe plan has an expected arrival
+  pub has-expected : (bound : ℕ) (rides : List Ride) → SafePlan t q bound rides → (x : ℕ) × (expectedOf q rides ≡ some x)
+  has-expected = expected-stands t timely q
+
+  -- a set of rides in any order is such a list by boarding row rising
+  pub any-order :
+      (bound : ℕ) (rides : List Ride) → SafePlan t q bound rides
+      → SafePlan t q bound (sorted rides) × Rising (sorted rides) × ((r : Ride) → List·Memᴰ r (sorted rides) ↔ List·Memᴰ r rides)
+  any-order = safe-sorted t q

@@ -1,0 +1,23 @@
+-- Demands 2 and 3, and the laws that lead to them.
+pub mod Boarded
+pub mod Choices
+pub mod ChosenWords
+pub mod Course
+pub mod Demand2
+pub mod Demand3
+pub mod EveryRide
+pub mod Forward
+pub mod Means
+pub mod Meeting
+pub mod Optimal
+pub mod PlanSet
+pub mod Reached
+pub mod RowNumbers
+pub mod RowWorth
+pub mod Safe
+pub mod Sandwich
+pub mod Sorting
+pub mod Walked
+pub mod PlanExists
+pub mod PlanIsSafe
+pub mod LastMinute

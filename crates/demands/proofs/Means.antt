@@ -1,0 +1,77 @@
+-- Sums over delays, and that a ride is worth the mean of what its landings are worth, rounded up once. Assumes nothing.
+use Prim.Native.Nat.{ℕ, suc, _+_, _*_, _≤_}
+use mathlib.Core.Bool.{cond}
+use mathlib.Core.List.{List, [], _∷_}
+use mathlib.Core.Path.{_≡_, refl, sym, _∙_, ap}
+use native.Mathlib.Nat.{add-zero}
+use native.Mathlib.Omega.{arith}
+use lib.Dec.{eqb}
+use Rattle.laws.proofs.Tests.{ifb}
+use Rattle.timetable.specs.Classes.{sum, whole}
+use Rattle.plans.specs.Rides.{Ride}
+use Rattle.plans.specs.Worth.{ticks, up, weigh, Valued, caught, arrivalWorth, changeWorth, landWorth}
+
+pub weigh-scale : (shares : List ℕ) (a k : ℕ) (f : ℕ → ℕ) → weigh shares a (λ m. k * f m) ≡ k * weigh shares a f
+unfolding weigh
+weigh-scale [] a k f = omega arith
+weigh-scale (p ∷ shares) a k f = omega (arith, weigh-scale shares (suc a) k f)
+
+pub weigh-add :
+    (shares : List ℕ) (a : ℕ) (f g : ℕ → ℕ) → weigh shares a (λ m. f m + g m) ≡ weigh shares a f + weigh shares a g
+unfolding weigh
+weigh-add [] a f g = omega arith
+weigh-add (p ∷ shares) a f g = omega (arith, weigh-add shares (suc a) f g)
+
+-- the shares add up
+pub weigh-constant : (shares : List ℕ) (a c : ℕ) → weigh shares a (λ m. c) ≡ sum shares * c
+unfolding weigh sum
+weigh-constant [] a c = omega arith
+weigh-constant (p ∷ shares) a c = omega (arith, weigh-constant shares (suc a) c)
+
+pub weigh-shift : (shares : List ℕ) (a v : ℕ) (f : ℕ → ℕ) → weigh shares (a + v) f ≡ weigh shares v (λ w. f (a + w))
+unfolding weigh
+weigh-shift [] a v f = refl
+weigh-shift (p ∷ shares) a v f =
+    ap (λ rest. p * f (a + v) + rest) (ap (λ m. weigh shares m f) (omega arith) ∙ weigh-shift shares a (suc v) f)
+
+-- rounding up adds less than one
+pub up-reaches : (n : ℕ) → n ≤ whole * up whole n
+up-reaches n = omega arith
+
+pub up-loses : (n : ℕ) → whole * up whole n ≤ n + 4095
+up-loses n = omega arith
+
+-- at the target the minute itself counts, elsewhere the ride caught
+unfoldable pub standingWorth : ℕ → List Valued → ℕ → ℕ → ℕ
+standingWorth target behind stop minute = cond (eqb stop target) (ticks * minute) (caught behind stop minute)
+
+-- the mean minute is the arrival and the mean delay
+pub weigh-minutes :
+    (shares : List ℕ) (a : ℕ) → weigh shares a (λ m. ticks * m) ≡ ticks * (sum shares * a + weigh shares 0 (λ v. v))
+weigh-minutes shares a =
+    weigh-scale shares a ticks (λ m. m)
+    ∙ ap (λ x. ticks * x)
+    (ap (λ m. weigh shares m (λ m. m)) (sym (add-zero a)) ∙ weigh-shift shares a 0 (λ m. m)
+    ∙ weigh-add shares 0 (λ v. a) (λ v. v) ∙ ap (λ x. x + weigh shares 0 (λ v. v)) (weigh-constant shares 0 a))
+
+-- 256a + (sum of delay × share)/16 is the sum of share × 256(a + delay), divided by 4,096 and rounded up
+pub arrival-mean :
+    (r : Ride) → sum (r .shares) ≡ whole → arrivalWorth r ≡ up whole (weigh (r .shares) (r .arrives) (λ minute. ticks * minute))
+unfolding arrivalWorth
+arrival-mean r full =
+    omega (
+      arith,
+      weigh-minutes (r .shares) (r .arrives) ∙ ap (λ n. ticks * (n * r .arrives + weigh (r .shares) 0 (λ v. v))) full,
+    )
+
+-- every ride is worth the mean of what its landings are worth, rounded up once
+pub land-mean :
+    (target : ℕ) (r : Ride) (behind : List Valued) → sum (r .shares) ≡ whole
+    → landWorth target r behind ≡ up whole (weigh (r .shares) (r .arrives) (standingWorth target behind (r .to)))
+unfolding landWorth changeWorth standingWorth
+land-mean target r behind full =
+    ifb (
+    λ b.
+    cond b (arrivalWorth r) (changeWorth r behind)
+    ≡ up whole (weigh (r .shares) (r .arrives) (λ m. cond b (ticks * m) (caught behind (r .to) m))))
+    (eqb (r .to) target) (λ ends. arrival-mean r full) (λ goes-on. refl)

@@ -1,0 +1,119 @@
+-- Whatever the delays, a ride is always there until the target is reached, by the latest minute. Assumes nothing.
+use Prim.Native.Nat.{ℕ, zero, suc, _+_, _≤_, _<_, max}
+use mathlib.Core.Bool.{true, cond, false≢true}
+use mathlib.Core.List.{List, [], _∷_, List·Memᴰ, List·Memᴰ·head, List·Memᴰ·tail, List·Memᴰ·not-nil, Memᴰ·map}
+use mathlib.Core.Logic.{_≢_}
+use mathlib.Core.Option.{Option, none, some}
+use mathlib.Core.Path.{_≡_, refl, sym, _∙_, ap, subst}
+use native.Mathlib.Nat.{le-trans, le-max-left, le-max-right}
+use native.Mathlib.Omega.{arith}
+use lib.Dec.{eqb}
+use lib.ListN.{length}
+use Rattle.laws.proofs.Tests.{ifb, T-true}
+use Rattle.plans.specs.Rides.{Ride, boards, latest}
+use Rattle.plans.specs.Worth.{Valued}
+use Rattle.plans.specs.Plan.{latestOf}
+use Rattle.demands.specs.Walk.{Sailed, Standing, firstSailed, landed, step, steps}
+use Rattle.demands.proofs.Forward.{Served, over, onward, Forward, served-sooner, served-behind, delay-latest}
+use Rattle.demands.proofs.Course.{ridesSailed, course, found-sailed, steps-keep}
+
+-- delays from 0 to M
+abbrev pub InRange : List Sailed → Type 0
+InRange sailed = (s : Sailed) → List·Memᴰ s sailed → s .delay < length (s .ride .shares)
+
+-- the course ends at the target
+pub course-reaches :
+    (target : ℕ) (sailed : List Sailed) → Forward target (ridesSailed sailed) → InRange sailed → (at : Standing)
+    → Served target (ridesSailed sailed) (at .stop) (at .minute) → course sailed at .stop ≡ target
+unfolding course landed
+course-reaches target [] forward ranged at (over there) = there
+course-reaches target [] forward ranged at (onward next among opens) = absurd (List·Memᴰ·not-nil among)
+course-reaches target (s ∷ sailed) (Forward.one timed goes-on rest) ranged at served =
+    ifb (λ b. cond b (course sailed (landed at (some s))) (course sailed at) .stop ≡ target)
+    (boards (s .ride) (at .stop) (at .minute))
+    (λ opens.
+    course-reaches target sailed rest behind (landed at (some s))
+    (served-sooner (s .ride .arrives + s .delay) (delay-latest (s .ride) (s .delay) (ranged s (List·Memᴰ·head refl))) goes-on))
+    (λ shut. course-reaches target sailed rest behind at (served-behind shut served))
+  where
+    behind : InRange sailed
+    behind u there = ranged u (List·Memᴰ·tail there)
+
+-- wherever one lands in the plan, one is served
+pub steps-served :
+    (target : ℕ) (sailed : List Sailed) → InRange sailed
+    → ((r : Ride) → List·Memᴰ r (ridesSailed sailed) → Served target (ridesSailed sailed) (r .to) (latest r)) → (k : ℕ) (at : Standing)
+    → Served target (ridesSailed sailed) (at .stop) (at .minute)
+    → Served target (ridesSailed sailed) (steps target sailed k at .stop) (steps target sailed k at .minute)
+unfolding landed
+steps-served target sailed ranged goes-on =
+    steps-keep (λ at. Served target (ridesSailed sailed) (at .stop) (at .minute)) target sailed lands
+  where
+    lands :
+        (at : Standing) (s : Sailed) → Served target (ridesSailed sailed) (at .stop) (at .minute)
+        → firstSailed sailed (at .stop) (at .minute) ≡ some s
+        → Served target (ridesSailed sailed) (landed at (some s) .stop) (landed at (some s) .minute)
+    lands at s served found =
+        let there = found-sailed sailed (at .stop) (at .minute) found .0 in
+        served-sooner (s .ride .arrives + s .delay) (delay-latest (s .ride) (s .delay) (ranged s there))
+        (goes-on (s .ride) (Memᴰ·map (λ x. x .ride) there))
+
+-- one who is served away from the target finds a ride
+find :
+    (sailed : List Sailed) (stop minute : ℕ) (next : Ride) → List·Memᴰ next (ridesSailed sailed) → boards next stop minute ≡ true
+    → (s : Sailed) × (firstSailed sailed stop minute ≡ some s)
+unfolding firstSailed
+find [] stop minute next among opens = absurd (List·Memᴰ·not-nil among)
+find (u ∷ sailed) stop minute next (List·Memᴰ·head same) opens =
+    ifb (λ b. boards (u .ride) stop minute ≡ b → (s : Sailed) × (cond b (some u) (firstSailed sailed stop minute) ≡ some s))
+    (boards (u .ride) stop minute) (λ here _. (u, refl))
+    (λ shut _. absurd (false≢true (sym shut ∙ ap (λ x. boards x stop minute) (sym same) ∙ opens))) refl
+find (u ∷ sailed) stop minute next (List·Memᴰ·tail among) opens =
+    ifb (λ b. (s : Sailed) × (cond b (some u) (firstSailed sailed stop minute) ≡ some s)) (boards (u .ride) stop minute)
+    (λ here. (u, refl)) (λ shut. find sailed stop minute next among opens)
+
+pub served-finds :
+    {target : ℕ} (sailed : List Sailed) (stop minute : ℕ) → Served target (ridesSailed sailed) stop minute → stop ≢ target
+    → (s : Sailed) × (firstSailed sailed stop minute ≡ some s)
+served-finds sailed stop minute (over there) elsewhere = absurd (elsewhere there)
+served-finds sailed stop minute (onward next among opens) elsewhere = find sailed stop minute next among (T-true opens)
+
+-- nobody lands later than the latest minute
+pub steps-in-time :
+    (target last : ℕ) (sailed : List Sailed) → InRange sailed → ((r : Ride) → List·Memᴰ r (ridesSailed sailed) → latest r ≤ last)
+    → (k : ℕ) (at : Standing) → at .minute ≤ last → steps target sailed k at .minute ≤ last
+unfolding landed
+steps-in-time target last sailed ranged by-last = steps-keep (λ at. at .minute ≤ last) target sailed lands
+  where
+    lands :
+        (at : Standing) (s : Sailed) → at .minute ≤ last → firstSailed sailed (at .stop) (at .minute) ≡ some s
+        → landed at (some s) .minute ≤ last
+    lands at s before found =
+        let there = found-sailed sailed (at .stop) (at .minute) found .0 in
+        le-trans (delay-latest (s .ride) (s .delay) (ranged s there)) (by-last (s .ride) (Memᴰ·map (λ x. x .ride) there))
+
+-- a landing boards one ride at most
+pub steps-count :
+    (target : ℕ) (sailed : List Sailed) (k : ℕ) (at : Standing) → steps target sailed k at .boarded ≤ at .boarded + k
+unfolding steps step landed
+steps-count target sailed zero at = omega arith
+steps-count target sailed (suc k) at =
+    omega (arith, steps-count target sailed k (step target sailed at), one-more)
+  where
+    go : (o : Option Sailed) → landed at o .boarded ≤ suc (at .boarded)
+    go none = omega arith
+    go (some s) = omega arith
+
+    one-more : step target sailed at .boarded ≤ suc (at .boarded)
+    one-more =
+        ifb (λ b. cond b at (landed at (firstSailed sailed (at .stop) (at .minute))) .boarded ≤ suc (at .boarded))
+        (eqb (at .stop) target) (λ there. omega arith) (λ onward. go (firstSailed sailed (at .stop) (at .minute)))
+
+-- each ride lands by the plan's latest minute
+pub latest-most : (vs : List Valued) (v : Valued) → List·Memᴰ v vs → latest (v .ride) ≤ latestOf vs
+unfolding latestOf
+latest-most (u ∷ vs) v (List·Memᴰ·head same) =
+    subst (λ (x : Valued). latest (x .ride) ≤ max (latest (u .ride)) (latestOf vs)) (sym same)
+    (le-max-left (latest (u .ride)) (latestOf vs))
+latest-most (u ∷ vs) v (List·Memᴰ·tail among) =
+    le-trans (latest-most vs v among) (le-max-right (latest (u .ride)) (latestOf vs))

@@ -1,0 +1,84 @@
+-- A plan's worth depends on its rides' stops, minutes and shares, and not on row numbers. Assumes nothing.
+use Prim.Native.Nat.{ℕ}
+use mathlib.Core.Bool.{cond}
+use mathlib.Core.List.{List, [], _∷_, map, map-map}
+use mathlib.Core.Option.{Option, none, some}
+use mathlib.Core.Path.{_≡_, refl, sym, _∙_, ap, ap₂, fun-ext}
+use lib.Dec.{eqb}
+use Rattle.laws.proofs.Tests.{ifb}
+use Rattle.timetable.specs.Classes.{whole}
+use Rattle.plans.specs.declared.Query.{Query}
+use Rattle.plans.specs.Rides.{Ride, boards}
+use Rattle.plans.specs.Worth.{Valued, up, weigh, firstOpen, caught, worthOr, arrivalWorth, changeWorth, landWorth, valued}
+use Rattle.plans.specs.Chosen.{worthOf}
+use Rattle.demands.specs.SafePlan.{expectedOf}
+
+-- a ride without its row numbers
+abbrev pub unnumbered : Ride → Ride
+unnumbered r =
+    record {
+      board = 0;
+      leave = 0;
+      from = r .from;
+      departs = r .departs;
+      to = r .to;
+      arrives = r .arrives;
+      shares = r .shares;
+    }
+
+abbrev bare : Valued → Valued
+bare v = record { ride = unnumbered (v .ride); worth = v .worth }
+
+first-worth : (vs : List Valued) (stop minute : ℕ) → worthOf (firstOpen (map bare vs) stop minute) ≡ worthOf (firstOpen vs stop minute)
+unfolding firstOpen worthOf
+first-worth [] stop minute = refl
+first-worth (v ∷ vs) stop minute =
+    ifb
+    (λ b. worthOf (cond b (some (bare v)) (firstOpen (map bare vs) stop minute)) ≡ worthOf (cond b (some v) (firstOpen vs stop minute)))
+    (boards (v .ride) stop minute) (λ opens. refl) (λ shut. first-worth vs stop minute)
+
+-- the worth caught is read from the option's worth
+caught-worth : (vs us : List Valued) (stop minute : ℕ) → worthOf (firstOpen vs stop minute) ≡ worthOf (firstOpen us stop minute) → caught vs stop minute ≡ caught us stop minute
+unfolding caught worthOr worthOf
+caught-worth vs us stop minute e = through (firstOpen vs stop minute) ∙ ap or-zero e ∙ sym (through (firstOpen us stop minute))
+  where
+    or-zero : Option ℕ → ℕ
+    or-zero none = 0
+    or-zero (some w) = w
+
+    through : (o : Option Valued) → worthOr 0 o ≡ or-zero (worthOf o)
+    through none = refl
+    through (some v) = refl
+
+land-bare : (target : ℕ) (r : Ride) (behind : List Valued) → landWorth target (unnumbered r) (map bare behind) ≡ landWorth target r behind
+unfolding landWorth changeWorth arrivalWorth
+land-bare target r behind =
+    ap (λ f. cond (eqb (r .to) target) (arrivalWorth r) (up whole (weigh (r .shares) (r .arrives) f)))
+    (fun-ext (λ minute. caught-worth (map bare behind) behind (r .to) minute (first-worth behind (r .to) minute)))
+
+valued-bare : (target : ℕ) (rides : List Ride) → valued target (map unnumbered rides) ≡ map bare (valued target rides)
+unfolding valued
+valued-bare target [] = refl
+valued-bare target (r ∷ rides) =
+    ap₂ (λ w behind. record { ride = unnumbered r; worth = w } ∷ behind)
+    (ap (landWorth target (unnumbered r)) (valued-bare target rides) ∙ land-bare target r (valued target rides)) (valued-bare target rides)
+
+-- rides that agree but for their row numbers have the same worths, one by one
+pub same-worths :
+    (target : ℕ) (rides others : List Ride) → map unnumbered rides ≡ map unnumbered others
+    → map (λ v. v .worth) (valued target rides) ≡ map (λ v. v .worth) (valued target others)
+same-worths target rides others same =
+    sym (worths rides) ∙ ap (λ x. map (λ v. v .worth) (valued target x)) same ∙ worths others
+  where
+    worths : (x : List Ride) → map (λ v. v .worth) (valued target (map unnumbered x)) ≡ map (λ v. v .worth) (valued target x)
+    worths x = ap (map (λ v. v .worth)) (valued-bare target x) ∙ map-map (λ v. v .worth) bare (valued target x)
+
+-- and plans of such rides the same expected arrival
+pub same-expected : (q : Query) (rides others : List Ride) → map unnumbered rides ≡ map unnumbered others → expectedOf q rides ≡ expectedOf q others
+unfolding expectedOf
+same-expected q rides others same = sym (expects rides) ∙ ap (expectedOf q) same ∙ expects others
+  where
+    expects : (x : List Ride) → expectedOf q (map unnumbered x) ≡ expectedOf q x
+    expects x =
+        ap (λ vs. worthOf (firstOpen vs (q .source) (q .minute))) (valued-bare (q .target) x)
+        ∙ first-worth (valued (q .target) x) (q .source) (q .minute)

@@ -1,0 +1,260 @@
+-- The mean arrival over all delays lies within the expected ticks, less than one tick a ride below. Assumes nothing.
+use Prim.Native.Nat.{ℕ, suc, _+_, _-_, _*_, _^_, _≤_, _<_}
+use mathlib.Core.Bool.{Bool, true, false, cond}
+use mathlib.Core.List.{List, [], _∷_, List·Memᴰ·not-nil}
+use mathlib.Core.Logic.{_≢_}
+use mathlib.Core.Option.{none, some}
+use mathlib.Core.Path.{_≡_, refl, sym, _∙_, ap, subst}
+use native.Mathlib.Nat.{mul-le-mul-left, add-zero, pow-succ', one-le-pow, le-trans, le-of-eq}
+use native.Mathlib.Omega.{arith}
+use borrow.Author.Tests.{eq-eqb, ne-eqb}
+use lib.Dec.{eqb}
+use lib.ListN.{length}
+use Rattle.laws.proofs.Tests.{ifb, cond-true, cond-false}
+use Rattle.timetable.specs.Classes.{sum, whole}
+use Rattle.plans.specs.Rides.{Ride, boards}
+use Rattle.plans.specs.Worth.{ticks, up, weigh, firstOpen, worthOr, caught, landWorth, valued}
+use Rattle.demands.specs.Walk.{Sailed, Standing, landed}
+use Rattle.plans.proofs.Weighing.{weigh-less}
+use Rattle.demands.proofs.Means.{standingWorth, weigh-scale, weigh-add, weigh-constant, weigh-shift, up-reaches, up-loses, land-mean}
+use Rattle.demands.proofs.Choices.{Delayed, late, total, total-cons, total-nil}
+use Rattle.demands.proofs.Forward.{Timed, Served, over, onward, Forward, served-sooner, served-behind, landing-latest}
+use Rattle.plans.proofs.Open.{boards-stop}
+use Rattle.demands.proofs.Course.{course}
+
+-- the sum over all choices of weight × ticks at the end, for one who stands there
+unfoldable pub mean : List Ride → Standing → ℕ
+mean rides at = total (λ sailed. ticks * course sailed at .minute) rides
+
+mean-end : (at : Standing) → mean [] at ≡ ticks * at .minute
+unfolding mean course
+mean-end at = total-nil (λ sailed. ticks * course sailed at .minute)
+
+-- where one stands after a ride that landed at this minute
+abbrev off : Standing → Ride → ℕ → Standing
+off at r minute = record { stop = r .to; minute = minute; boarded = suc (at .boarded) }
+
+mean-boards :
+    (r : Ride) (behind : List Ride) (at : Standing) → boards r (at .stop) (at .minute) ≡ true
+    → mean (r ∷ behind) at ≡ weigh (r .shares) (r .arrives) (λ minute. mean behind (off at r minute))
+unfolding mean course landed
+mean-boards r behind at opens =
+    total-cons (λ sailed. ticks * course sailed at .minute) r behind
+    ∙ ap (λ b. weigh (r .shares) 0
+    (λ v. total (λ sailed. ticks * cond b (course sailed (off at r (r .arrives + v))) (course sailed at) .minute) behind)) opens
+    ∙ sym (weigh-shift (r .shares) (r .arrives) 0 (λ minute. mean behind (off at r minute)))
+    ∙ ap (λ a. weigh (r .shares) a (λ minute. mean behind (off at r minute))) (add-zero (r .arrives))
+
+mean-passes :
+    (r : Ride) (behind : List Ride) (at : Standing) → sum (r .shares) ≡ whole → boards r (at .stop) (at .minute) ≡ false
+    → mean (r ∷ behind) at ≡ whole * mean behind at
+unfolding mean course landed
+mean-passes r behind at full shut =
+    total-cons (λ sailed. ticks * course sailed at .minute) r behind
+    ∙ ap (λ b. weigh (r .shares) 0
+    (λ v. total (λ sailed. ticks * cond b (course sailed (off at r (r .arrives + v))) (course sailed at) .minute) behind)) shut
+    ∙ weigh-constant (r .shares) 0 (mean behind at) ∙ ap (λ n. n * mean behind at) full
+
+-- what standing there is worth by the plan's own worths
+abbrev pub worthAt : ℕ → List Ride → Standing → ℕ
+worthAt target rides at = standingWorth target (valued target rides) (at .stop) (at .minute)
+
+worth-boards :
+    (target : ℕ) (r : Ride) (behind : List Ride) (at : Standing) → Timed target r behind → boards r (at .stop) (at .minute) ≡ true
+    → worthAt target (r ∷ behind) at ≡ up whole (weigh (r .shares) (r .arrives) (λ minute. worthAt target behind (off at r minute)))
+unfolding standingWorth caught worthOr firstOpen valued
+worth-boards target r behind at timed opens =
+    cond-false (ticks * at .minute) (caught (valued target (r ∷ behind)) (at .stop) (at .minute))
+    (ne-eqb (at .stop) target (λ there. timed .off-target (boards-stop r (at .stop) (at .minute) opens ∙ there)))
+    ∙ ap (worthOr 0)
+    (cond-true (some (record { ride = r; worth = landWorth target r (valued target behind) }))
+    (firstOpen (valued target behind) (at .stop) (at .minute)) opens)
+    ∙ land-mean target r (valued target behind) (timed .full)
+
+worth-passes :
+    (target : ℕ) (r : Ride) (behind : List Ride) (at : Standing) → boards r (at .stop) (at .minute) ≡ false
+    → worthAt target (r ∷ behind) at ≡ worthAt target behind at
+unfolding standingWorth caught firstOpen valued
+worth-passes target r behind at shut =
+    ap (λ o. cond (eqb (at .stop) target) (ticks * at .minute) (worthOr 0 o))
+    (cond-false (some (record { ride = r; worth = landWorth target r (valued target behind) }))
+    (firstOpen (valued target behind) (at .stop) (at .minute)) shut)
+
+worth-over : (target : ℕ) (rides : List Ride) (at : Standing) → at .stop ≡ target → worthAt target rides at ≡ ticks * at .minute
+unfolding standingWorth
+worth-over target rides at there =
+    cond-true (ticks * at .minute) (caught (valued target rides) (at .stop) (at .minute)) (eq-eqb (at .stop) target there)
+
+-- the delays of a ride, where its landings are served
+Landings : (r : Ride) → (ℕ → Type 0) → Type 0
+Landings r P = (minute : ℕ) → r .arrives ≤ minute → minute < r .arrives + length (r .shares) → P minute
+
+-- A ≤ 4,096^R × X: rounding up only adds
+board-within :
+    (target : ℕ) (r : Ride) (behind : List Ride) (at : Standing) → Timed target r behind → boards r (at .stop) (at .minute) ≡ true
+    → Landings r (λ minute. mean behind (off at r minute) ≤ whole ^ length behind * worthAt target behind (off at r minute))
+    → mean (r ∷ behind) at ≤ whole ^ suc (length behind) * worthAt target (r ∷ behind) at
+unfolding Landings
+board-within target r behind at timed opens each =
+    rw (mean-boards r behind at opens, worth-boards target r behind at timed opens, pow-succ' whole (length behind))
+    (round (whole ^ length behind) (weigh (r .shares) (r .arrives) (λ minute. mean behind (off at r minute))) worths
+    (le-trans
+    (weigh-less (r .shares) (r .arrives) (λ minute. mean behind (off at r minute))
+    (λ minute. whole ^ length behind * worthAt target behind (off at r minute)) each)
+    (le-of-eq (weigh-scale (r .shares) (r .arrives) (whole ^ length behind) (λ minute. worthAt target behind (off at r minute))))))
+  where
+    worths : ℕ
+    worths = weigh (r .shares) (r .arrives) (λ minute. worthAt target behind (off at r minute))
+
+    round : (power landings sums : ℕ) → landings ≤ power * sums → landings ≤ whole * power * up whole sums
+    round power landings sums each = omega (arith, mul-le-mul-left power (up-reaches sums))
+
+pass-within :
+    (target : ℕ) (r : Ride) (behind : List Ride) (at : Standing) → Timed target r behind → boards r (at .stop) (at .minute) ≡ false
+    → mean behind at ≤ whole ^ length behind * worthAt target behind at
+    → mean (r ∷ behind) at ≤ whole ^ suc (length behind) * worthAt target (r ∷ behind) at
+pass-within target r behind at timed shut further =
+    rw (mean-passes r behind at (timed .full) shut, worth-passes target r behind at shut, pow-succ' whole (length behind))
+    (omega arith)
+
+pub mean-within :
+    (target : ℕ) {rides : List Ride} → Forward target rides → (at : Standing) → Served target rides (at .stop) (at .minute)
+    → mean rides at ≤ whole ^ length rides * worthAt target rides at
+unfolding Landings
+mean-within target Forward.none at (onward next among opens) = absurd (List·Memᴰ·not-nil among)
+mean-within target Forward.none at (over there) = omega (arith, mean-end at, worth-over target [] at there)
+mean-within target (Forward.one {r = r} {behind = behind} timed goes-on rest) at served =
+    ifb (λ b. mean (r ∷ behind) at ≤ whole ^ suc (length behind) * worthAt target (r ∷ behind) at)
+    (boards r (at .stop) (at .minute))
+    (λ opens. board-within target r behind at timed opens
+    (λ minute from below. mean-within target rest (off at r minute) (served-sooner minute (landing-latest r minute from below) goes-on)))
+    (λ shut. pass-within target r behind at timed shut (mean-within target rest at (served-behind shut served)))
+
+-- under no choice are more rides boarded in all
+abbrev pub AtMostRides : List Ride → Standing → ℕ → Type 0
+AtMostRides rides at most = (sailed : List Sailed) → Delayed rides sailed → course sailed at .boarded ≤ most
+
+-- one away from the target has a ride before him, whose rounding loses less than one
+abbrev gap : ℕ → Standing → ℕ
+gap target at = cond (eqb (at .stop) target) 0 1
+
+gap-one : (target : ℕ) (at : Standing) → gap target at ≤ 1
+gap-one target at = ifb (λ b. cond b 0 1 ≤ 1) (eqb (at .stop) target) (λ _. omega arith) (λ _. omega arith)
+
+-- 4,096^R × (X + rides so far) is at most A + 4,096^R × L, and less where a ride is still to come
+Above : ℕ → List Ride → Standing → ℕ → Type 0
+Above target rides at most =
+    whole ^ length rides * worthAt target rides at + whole ^ length rides * at .boarded + gap target at
+    ≤ mean rides at + whole ^ length rides * most
+
+sums-within :
+    (shares : List ℕ) (a : ℕ) (worths means : ℕ → ℕ) (power b most : ℕ) → sum shares ≡ whole
+    → ((minute : ℕ) → a ≤ minute → minute < a + length shares → power * worths minute + power * b ≤ means minute + power * most)
+    → power * weigh shares a worths + whole * (power * b) ≤ weigh shares a means + whole * (power * most)
+sums-within shares a worths means power b most full each =
+    omega (
+      arith,
+      weigh-less shares a (λ minute. power * worths minute + power * b) (λ minute. means minute + power * most) each,
+      weigh-add shares a (λ minute. power * worths minute) (λ minute. power * b),
+      weigh-scale shares a power worths,
+      weigh-constant shares a (power * b) ∙ ap (λ n. n * (power * b)) full,
+      weigh-add shares a means (λ minute. power * most),
+      weigh-constant shares a (power * most) ∙ ap (λ n. n * (power * most)) full,
+    )
+
+board-above :
+    (target : ℕ) (r : Ride) (behind : List Ride) (at : Standing) (most : ℕ) → Timed target r behind
+    → boards r (at .stop) (at .minute) ≡ true → Landings r (λ minute. Above target behind (off at r minute) most)
+    → Above target (r ∷ behind) at most
+unfolding Landings Above
+board-above target r behind at most timed opens each =
+    rw (mean-boards r behind at opens, worth-boards target r behind at timed opens, pow-succ' whole (length behind))
+    (round (whole ^ length behind) (one-le-pow (length behind) whole (omega arith))
+    (weigh (r .shares) (r .arrives) means) (weigh (r .shares) (r .arrives) worths) (at .boarded) (gap target at) (gap-one target at) summed)
+  where
+    power : ℕ
+    power = whole ^ length behind
+
+    means : ℕ → ℕ
+    means minute = mean behind (off at r minute)
+
+    worths : ℕ → ℕ
+    worths minute = worthAt target behind (off at r minute)
+
+    summed :
+        power * weigh (r .shares) (r .arrives) worths + whole * (power * suc (at .boarded))
+        ≤ weigh (r .shares) (r .arrives) means + whole * (power * most)
+    summed =
+        sums-within (r .shares) (r .arrives) worths means power (suc (at .boarded)) most (timed .full)
+        (λ minute from below. omega (arith, each minute from below))
+
+    round :
+        (n : ℕ) → 1 ≤ n → (landings sums b g : ℕ) → g ≤ 1 → n * sums + whole * (n * suc b) ≤ landings + whole * (n * most)
+        → whole * n * up whole sums + whole * n * b + g ≤ landings + whole * n * most
+    round n positive landings sums b g small each = omega (arith, mul-le-mul-left n (up-loses sums))
+
+pass-above :
+    (target : ℕ) (r : Ride) (behind : List Ride) (at : Standing) (most : ℕ) → Timed target r behind
+    → boards r (at .stop) (at .minute) ≡ false → Above target behind at most → Above target (r ∷ behind) at most
+unfolding Above
+pass-above target r behind at most timed shut further =
+    rw (mean-passes r behind at (timed .full) shut, worth-passes target r behind at shut, pow-succ' whole (length behind))
+    (omega arith)
+
+-- what holds of every choice holds of the choices behind a first ride boarded, or passed over
+most-boarded :
+    (r : Ride) (behind : List Ride) (at : Standing) (most : ℕ) → boards r (at .stop) (at .minute) ≡ true
+    → AtMostRides (r ∷ behind) at most → Landings r (λ minute. AtMostRides behind (off at r minute) most)
+unfolding Landings course landed
+most-boarded r behind at most opens within minute from below sailed delayed =
+    subst (λ (m : ℕ). course sailed (off at r m) .boarded ≤ most) (omega arith)
+    (subst (λ (b : Bool). cond b (course sailed (off at r (r .arrives + (minute - r .arrives)))) (course sailed at) .boarded ≤ most) opens
+    (within (late r (minute - r .arrives) ∷ sailed) (Delayed.one refl (omega arith) delayed)))
+
+some-share : (shares : List ℕ) → sum shares ≡ whole → 0 < length shares
+unfolding sum
+some-share [] full = omega arith
+some-share (p ∷ shares) full = omega arith
+
+most-passed :
+    (r : Ride) (behind : List Ride) (at : Standing) (most : ℕ) → sum (r .shares) ≡ whole → boards r (at .stop) (at .minute) ≡ false
+    → AtMostRides (r ∷ behind) at most → AtMostRides behind at most
+unfolding course landed
+most-passed r behind at most full shut within sailed delayed =
+    subst (λ (b : Bool). cond b (course sailed (off at r (r .arrives + 0))) (course sailed at) .boarded ≤ most) shut
+    (within (late r 0 ∷ sailed) (Delayed.one refl (some-share (r .shares) full) delayed))
+
+mean-above :
+    (target most : ℕ) {rides : List Ride} → Forward target rides → (at : Standing) → Served target rides (at .stop) (at .minute)
+    → AtMostRides rides at most → Above target rides at most
+unfolding Landings Above course
+mean-above target most Forward.none at (onward next among opens) within = absurd (List·Memᴰ·not-nil among)
+mean-above target most Forward.none at (over there) within =
+    omega (
+      arith,
+      mean-end at,
+      worth-over target [] at there,
+      within [] Delayed.none,
+      cond-true {A = ℕ} 0 1 (eq-eqb (at .stop) target there),
+    )
+mean-above target most (Forward.one {r = r} {behind = behind} timed goes-on rest) at served within =
+    ifb (λ b. Above target (r ∷ behind) at most) (boards r (at .stop) (at .minute))
+    (λ opens. board-above target r behind at most timed opens
+    (λ minute from below.
+    mean-above target most rest (off at r minute) (served-sooner minute (landing-latest r minute from below) goes-on)
+    (most-boarded r behind at most opens within minute from below)))
+    (λ shut. pass-above target r behind at most timed shut
+    (mean-above target most rest at (served-behind shut served) (most-passed r behind at most (timed .full) shut within)))
+
+-- 4,096^R × X < A + 4,096^R × L, for one who sets out away from the target
+pub mean-strictly-above :
+    (target most : ℕ) {rides : List Ride} → Forward target rides → (at : Standing) → Served target rides (at .stop) (at .minute)
+    → AtMostRides rides at most → at .stop ≢ target
+    → whole ^ length rides * worthAt target rides at < mean rides at + whole ^ length rides * most
+unfolding Above
+mean-strictly-above target most forward at served within elsewhere =
+    omega (
+      arith,
+      mean-above target most forward at served within,
+      cond-false {A = ℕ} 0 1 (ne-eqb (at .stop) target elsewhere),
+    )

@@ -1,0 +1,6 @@
+-- Document 01's own words for chosen rows, worths and safe plans, and demand 3's passenger.
+pub mod Walk
+pub mod Passenger
+pub mod SafePlan
+pub mod Words
+pub mod RowWords

@@ -1,0 +1,37 @@
+-- Document 01, "Rides, safe journeys, plans": a safe plan, any set of rides that keeps these conditions.
+use Prim.Native.Nat.{ℕ, _<_}
+use mathlib.Core.List.{List, [], _∷_, List·Memᴰ}
+use mathlib.Core.Logic.{_≢_}
+use mathlib.Core.Option.{Option}
+use mathlib.Core.Path.{_≡_}
+use lib.Dec.{T}
+use Rattle.timetable.specs.Timetable.{Timetable}
+use Rattle.plans.specs.declared.Query.{Query}
+use Rattle.plans.specs.Rides.{Ride, IsRide, latest, boards}
+use Rattle.plans.specs.Journeys.{within}
+use Rattle.plans.specs.Worth.{valued, firstOpen}
+use Rattle.plans.specs.Chosen.{worthOf}
+
+-- a finite set of rides, as a list in any order
+pub record SafePlan (t : Timetable) (q : Query) (bound : ℕ) (rides : List Ride) : Type 0 where
+  pub are-rides : (r : Ride) → List·Memᴰ r rides → IsRide t r
+  -- none boards at the target
+  pub none-at-target : (r : Ride) → List·Memᴰ r rides → r .from ≢ q .target
+  -- no two board at one stop in one minute
+  pub no-two : (r r' : Ride) → List·Memᴰ r rides → List·Memᴰ r' rides → r .from ≡ r' .from → r .departs ≡ r' .departs → r ≡ r'
+  -- each has a + M within the bound
+  pub each-within : (r : Ride) → List·Memᴰ r rides → T (within bound (latest r))
+  -- one boards at the source at or after T
+  pub begins : (r : Ride) × List·Memᴰ r rides × T (boards r (q .source) (q .minute))
+  -- after each ride not ending at the target, one boards at its landing stop at or after a + M
+  pub goes-on :
+      (r : Ride) → List·Memᴰ r rides → r .to ≢ q .target → (next : Ride) × List·Memᴰ next rides × T (boards next (r .to) (latest r))
+
+-- by boarding row rising: each such set is such a list
+pub data Rising : List Ride → Type 0 where
+  none : Rising []
+  one : {r : Ride} {rides : List Ride} → ((next : Ride) → List·Memᴰ next rides → r .board < next .board) → Rising rides → Rising (r ∷ rides)
+
+-- Its expected arrival is that of its first ride from the source at or after T
+unfoldable pub expectedOf : Query → List Ride → Option ℕ
+expectedOf q rides = worthOf (firstOpen (valued (q .target) rides) (q .source) (q .minute))

@@ -1,0 +1,86 @@
+-- Demand 3: the passenger's walk through a plan, one landing at a time, under one choice of delays.
+use Prim.Native.Nat.{ℕ, zero, suc, _+_, _*_, max}
+use mathlib.Core.Bool.{Bool, cond}
+use mathlib.Core.List.{List, [], _∷_, _++_, map}
+use mathlib.Core.Logic.{_≢_}
+use mathlib.Core.Option.{Option, none, some}
+use mathlib.Core.Path.{_≡_}
+use lib.Dec.{eqb}
+use lib.ListN.{getD, length}
+use Rattle.timetable.specs.Classes.{sum}
+use Rattle.plans.specs.declared.Query.{Query}
+use Rattle.plans.specs.Rides.{Ride, boards}
+use Rattle.plans.specs.Worth.{ticks}
+
+-- a ride with the delay that it is given
+pub record Sailed : Type 0 where
+  pub ride : Ride
+  pub delay : ℕ
+
+-- where the passenger stands, since when, and after how many rides
+pub record Standing : Type 0 where
+  pub stop : ℕ
+  pub minute : ℕ
+  pub boarded : ℕ
+
+-- the plan's first ride leaving that stop no earlier
+unfoldable pub firstSailed : List Sailed → ℕ → ℕ → Option Sailed
+firstSailed [] stop minute = none
+firstSailed (s ∷ sailed) stop minute =
+    let later = firstSailed sailed stop minute in cond (boards (s .ride) stop minute) (some s) later
+
+unfoldable pub landed : Standing → Option Sailed → Standing
+landed at none = at
+landed at (some s) = record { stop = s .ride .to; minute = s .ride .arrives + s .delay; boarded = suc (at .boarded) }
+
+-- at the target the walk is over; elsewhere the passenger boards and lands
+unfoldable pub step : ℕ → List Sailed → Standing → Standing
+step target sailed at = cond (eqb (at .stop) target) at (landed at (firstSailed sailed (at .stop) (at .minute)))
+
+unfoldable pub steps : ℕ → List Sailed → ℕ → Standing → Standing
+steps target sailed zero at = at
+steps target sailed (suc k) at = steps target sailed k (step target sailed at)
+
+abbrev pub start : Query → Standing
+start q = record { stop = q .source; minute = q .minute; boarded = 0 }
+
+-- as many landings as the plan has rides
+unfoldable pub walked : Query → List Sailed → Standing
+walked q sailed = steps (q .target) sailed (length sailed) (start q)
+
+-- the passenger who stands there boards this ride: after some landings, short of the target, it is the first that can be boarded
+pub record Boards (target : ℕ) (sailed : List Sailed) (at : Standing) (r : Ride) : Type 0 where
+  pub landings : ℕ
+  pub delay : ℕ
+  pub short : steps target sailed landings at .stop ≢ target
+  pub first :
+      firstSailed sailed (steps target sailed landings at .stop) (steps target sailed landings at .minute)
+      ≡ some (record { ride = r; delay = delay })
+
+-- one ride with each of its delays from v on, before each way to go on
+unfoldable pub withDelays : Ride → ℕ → List ℕ → List (List Sailed) → List (List Sailed)
+withDelays r v [] rest = []
+withDelays r v (p ∷ shares) rest =
+    map (λ sailed. record { ride = r; delay = v } ∷ sailed) rest ++ withDelays r (suc v) shares rest
+
+-- all choices: each ride is given one delay from 0 to its M
+unfoldable pub choices : List Ride → List (List Sailed)
+choices [] = [] ∷ []
+choices (r ∷ rides) = withDelays r 0 (r .shares) (choices rides)
+
+-- the weight of a choice is the product of the shares
+unfoldable pub weight : List Sailed → ℕ
+weight [] = 1
+weight (s ∷ sailed) = getD (s .ride .shares) (s .delay) 0 * weight sailed
+
+-- A: the sum, over all choices, of weight × 256 × the minute at which the passenger then reaches the target
+unfoldable pub weightedArrivals : Query → List Ride → ℕ
+weightedArrivals q rides = sum (map (λ sailed. weight sailed * (ticks * walked q sailed .minute)) (choices rides))
+
+unfoldable pub largest : List ℕ → ℕ
+largest [] = 0
+largest (x ∷ xs) = max x (largest xs)
+
+-- L: the most rides boarded under any choice
+unfoldable pub longestWay : Query → List Ride → ℕ
+longestWay q rides = largest (map (λ sailed. walked q sailed .boarded) (choices rides))

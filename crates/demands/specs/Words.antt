@@ -1,0 +1,43 @@
+-- Document 01's own words for chosen rows and the plan's rides, beside the forms that compute.
+use Prim.Native.Nat.{ℕ, _<_, _≤_}
+use mathlib.Core.List.{List, List·Memᴰ}
+use mathlib.Core.Logic.{_≢_}
+use mathlib.Core.Option.{Option, none, some}
+use mathlib.Core.Path.{_≡_}
+use lib.Dec.{T}
+use lib.ListN.{getD}
+use Rattle.timetable.specs.Timetable.{Timetable, rowOf}
+use Rattle.plans.specs.declared.Query.{Query}
+use Rattle.plans.specs.Rides.{Ride, latest, boards}
+use Rattle.plans.specs.Worth.{Valued, firstOpen}
+use Rattle.plans.specs.Chosen.{scanned, offInTicks, worthOf}
+
+-- the best ride of row i, none if the row has no worth
+unfoldable pub bestRide : Timetable → (target bound i : ℕ) → Option Valued
+bestRide t target bound i = getD (scanned (offInTicks target bound) target t .weighed) i (record { trip = 0; best = none }) .best
+
+-- Row i has this worth
+abbrev pub HasWorth : Timetable → (target bound i worth : ℕ) → Type 0
+HasWorth t target bound i worth = worthOf (bestRide t target bound i) ≡ some worth
+
+-- A row is chosen if it has a worth below that of every later-minute row at its stop, and in its own minute the least worth, the highest row
+-- number deciding among equals. No row boarding at the target is chosen
+pub record Chosen (t : Timetable) (target bound i : ℕ) : Type 0 where
+  pub worth : ℕ
+  pub has-worth : HasWorth t target bound i worth
+  pub not-at-target : rowOf (t .rows) i .board ≢ target
+  pub below-later :
+      (j other : ℕ) → HasWorth t target bound j other → rowOf (t .rows) j .board ≡ rowOf (t .rows) i .board
+      → rowOf (t .rows) i .departure < rowOf (t .rows) j .departure → worth < other
+  pub least-of-minute :
+      (j other : ℕ) → HasWorth t target bound j other → rowOf (t .rows) j .board ≡ rowOf (t .rows) i .board
+      → rowOf (t .rows) j .departure ≡ rowOf (t .rows) i .departure → (worth ≤ other) × (worth ≡ other → j ≤ i)
+
+-- The plan holds the ride of the first chosen row at the source at or after T; and, for each ride in it not ending at the target, those of
+-- the chosen rows at its landing stop from a up to and including the first at or after a + M. Nothing else
+pub data InPlan (q : Query) (chosen : List Valued) : Valued → Type 0 where
+  first : {v : Valued} → firstOpen chosen (q .source) (q .minute) ≡ some v → InPlan q chosen v
+  next :
+      {u v safe : Valued} → InPlan q chosen u → u .ride .to ≢ q .target → firstOpen chosen (u .ride .to) (latest (u .ride)) ≡ some safe
+      → List·Memᴰ v chosen → T (boards (v .ride) (u .ride .to) (u .ride .arrives)) → v .ride .departs ≤ safe .ride .departs
+      → InPlan q chosen v

@@ -1,0 +1,68 @@
+// Reading a file that may be broken anywhere: what is not there reads as 0.
+ghost use mathlib.Core.Path.{_≡_};
+ghost use Prim.Native.Nat.{_-_, _<_};
+ghost use lib.ListN.{length};
+ghost use Rattle.file_layout.specs.Small.{SmallHead, SmallRow};
+use file_layout::Head;
+use file_layout::VERSION_ONE;
+use timetable::Row;
+
+// The number of two bytes at `at`.
+pub fn number_at(file: &[u8], at: usize) -> usize
+    ensures { λ r. ⌜ r < 65536 ⌝ }
+{
+    if file.len() <= at {
+        return 0;
+    }
+    if file.len() - at < 2 {
+        return 0;
+    }
+    numbers::u16_at(file, at)
+}
+
+// Where the trailer starts.
+pub fn trailer_start(file: &[u8]) -> usize
+    ensures { λ r. ⌜ r ≡ length (now (file .entry)) - 16 ⌝ }
+{
+    if file.len() < VERSION_ONE.trailer {
+        return 0;
+    }
+    file.len() - VERSION_ONE.trailer
+}
+
+// The trailer's numbers.
+pub fn head_in(file: &[u8]) -> Head
+    ensures { λ r. ⌜ SmallHead r ⌝ }
+{
+    if file.len() < VERSION_ONE.trailer {
+        return Head {
+            version: 0,
+            stops: 0,
+            rows: 0,
+            classes: 0,
+            rowstart: 0,
+            tablestart: 0,
+        };
+    }
+    file_layout::head_at(file, file.len() - VERSION_ONE.trailer)
+}
+
+// The row of that number, the rows starting at `start`.
+pub fn row_in(file: &[u8], start: usize, place: usize) -> Row
+    ensures { λ r. ⌜ SmallRow r ⌝ }
+{
+    if start < file.len() {
+        let rows = &file[start..];
+        if place < rows.len() / VERSION_ONE.width {
+            return file_layout::row_at(rows, VERSION_ONE.width * place);
+        }
+    }
+    Row {
+        board: 0,
+        land: 0,
+        departure: 0,
+        arrival: 0,
+        trip: 0,
+        class: 0,
+    }
+}

@@ -1,0 +1,23 @@
+// For the office: why the check or planning refuses, and what to look at, in a sentence or two.
+mod broken;
+mod classes;
+mod guide;
+mod query;
+mod rows;
+mod sizes;
+
+pub use guide::print_plan;
+pub use query::print_no_journey;
+pub use query::print_query_fault;
+
+// The reason for a refusal of the check, by its number and place.
+pub fn print_file_fault(file: &[u8], number: usize, place: usize) {
+    let head = broken::head_in(file);
+    match number {
+        1 => sizes::print_size_fault(file.len(), head),
+        2 => classes::print_layout_fault(file, head),
+        3 => classes::print_class_fault(file, head, place),
+        4 => rows::print_own_fault(file, head, place),
+        _ => rows::print_order_fault(file, head, place),
+    }
+}

@@ -1,0 +1,26 @@
+-- Document 01, "The sailing file": the rows of a file behind a row, nearest first, and the row found among them.
+use Prim.Native.Nat.{ℕ, zero, suc, _+_, _*_, _≤_}
+use mathlib.Core.List.{List, [], _∷_}
+use mathlib.Core.Option.{Option, none, some}
+use Rattle.timetable.specs.declared.Row.{Row}
+use Rattle.file_layout.specs.declared.Head.{Head}
+use Rattle.file_layout.specs.Format.{mostRows}
+use Rattle.file_layout.specs.Decode.{rowAt}
+use Rattle.file_check.specs.declared.Found.{Found}
+use Rattle.file_check.specs.declared.Found.the-variants.{At, Nothing}
+
+-- the first `count` rows of `width` bytes each, the first at byte `start`, nearest to the last first
+unfoldable pub rowsBehind : ℕ → List ℕ → ℕ → ℕ → List Row
+rowsBehind width s start zero = []
+rowsBehind width s start (suc count) = rowAt s (start + width * count) ∷ rowsBehind width s start count
+
+-- a row that was looked for and may be missing
+abbrev pub found : Option Row → Found
+found none = Nothing
+found (some r) = At r
+
+-- what reading the rows needs: they are few, each holds its numbers, and all lie within the file
+pub record RowsInside (width : ℕ) (h : Head) (end : ℕ) : Type 0 where
+  pub width-holds-row : 12 ≤ width
+  pub few : h .rows ≤ mostRows
+  pub inside : h .rowstart + width * h .rows ≤ end

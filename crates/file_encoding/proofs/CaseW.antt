@@ -1,0 +1,78 @@
+-- Document 01, "Case W": its 92 bytes, what they decode to, and what the check says of them and of edits of them. Assumes nothing.
+use Prim.Native.Nat.{ℕ}
+use mathlib.Core.List.{List, [], _∷_, _++_}
+use mathlib.Core.Path.{_≡_, refl}
+use lib.ListN.{length, take, set}
+use Rattle.timetable.specs.Timetable.{Timetable}
+use Rattle.timetable.specs.Classes.{sum, sharesRule}
+use Rattle.timetable.specs.Rows.{ownRule, departureRule, lastOfTrip, follows, tripRule, rowVerdict, rowsVerdict}
+use Rattle.timetable.proofs.Pinned.{row}
+use Rattle.file_layout.specs.declared.Checked.the-variants.{Sound, Refused}
+use Rattle.file_layout.specs.Format.{versionOne}
+use Rattle.numbers.specs.Numbers.{u16At, u32At, u16Bytes, u32Bytes}
+use Rattle.file_layout.specs.Decode.{trailerAt, headAt, headOf, rowAt, rowsFrom, sharesFrom, tableAt, blockEnd, tablesFrom, tablesEnd, decode}
+use Rattle.file_encoding.specs.Encode.{rowBytes, rowsBytes, sharesBytes, tableBytes, tablesBytes, trailerBytes, encode}
+use Rattle.file_layout.specs.Check.{lengthRule, headRule, classVerdict, classesVerdict, sectionsJoin, joined, headVerdict, rangesOf, fileVerdict, answered, checkedAs, checked}
+
+abbrev rowsW : List ℕ
+rowsW =
+    0 ∷ 0 ∷ 1 ∷ 0 ∷ 88 ∷ 2 ∷ 118 ∷ 2 ∷ 0 ∷ 0 ∷ 1 ∷ 0
+    ∷ 1 ∷ 0 ∷ 2 ∷ 0 ∷ 120 ∷ 2 ∷ 148 ∷ 2 ∷ 1 ∷ 0 ∷ 0 ∷ 0
+    ∷ 1 ∷ 0 ∷ 2 ∷ 0 ∷ 124 ∷ 2 ∷ 188 ∷ 2 ∷ 2 ∷ 0 ∷ 0 ∷ 0
+    ∷ 1 ∷ 0 ∷ 2 ∷ 0 ∷ 138 ∷ 2 ∷ 178 ∷ 2 ∷ 3 ∷ 0 ∷ 0 ∷ 0 ∷ []
+
+abbrev tablesW : List ℕ
+tablesW =
+    0 ∷ 0 ∷ 0 ∷ 16
+    ∷ 10 ∷ 0 ∷ 0 ∷ 8 ∷ 0 ∷ 0 ∷ 0 ∷ 0 ∷ 0 ∷ 0 ∷ 0 ∷ 0 ∷ 0 ∷ 4 ∷ 0 ∷ 0 ∷ 0 ∷ 0 ∷ 0 ∷ 0 ∷ 0 ∷ 0 ∷ 0 ∷ 4 ∷ []
+
+-- row offset 0, table offset 48
+abbrev pub caseW : List ℕ
+caseW = rowsW ++ tablesW ++ (1 ∷ 0 ∷ 3 ∷ 0 ∷ 4 ∷ 0 ∷ 2 ∷ 0 ∷ 0 ∷ 0 ∷ 0 ∷ 0 ∷ 48 ∷ 0 ∷ 0 ∷ 0 ∷ [])
+
+-- the same sailings with the tables first: row offset 28, table offset 0
+abbrev pub tablesFirst : List ℕ
+tablesFirst = tablesW ++ rowsW ++ (1 ∷ 0 ∷ 3 ∷ 0 ∷ 4 ∷ 0 ∷ 2 ∷ 0 ∷ 28 ∷ 0 ∷ 0 ∷ 0 ∷ 0 ∷ 0 ∷ 0 ∷ 0 ∷ [])
+
+-- the rows and classes that document 01 lists
+abbrev pub sailingsW : Timetable
+sailingsW =
+    record {
+      stops = 3;
+      rows = row 0 1 600 630 0 1 ∷ row 1 2 632 660 1 0 ∷ row 1 2 636 700 2 0 ∷ row 1 2 650 690 3 0 ∷ [];
+      tables = (4096 ∷ []) ∷ (2048 ∷ 0 ∷ 0 ∷ 0 ∷ 0 ∷ 1024 ∷ 0 ∷ 0 ∷ 0 ∷ 0 ∷ 1024 ∷ []) ∷ [];
+    }
+
+pub bytes-decoded : (length caseW ≡ 92) × (decode versionOne caseW ≡ sailingsW) × (decode versionOne tablesFirst ≡ sailingsW)
+unfolding decode trailerAt headOf headAt rowsFrom rowAt tablesFrom tableAt sharesFrom blockEnd u32At u16At
+bytes-decoded = (refl, refl, refl)
+
+-- the encoder writes them, rows first
+pub bytes-encoded : encode versionOne sailingsW ≡ caseW
+unfolding encode rowsBytes rowBytes tablesBytes tableBytes sharesBytes trailerBytes u32Bytes u16Bytes
+bytes-encoded = refl
+
+pub sound-both-ways : (checked caseW ≡ Sound 3 4 2) × (checked tablesFirst ≡ Sound 3 4 2)
+unfolding checked checkedAs answered fileVerdict headVerdict lengthRule headRule classesVerdict classVerdict joined sectionsJoin sharesRule sum
+    rangesOf rowsVerdict rowVerdict ownRule departureRule tripRule follows lastOfTrip
+    decode trailerAt headOf headAt rowsFrom rowAt tablesFrom tablesEnd tableAt sharesFrom blockEnd u32At u16At
+sound-both-ways = (refl, refl)
+
+-- one fault each: file length, version, S, n, K; a class's M, shares that run past the trailer, sum; a row's own rule, departures
+pub refused-by-number : (checked (take 19 caseW) ≡ Refused 1 0) × (checked (set caseW 76 2) ≡ Refused 1 0)
+    × (checked (set caseW 78 1) ≡ Refused 1 0) × (checked (set caseW 81 8) ≡ Refused 1 0) × (checked (set caseW 82 17) ≡ Refused 1 0)
+    × (checked (set caseW 52 121) ≡ Refused 3 1) × (checked (set caseW 52 11) ≡ Refused 2 0) × (checked (set caseW 50 1) ≡ Refused 3 0)
+    × (checked (set caseW 24 3) ≡ Refused 4 2) × (checked (set caseW 28 119) ≡ Refused 5 2)
+unfolding checked checkedAs answered fileVerdict headVerdict lengthRule headRule classesVerdict classVerdict joined sectionsJoin sharesRule sum
+    rangesOf rowsVerdict rowVerdict ownRule departureRule tripRule follows lastOfTrip
+    decode trailerAt headOf headAt rowsFrom rowAt tablesFrom tablesEnd tableAt sharesFrom blockEnd u32At u16At
+refused-by-number = (refl, refl, refl, refl, refl, refl, refl, refl, refl, refl)
+
+-- two faults each, and the first in the order of refusals decides: 1, then classes, then joining, then row by row
+pub refused-in-order : (checked (set (set caseW 76 2) 50 1) ≡ Refused 1 0) × (checked (set (set caseW 84 1) 50 1) ≡ Refused 3 0)
+    × (checked (set (set caseW 84 1) 24 3) ≡ Refused 2 0) × (checked (set (set caseW 24 3) 40 0) ≡ Refused 4 2)
+    × (checked (set (set caseW 28 119) 36 3) ≡ Refused 5 2)
+unfolding checked checkedAs answered fileVerdict headVerdict lengthRule headRule classesVerdict classVerdict joined sectionsJoin sharesRule sum
+    rangesOf rowsVerdict rowVerdict ownRule departureRule tripRule follows lastOfTrip
+    decode trailerAt headOf headAt rowsFrom rowAt tablesFrom tablesEnd tableAt sharesFrom blockEnd u32At u16At
+refused-in-order = (refl, refl, refl, refl, refl)

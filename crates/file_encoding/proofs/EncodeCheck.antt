@@ -1,0 +1,179 @@
+-- What the check says of a written file: the head is fine, and the answer is the verdict on the timetable's own rows. Assumes nothing.
+use Prim.Native.Nat.{ℕ, suc, _+_, _*_, _<_, _≤_, suc-le-suc}
+use mathlib.Core.Bool.{true}
+use mathlib.Core.List.{List, [], _∷_, _++_}
+use mathlib.Core.Path.{_≡_, refl, sym, ap, _∙_}
+use mathlib.Core.Logic.{_↔_}
+use native.Mathlib.Nat.{zero-lt-suc}
+use native.Mathlib.Omega.{arith}
+use lib.Dec.{leb}
+use lib.ListN.{length, drop}
+use borrow.Author.Tests.{le-leb, eq-eqb}
+use Rattle.laws.proofs.Tests.{both}
+use Rattle.timetable.specs.Timetable.{Timetable, longest, sharesOf}
+use Rattle.timetable.specs.Verdict.{fine}
+use Rattle.timetable.specs.Classes.{sharesRule}
+use Rattle.timetable.specs.Rows.{rowsVerdict}
+use Rattle.file_layout.specs.declared.Format.{Format}
+use Rattle.file_layout.specs.declared.Head.{Head}
+use Rattle.file_layout.specs.declared.Checked.the-variants.{Sound}
+use Rattle.file_layout.specs.Format.{fewestStops, mostStops, mostRows, fewestClasses, mostClasses}
+use Rattle.numbers.specs.Numbers.{u16At}
+use Rattle.file_layout.specs.Decode.{trailerAt, headOf, tableAt, blockEnd, tablesEnd}
+use Rattle.file_layout.specs.Check.{lengthRule, headRule, classVerdict, classesVerdict, sectionsJoin, joined, headVerdict, rangesOf, fileVerdict, answered, checkedAs}
+use Rattle.file_encoding.specs.Encode.{tablesBytes, trailerBytes, encode}
+use Rattle.file_encoding.specs.Writable.{Writable, WritableTable, WithinLimits, blockSize, tablesSize, headFor}
+use Rattle.file_layout.proofs.Sound.{sound-checked}
+use Rattle.file_encoding.proofs.Sizes.{length-encode}
+use Rattle.file_encoding.proofs.Written.{BlockAt, first-block, tables-end}
+use Rattle.file_encoding.proofs.Encode.{rows-end, trailer-at, head-encode, tables-start, decode-encode}
+
+-- a class block that ends by `end` and keeps its rules is fine
+class-fine : (f : Format) (s : List ℕ) (end k at : ℕ) (shares rest : List ℕ)
+    → BlockAt s at shares rest → at + blockSize shares ≤ end → longest shares ≤ f .delay → sharesRule shares ≡ true
+    → classVerdict f s end k at ≡ fine
+unfolding classVerdict blockSize
+class-fine f s end k at shares rest b fits delay rule =
+    let two : leb (at + 2) end ≡ true = le-leb (at + 2) end (omega arith) in
+    let short : leb (u16At s at) (f .delay) ≡ true = ap (λ (m : ℕ). leb m (f .delay)) (b .delay) ∙ le-leb (longest shares) (f .delay) delay in
+    let inside : leb (blockEnd s at) end ≡ true = ap (λ (m : ℕ). leb m end) (b .ends) ∙ le-leb (at + (2 + 2 * length shares)) end fits in
+    let sums : sharesRule (tableAt s at) ≡ true = ap sharesRule (b .table) ∙ rule in
+    cc
+
+classes-fine : (tables : List (List ℕ)) (f : Format) (s : List ℕ) (end k at : ℕ) (rest : List ℕ)
+    → ((j : ℕ) → j < length tables → WritableTable (sharesOf tables j))
+    → ((j : ℕ) → j < length tables → longest (sharesOf tables j) ≤ f .delay)
+    → ((j : ℕ) → j < length tables → sharesRule (sharesOf tables j) ≡ true) → at + tablesSize tables ≤ end
+    → drop at s ≡ tablesBytes tables ++ rest → classesVerdict f s end k at (length tables) ≡ fine
+unfolding classesVerdict tablesSize
+classes-fine [] f s end k at rest w delays rules fits e = refl
+classes-fine (shares ∷ tables) f s end k at rest w delays rules fits e =
+    let now = zero-lt-suc (length tables) in
+    let block = first-block shares tables s at rest (w 0 now) e in
+    let first : classVerdict f s end k at ≡ fine =
+    class-fine f s end k at shares (tablesBytes tables ++ rest) block (omega arith) (delays 0 now) (rules 0 now)
+    in
+    let others : classesVerdict f s end (suc k) (blockEnd s at) (length tables) ≡ fine =
+    classes-fine
+    tables
+    f
+    s
+    end
+    (suc k)
+    (blockEnd s at)
+    rest
+    (λ j h. w (suc j) (suc-le-suc h))
+    (λ j h. delays (suc j) (suc-le-suc h))
+    (λ j h. rules (suc j) (suc-le-suc h))
+    (omega (arith, block .ends))
+    (block .behind)
+    in
+    cc
+
+length-fine : (f : Format) (t : Timetable) → WithinLimits f t → lengthRule f (encode f t) ≡ true
+unfolding lengthRule
+length-fine f t r =
+    let size = length-encode f t in
+    both
+    (le-leb (f .shortest) (length (encode f t)) (omega (arith, r .not-short)))
+    (le-leb (length (encode f t)) (f .longest) (omega (arith, r .not-long)))
+
+head-fine : (f : Format) (t : Timetable) → WithinLimits f t → headRule f (headFor f t) ≡ true
+unfolding headRule headFor
+head-fine f t r =
+    both
+    (both
+    (both
+    (both
+    (both (eq-eqb (f .version) (f .version) refl) (le-leb fewestStops (t .stops) (r .enough-stops)))
+    (le-leb (t .stops) mostStops (r .few-stops)))
+    (le-leb (length (t .rows)) mostRows (r .few-rows)))
+    (le-leb fewestClasses (length (t .tables)) (r .enough-classes)))
+    (le-leb (length (t .tables)) mostClasses (r .few-classes))
+
+-- rows first, then class blocks, then the trailer
+rows-first : (rowsEnd tables ends end : ℕ) → tables ≡ rowsEnd → ends ≡ end → sectionsJoin 0 rowsEnd tables ends end ≡ true
+unfolding sectionsJoin
+rows-first rowsEnd tables ends end p q =
+    let start = eq-eqb tables rowsEnd p in
+    let finish = eq-eqb ends end q in
+    cc
+
+join-fine : (f : Format) (t : Timetable) → Writable f t → joined f (encode f t) (headFor f t) ≡ true
+unfolding joined headFor
+join-fine f t w =
+    let start = f .width * length (t .rows) in
+    let ends = tables-end (t .tables) (encode f t) start (trailerBytes f t) (w .each-table) (tables-start f t w) in
+    rows-first
+    (0 + start)
+    start
+    (tablesEnd (encode f t) start (length (t .tables)))
+    (trailerAt f (encode f t))
+    (omega arith)
+    (omega (arith, ends, rows-end f t w, trailer-at f t w))
+
+tables-fine : (f : Format) (t : Timetable) → Writable f t → WithinLimits f t
+    → classesVerdict f (encode f t) (trailerAt f (encode f t)) 0 (f .width * length (t .rows)) (length (t .tables)) ≡ fine
+tables-fine f t w r =
+    classes-fine
+    (t .tables)
+    f
+    (encode f t)
+    (trailerAt f (encode f t))
+    0
+    (f .width * length (t .rows))
+    (trailerBytes f t)
+    (w .each-table)
+    (r .delays)
+    (r .shares)
+    (omega (arith, rows-end f t w, trailer-at f t w))
+    (tables-start f t w)
+
+-- a head whose every rule is kept is fine
+rules-kept : (f : Format) (s : List ℕ) (h : Head) → headOf f s ≡ h → lengthRule f s ≡ true → headRule f h ≡ true
+    → classesVerdict f s (trailerAt f s) 0 (h .tablestart) (h .classes) ≡ fine → joined f s h ≡ true → headVerdict f s ≡ fine
+unfolding headVerdict
+rules-kept f s h head sized ranged classes joins = cc
+
+pub head-accepted : (f : Format) (t : Timetable) → Writable f t → WithinLimits f t → headVerdict f (encode f t) ≡ fine
+unfolding headFor
+head-accepted f t w r =
+    rules-kept
+    f
+    (encode f t)
+    (headFor f t)
+    (head-encode f t w)
+    (length-fine f t r)
+    (head-fine f t r)
+    (tables-fine f t w r)
+    (join-fine f t w)
+
+pub verdict-encode : (f : Format) (t : Timetable) → Writable f t → WithinLimits f t
+    → fileVerdict f (encode f t) ≡ rowsVerdict (rangesOf f (headFor f t)) [] 0 (t .rows)
+unfolding fileVerdict
+verdict-encode f t w r =
+    let head = head-encode f t w in
+    let accepted = head-accepted f t w r in
+    let read = decode-encode f t w in
+    cc
+
+-- the answer is the verdict on the timetable's own rows
+pub check-encode : (f : Format) (t : Timetable) → Writable f t → WithinLimits f t
+    → checkedAs f (encode f t) ≡ answered (headFor f t) (rowsVerdict (rangesOf f (headFor f t)) [] 0 (t .rows))
+unfolding checkedAs
+check-encode f t w r =
+    let head = head-encode f t w in
+    let verdict = verdict-encode f t w r in
+    cc
+
+-- a written file is sound exactly if its rows are fine
+pub sound-encode : (f : Format) (t : Timetable) → Writable f t → WithinLimits f t
+    → (checkedAs f (encode f t) ≡ Sound (t .stops) (length (t .rows)) (length (t .tables)))
+    ↔ (rowsVerdict (rangesOf f (headFor f t)) [] 0 (t .rows) ≡ fine)
+unfolding answered headFor
+sound-encode f t w r = (
+  (λ sound.
+      sym (verdict-encode f t w r)
+      ∙ sound-checked f (encode f t) (t .stops) (length (t .rows)) (length (t .tables)) sound .0),
+  (λ rows. check-encode f t w r ∙ ap (answered (headFor f t)) rows),
+)

@@ -1,0 +1,102 @@
+-- A file that keeps all rules has a fine verdict: the check refuses nothing else. Assumes nothing.
+use Prim.Native.Nat.{ℕ, zero, suc, _+_, _*_, _≤_, _<_}
+use mathlib.Core.Bool.{true, _&&_, _||_}
+use mathlib.Core.List.{List, []}
+use mathlib.Core.Logic.{inl, inr}
+use mathlib.Core.Path.{_≡_, refl, ap}
+use native.Mathlib.Omega.{arith}
+use lib.Dec.{leb, eqb}
+use lib.ListN.{length}
+use borrow.Author.Tests.{le-leb, eq-eqb}
+use Rattle.laws.proofs.Tests.{ifb, both}
+use Rattle.timetable.specs.Verdict.{fine, orElse, unless}
+use Rattle.timetable.specs.Classes.{sum, whole, lastShare, sharesRule}
+use Rattle.timetable.specs.Rows.{rowsVerdict}
+use Rattle.timetable.proofs.Verdicts.{both-fine, holding-fine}
+use Rattle.timetable.proofs.RowsFine.{rows-fine}
+use Rattle.file_layout.specs.declared.Format.{Format}
+use Rattle.file_layout.specs.declared.Head.{Head}
+use Rattle.file_layout.specs.Format.{fewestStops, mostStops, mostRows, fewestClasses, mostClasses}
+use Rattle.numbers.specs.Numbers.{u16At}
+use Rattle.file_layout.specs.Decode.{trailerAt, headOf, tableAt, blockEnd, tablesEnd, decode}
+use Rattle.file_layout.specs.Check.{lengthRule, headRule, classVerdict, classesVerdict, sectionsJoin, joined, headVerdict, rangesOf, fileVerdict}
+use Rattle.file_layout.proofs.Blocks.{blockAt, ClassSound}
+use Rattle.file_layout.proofs.HeadSound.{InRange, Sections, HeadSound}
+use Rattle.file_layout.proofs.Sound.{SoundFile, heldTo}
+
+length-rule-kept : (f : Format) (s : List ℕ) (h : Head) → InRange f s h → lengthRule f s ≡ true
+unfolding lengthRule
+length-rule-kept f s h range =
+    both (le-leb (f .shortest) (length s) (range .not-short)) (le-leb (length s) (f .longest) (range .not-long))
+
+head-rule-kept : (f : Format) (s : List ℕ) (h : Head) → InRange f s h → headRule f h ≡ true
+unfolding headRule
+head-rule-kept f s h range =
+    both (both (both (both (both (eq-eqb (h .version) (f .version) (range .version)) (le-leb fewestStops (h .stops) (range .stops-least)))
+    (le-leb (h .stops) mostStops (range .stops-most))) (le-leb (h .rows) mostRows (range .rows-most)))
+    (le-leb fewestClasses (h .classes) (range .classes-least))) (le-leb (h .classes) mostClasses (range .classes-most))
+
+shares-rule-kept : (shares : List ℕ) → sum shares ≡ whole → 1 ≤ lastShare shares → sharesRule shares ≡ true
+unfolding sharesRule
+shares-rule-kept shares total last = both (eq-eqb (sum shares) whole total) (le-leb 1 (lastShare shares) last)
+
+class-fine : (f : Format) (s : List ℕ) (end k at : ℕ) → ClassSound f s end at → classVerdict f s end k at ≡ fine
+unfolding classVerdict
+class-fine f s end k at c =
+    let shares = unless (sharesRule (tableAt s at)) 3 k in
+    let block = unless (leb (blockEnd s at) end) 2 0 in
+    let delay = unless (leb (u16At s at) (f .delay)) 3 k in
+    both-fine (unless (leb (at + 2) end) 2 0) (orElse delay (orElse block shares))
+    (holding-fine (leb (at + 2) end) 2 0 (le-leb (at + 2) end (c .delay-inside)))
+    (both-fine delay (orElse block shares)
+    (holding-fine (leb (u16At s at) (f .delay)) 3 k (le-leb (u16At s at) (f .delay) (c .delay-small)))
+    (both-fine block shares (holding-fine (leb (blockEnd s at) end) 2 0 (le-leb (blockEnd s at) end (c .block-inside)))
+    (holding-fine (sharesRule (tableAt s at)) 3 k (shares-rule-kept (tableAt s at) (c .shares-whole) (c .last-counts)))))
+
+classes-fine : (f : Format) (s : List ℕ) (end k at left : ℕ) → ((j : ℕ) → j < left → ClassSound f s end (blockAt s at j))
+    → classesVerdict f s end k at left ≡ fine
+unfolding classesVerdict blockAt
+classes-fine f s end k at zero sound = refl
+classes-fine f s end k at (suc left) sound =
+    both-fine (classVerdict f s end k at) (classesVerdict f s end (suc k) (blockEnd s at) left)
+    (class-fine f s end k at (sound 0 (omega arith)))
+    (classes-fine f s end (suc k) (blockEnd s at) left (λ j h. sound (suc j) (omega arith)))
+
+sections-join : (rows rowsEnd tables ends end : ℕ) → Sections rows rowsEnd tables ends end
+    → sectionsJoin rows rowsEnd tables ends end ≡ true
+unfolding sectionsJoin
+sections-join rows rowsEnd tables ends end (inl j) =
+    ap (λ first. first || (eqb tables 0 && eqb rows ends && eqb rowsEnd end))
+    (both (both (eq-eqb rows 0 (j .0)) (eq-eqb tables rowsEnd (j .1))) (eq-eqb ends end (j .2)))
+sections-join rows rowsEnd tables ends end (inr j) =
+    let second = both (both (eq-eqb tables 0 (j .0)) (eq-eqb rows ends (j .1))) (eq-eqb rowsEnd end (j .2)) in
+    ifb (λ first. (first || (eqb tables 0 && eqb rows ends && eqb rowsEnd end)) ≡ true)
+    (eqb rows 0 && eqb tables rowsEnd && eqb ends end) (λ e. refl) (λ e. second)
+
+head-joined : (f : Format) (s : List ℕ) → HeadSound f s → joined f s (headOf f s) ≡ true
+unfolding joined
+head-joined f s sound =
+    let h = headOf f s in
+    sections-join (h .rowstart) (h .rowstart + f .width * h .rows) (h .tablestart) (tablesEnd s (h .tablestart) (h .classes))
+    (trailerAt f s) (sound .sections)
+
+-- a head that keeps all rules is fine
+pub head-fine : (f : Format) (s : List ℕ) → HeadSound f s → headVerdict f s ≡ fine
+unfolding headVerdict
+head-fine f s sound =
+    let h = headOf f s in
+    let classes = classesVerdict f s (trailerAt f s) 0 (h .tablestart) (h .classes) in
+    let join = unless (joined f s h) 2 0 in
+    let range = unless (headRule f h) 1 0 in
+    both-fine (unless (lengthRule f s) 1 0) (orElse range (orElse classes join))
+    (holding-fine (lengthRule f s) 1 0 (length-rule-kept f s h (sound .in-range)))
+    (both-fine range (orElse classes join) (holding-fine (headRule f h) 1 0 (head-rule-kept f s h (sound .in-range)))
+    (both-fine classes join (classes-fine f s (trailerAt f s) 0 (h .tablestart) (h .classes) (sound .class-sound))
+    (holding-fine (joined f s h) 2 0 (head-joined f s sound))))
+
+-- a file that keeps all rules is fine
+pub sound-fine : (f : Format) (s : List ℕ) → SoundFile f s → fileVerdict f s ≡ fine
+unfolding fileVerdict rangesOf
+sound-fine f s sound =
+    both-fine (headVerdict f s) (rowsVerdict (heldTo f (headOf f s)) [] 0 (decode f s .rows)) (head-fine f s (sound .head))
+    (rows-fine (heldTo f (headOf f s)) (decode f s .rows) (sound .rows))

@@ -1,0 +1,3 @@
+-- The bytes of a timetable, and what can be written.
+pub mod Encode
+pub mod Writable

@@ -1,0 +1,5 @@
+-- The sailing file: its bytes, what they decode to, and what the check says of them.
+pub mod Format
+pub mod Decode
+pub mod Small
+pub mod Check

@@ -1,0 +1,234 @@
+// Document 01, "Numbers returned on refusal": the first step of the check, the trailer and the class blocks.
+ghost use mathlib.Core.Path.{_≡_};
+ghost use mathlib.Core.Bool.{_&&_};
+ghost use Prim.Native.Nat.{_+_, _-_, _*_, _≤_, _<_};
+ghost use lib.Dec.{leb, eqb};
+ghost use lib.ListN.{length};
+ghost use Rattle.timetable.specs.Classes.{sum, sharesRule};
+ghost use Rattle.file_layout.specs.Format.{Readable};
+ghost use Rattle.numbers.specs.Numbers.{u16At};
+ghost use Rattle.file_layout.specs.Decode.{sharesFrom, tableAt};
+ghost use Rattle.file_layout.specs.Small.{SmallHead};
+ghost use Rattle.file_layout.specs.Check.{headRule, sectionsJoin};
+ghost use Rattle.file_sections.specs.Headed.{headed};
+ghost use Rattle.file_sections.specs.Blocks.{blockRead, blocksRead};
+use file_layout::Format;
+use file_layout::Head;
+use file_layout::head_at;
+use numbers::u16_at;
+
+// A head that keeps the rules up to the joining of its sections, or the refusal with its place.
+pub enum Headed {
+    Good { head: Head },
+    Bad { number: usize, place: usize },
+}
+
+// Class blocks that keep their rules, with the byte where they end, or the refusal with its place.
+enum Blocks {
+    End { at: usize },
+    Fault { number: usize, place: usize },
+}
+
+// Where a section of the file starts and ends.
+struct Section {
+    start: usize,
+    end: usize,
+}
+
+// Length, version, S, n and K; then the class blocks; then the joining of the sections.
+pub fn head(file: &[u8], f: Format) -> Headed
+    requires { ⌜ Readable f ⌝ }
+    ensures { λ r. ⌜ r ≡ headed f (now (file .entry)) ⌝ }
+{
+    let length = file.len();
+    if !length_in_range(f, length) {
+        return Headed::Bad {
+            number: 1,
+            place: 0,
+        };
+    }
+    let end = length - f.trailer;
+    let head = head_at(file, end);
+    if !in_ranges(f, head) {
+        return Headed::Bad {
+            number: 1,
+            place: 0,
+        };
+    }
+    let blocks = class_blocks(file, f, end, head.tablestart, head.classes);
+    match blocks {
+        Blocks::Fault { number, place } => Headed::Bad { number, place },
+        Blocks::End { at } => {
+            if joined(f, head, at, end) {
+                Headed::Good { head }
+            } else {
+                Headed::Bad {
+                    number: 2,
+                    place: 0,
+                }
+            }
+        }
+    }
+}
+
+// The file length is in its range.
+fn length_in_range(f: Format, length: usize) -> bool
+    ensures { λ r. ⌜ r ≡ (leb (f .shortest) length && leb length (f .longest)) ⌝ }
+{
+    if length < f.shortest {
+        return false;
+    }
+    length <= f.longest
+}
+
+// Version, S, n and K are in their ranges.
+fn in_ranges(f: Format, head: Head) -> bool
+    ensures { λ r. ⌜ r ≡ headRule f head ⌝ }
+{
+    if head.version != f.version {
+        return false;
+    }
+    if head.stops < 2 {
+        return false;
+    }
+    if 200 < head.stops {
+        return false;
+    }
+    if 2000 < head.rows {
+        return false;
+    }
+    if head.classes < 1 {
+        return false;
+    }
+    if 16 < head.classes {
+        return false;
+    }
+    true
+}
+
+// Class by class: `count` blocks from `start` on, none of which may run past `end`.
+fn class_blocks(file: &[u8], f: Format, end: usize, start: usize, count: usize) -> Blocks
+    requires { ⌜ end ≤ length (now file) ⌝ }
+    ensures { λ r. ⌜ r ≡ blocksRead f (now (file .entry)) end 0 start count ⌝ }
+{
+    let mut at = start;
+    let mut class = 0;
+    while class < count {
+        let block = class_block(file, f, end, class, at);
+        class += 1;
+        match block {
+            Blocks::Fault { number, place } => {
+                return Blocks::Fault { number, place };
+            }
+            Blocks::End { at: next } => {
+                at = next;
+            }
+        }
+    }
+    Blocks::End { at }
+}
+
+// One class block: M's two bytes fit, M, the shares fit, their sum and the last.
+fn class_block(file: &[u8], f: Format, end: usize, class: usize, at: usize) -> Blocks
+    requires { ⌜ end ≤ length (now file) ⌝ }
+    ensures { λ r. ⌜ r ≡ blockRead f (now (file .entry)) end class at ⌝ }
+{
+    let room = bytes_between(at, end);
+    if room < 2 {
+        return Blocks::Fault {
+            number: 2,
+            place: 0,
+        };
+    }
+    let delay = u16_at(file, at);
+    if f.delay < delay {
+        return Blocks::Fault {
+            number: 3,
+            place: class,
+        };
+    }
+    if room < 4 + 2 * delay {
+        return Blocks::Fault {
+            number: 2,
+            place: 0,
+        };
+    }
+    if !shares_keep(file, at, delay) {
+        return Blocks::Fault {
+            number: 3,
+            place: class,
+        };
+    }
+    Blocks::End {
+        at: at + 4 + 2 * delay,
+    }
+}
+
+// The bytes from `at` up to `end`, none where `end` is not past `at`.
+fn bytes_between(at: usize, end: usize) -> usize
+    ensures { λ r. ⌜ r ≡ end - at ⌝ }
+{
+    if end < at {
+        return 0;
+    }
+    end - at
+}
+
+// The shares of the block at `at`, whose maximum delay is `delay`: their sum and the last.
+fn shares_keep(file: &[u8], at: usize, delay: usize) -> bool
+    requires { ⌜ (at + 4 + 2 * delay ≤ length (now file)) × (delay < 65536) × (delay ≡ u16At (now file) at) ⌝ }
+    ensures { λ r. ⌜ r ≡ sharesRule (tableAt (now (file .entry)) at) ⌝ }
+{
+    if shares_sum(file, at + 2, delay + 1) != 4096 {
+        return false;
+    }
+    1 <= u16_at(file, at + 2 + 2 * delay)
+}
+
+// The sum of the `count` shares from `first` on.
+fn shares_sum(file: &[u8], first: usize, count: usize) -> usize
+    requires { ⌜ (first + 2 * count ≤ length (now file)) × (count ≤ 65536) ⌝ }
+    ensures { λ r. ⌜ r ≡ sum (sharesFrom (now (file .entry)) first count) ⌝ }
+{
+    let mut total = 0;
+    let mut at = first;
+    let mut left = count;
+    while 0 < left {
+        total += u16_at(file, at);
+        at += 2;
+        left -= 1;
+    }
+    total
+}
+
+// The sections of rows and of tables join in either order, the tables ending at `at`.
+fn joined(f: Format, head: Head, at: usize, end: usize) -> bool
+    requires { ⌜ (f .width < 65536) × SmallHead head ⌝ }
+    ensures { λ r. ⌜ r ≡ sectionsJoin (head .rowstart) (head .rowstart + f .width * head .rows) (head .tablestart) at end ⌝ }
+{
+    let rows = Section {
+        start: head.rowstart,
+        end: head.rowstart + f.width * head.rows,
+    };
+    let tables = Section {
+        start: head.tablestart,
+        end: at,
+    };
+    if in_order(rows, tables, end) {
+        return true;
+    }
+    in_order(tables, rows, end)
+}
+
+// The first section starts at 0, the second where that one ends, and the second ends at `end`.
+fn in_order(first: Section, second: Section, end: usize) -> bool
+    ensures { λ r. ⌜ r ≡ (eqb (first .start) 0 && eqb (second .start) (first .end) && eqb (second .end) end) ⌝ }
+{
+    if first.start != 0 {
+        return false;
+    }
+    if second.start != first.end {
+        return false;
+    }
+    second.end == end
+}

@@ -1,0 +1,57 @@
+-- A table by the rule has M + 1 shares and is one that the check accepts, for any change time and parameter and so for the eight. Assumes nothing.
+use Prim.Native.Nat.{ℕ, zero, suc, pred, _+_, _<_, _≤_}
+use mathlib.Core.Path.{_≡_, refl, ap, _∙_}
+use native.Mathlib.Omega.{arith}
+use lib.ListN.{length, getD}
+use Rattle.timetable.specs.Timetable.{longest}
+use Rattle.file_layout.specs.Format.{versionOne}
+use Rattle.house.specs.House.{latest, pairOf, housePairs, cumulative}
+use Rattle.house.specs.Rising.{Rising, MadeOf, valuesFrom, houseCumulatives, houseTable}
+use Rattle.house.proofs.Tables.{house-short}
+use Rattle.house.proofs.Rule.{at-latest, cumulative-below, cumulative-rises}
+use Rattle.house.proofs.RisingTables.{rising-table-accepted}
+
+length-values : (f : ℕ → ℕ) (x n : ℕ) → length (valuesFrom f x n) ≡ n
+unfolding valuesFrom
+length-values f x zero = refl
+length-values f x (suc n) = ap suc (length-values f (suc x) n)
+
+value-at : (f : ℕ → ℕ) (x n k : ℕ) → k < n → getD (valuesFrom f x n) k 0 ≡ f (x + k)
+unfolding valuesFrom
+value-at f x zero k h = absurd (let z : ⊥ = omega arith in z)
+value-at f x (suc n) zero h = ap f (omega arith)
+value-at f x (suc n) (suc k) h = value-at f (suc x) n k (omega arith) ∙ ap f (omega arith)
+
+-- the list of a pair's cumulative shares has M + 1 entries, each by the rule
+pub house-length : (m d : ℕ) → length (houseCumulatives m d) ≡ suc (m + d)
+unfolding houseCumulatives
+house-length m d = length-values (cumulative m d) 0 (suc (m + d))
+
+pub house-at : (m d x : ℕ) → x ≤ m + d → getD (houseCumulatives m d) x 0 ≡ cumulative m d x
+unfolding houseCumulatives
+house-at m d x h = value-at (cumulative m d) 0 (suc (m + d)) x (omega arith) ∙ ap (cumulative m d) (omega arith)
+
+pub house-rising : (m d : ℕ) → Rising (houseCumulatives m d)
+house-rising m d = record {
+  never-falls = λ x h.
+      let inside : x < m + d = omega (arith, house-length m d, h) in
+      rw (house-at m d x (omega (arith, inside)), house-at m d (suc x) inside) (cumulative-rises m d x inside);
+  ends-whole = rw last (house-at m d (m + d) (omega arith) ∙ at-latest m d (m + d) (omega arith));
+  rises-last = λ some.
+      let more : pred (m + d) < m + d = omega (arith, last, some) in
+      rw (last, house-at m d (pred (m + d)) (omega (arith, more))) (cumulative-below m d (pred (m + d)) more);
+}
+  where
+    last : longest (houseCumulatives m d) ≡ m + d
+    last = ap pred (house-length m d)
+
+-- every change time and parameter give a table that the rule of a class's shares accepts
+pub house-table-accepted : (m d : ℕ) → MadeOf (houseCumulatives m d) (houseTable m d)
+unfolding houseTable
+house-table-accepted m d = rising-table-accepted (houseCumulatives m d) (house-rising m d)
+
+-- each of the eight is one the check accepts: M is at most version 1's longest delay, and the shares keep their rule
+pub house-pair-accepted : (k : ℕ) → k < length housePairs
+    → (latest (pairOf k) ≤ versionOne .delay)
+    × MadeOf (houseCumulatives (pairOf k .change) (pairOf k .parameter)) (houseTable (pairOf k .change) (pairOf k .parameter))
+house-pair-accepted k h = (house-short k h, house-table-accepted (pairOf k .change) (pairOf k .parameter))

@@ -1,8 +1,0 @@
--- The sailing file: its bytes, what they decode to, and what the check says of them.
-pub mod Numbers
-pub mod Format
-pub mod Decode
-pub mod Small
-pub mod Check
-pub mod Encode
-pub mod Writable

@@ -1,3 +1,0 @@
--- Laws of numbers as bytes.
-pub mod Put
-pub mod Settled

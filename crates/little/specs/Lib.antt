@@ -1,2 +1,0 @@
--- Numbers as little-endian bytes.
-pub mod Little

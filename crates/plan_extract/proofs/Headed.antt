@@ -1,0 +1,43 @@
+-- The marks before the first ride: row `head` alone is marked, and the cells behind the marks are as they were. Assumes nothing.
+use Prim.Native.Nat.{ℕ, _+_, _-_, _≤_, _<_}
+use mathlib.Core.List.{List}
+use mathlib.Core.Path.{_≡_, sym, ap, subst, _∙_}
+use native.Mathlib.Nat.{zero-add}
+use native.Mathlib.Omega.{arith}
+use lib.ListN.{length, getD, set, length-set}
+use lib.Seq.{getD-set-same}
+use Rattle.plan_cells.specs.Cells.{filled}
+use Rattle.plan_cells.proofs.Filled.{length-filled, filled-inside, filled-behind}
+use Rattle.plan_extract.specs.Marks.{HeadAlone}
+use Rattle.plan_extract.proofs.Kept.{Kept}
+use Rattle.plan_extract.proofs.Passing.{set-cell}
+
+module _ (work : List ℕ) (n at head : ℕ) (here : at ≡ head) (inside : head < n) (few : n ≤ 2000) (room : 2000 ≤ length work) where
+  abbrev cleared : List ℕ
+  cleared = filled work 0 n 0
+
+  cleared-length : length cleared ≡ length work
+  cleared-length = length-filled work 0 n 0 (omega arith)
+
+  pub headed-kept : Kept work (set cleared at 1)
+  headed-kept =
+      record {
+        same-length = length-set cleared at 1 ∙ cleared-length;
+        same-cell = λ i h.
+            set-cell (λ x. x ≡ getD work i 0) cleared at i 1 (let z : at < length cleared = omega (arith, cleared-length) in z)
+            (λ same. absurd (let z : ⊥ = omega arith in z))
+            (λ _. let place : 0 + n + (i - n) ≡ i = omega arith in
+            subst (λ k. getD cleared k 0 ≡ getD work k 0) place (filled-behind work 0 n 0 (i - n) (omega arith)));
+      }
+
+  pub headed-alone : HeadAlone (set cleared at 1) n head
+  headed-alone =
+      let fits : at < length cleared = omega (arith, cleared-length) in
+      record {
+        marked = subst (λ k. getD (set cleared at 1) k 0 ≡ 1) here (getD-set-same cleared at 1 0 fits);
+        only = λ i h.
+            set-cell (λ x. x ≡ 1 → i ≡ head) cleared at i 1 fits (λ same _. sym same ∙ here)
+            (λ _ marked. absurd (let none : getD cleared (0 + i) 0 ≡ 0 = filled-inside work 0 n 0 i (omega arith) h in
+            let place : getD cleared (0 + i) 0 ≡ getD cleared i 0 = ap (λ k. getD cleared k 0) (zero-add i) in
+            let z : ⊥ = omega arith in z));
+      }

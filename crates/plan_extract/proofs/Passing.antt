@@ -1,0 +1,159 @@
+-- Down a stop's stack, entry by entry: each entry that is caught is marked, and nothing else. Assumes nothing.
+use Prim.Native.Nat.{ℕ, zero, suc, _+_, _-_, _*_, _/_, _%_, _≤_, _<_}
+use mathlib.Core.List.{List}
+use mathlib.Core.Logic.{_⊎_, inl, inr, ⊎-elim, _≢_}
+use mathlib.Core.Path.{_≡_, refl, sym, ap, subst, _∙_}
+use native.Mathlib.Nat.{eq-or-lt-of-le}
+use native.Mathlib.Omega.{arith}
+use mathlib.Core.Bool.{Bool, true, false, not}
+use borrow.Author.Tests.{eqb-true, eqb-false, leb-true, leb-false, not-true, not-false}
+use lib.Dec.{eqb, leb}
+use lib.ListN.{length, getD, set, length-set}
+use lib.Seq.{getD-set-same, getD-set-other}
+use Rattle.laws.proofs.Tests.{ifb}
+use Rattle.plan_cells.specs.Cells.{stackStart, stackSize}
+use Rattle.plan_landing.specs.Landing.{departureAt, Falling, FirstOpenAt}
+use Rattle.plan_extract.specs.Marks.{entryRow, Caught, Catching, Passed, AllPassed}
+
+-- a cell that is set holds the value, the others what they held
+pub set-cell {ℓ} : (P : ℕ → Type ℓ) (l : List ℕ) (i j v : ℕ) → i < length l → (i ≡ j → P v) → (i ≢ j → P (getD l j 0)) → P (getD (set l i v) j 0)
+set-cell P l i j v h here other =
+    ifb (λ b. P (getD (set l i v) j 0)) (eqb i j)
+    (λ e. let same : i ≡ j = eqb-true i j e in
+    subst (λ k. P (getD (set l i v) k 0)) same (subst P (sym (getD-set-same l i v 0 h)) (here same)))
+    (λ e. let apart : i ≢ j = eqb-false i j e in subst P (sym (getD-set-other l i j v 0 (λ q. apart (sym q)))) (other apart))
+
+-- what the test of an entry's departure says
+pub missed : (landing key departure : ℕ) (opened : Bool) → opened ≡ leb landing departure → departure ≡ key / 2048 → not opened ≡ true
+    → key / 2048 < landing
+missed landing key departure opened test departs shut =
+    subst (λ k. k < landing) departs (leb-false landing departure (sym test ∙ not-true opened shut))
+
+pub reached : (landing key departure : ℕ) (opened : Bool) → opened ≡ leb landing departure → departure ≡ key / 2048 → not opened ≡ false
+    → landing ≤ key / 2048
+reached landing key departure opened test departs shut =
+    subst (λ k. landing ≤ k) departs (leb-true landing departure (sym test ∙ not-false opened shut))
+
+-- one entry more
+passed-on :
+    {old new : List ℕ} {start size arrival landing place : ℕ} → Passed old new start size arrival landing (suc place)
+    → Caught old start size arrival landing place → entryRow old start place < length old
+    → Passed old (set new (entryRow old start place) 1) start size arrival landing place
+passed-on {old} {new} {start} {size} {arrival} {landing} {place} p caught inside =
+    let row = entryRow old start place in
+    let fits : row < length new = omega (arith, p .same-length) in
+    record {
+      same-length = length-set new row 1 ∙ p .same-length;
+      marked =
+          λ k h c.
+          set-cell (λ x. x ≡ 1) new row (entryRow old start k) 1 fits (λ _. refl)
+          (λ apart.
+          ⊎-elim (λ same. absurd (apart (ap (entryRow old start) same))) (λ above. p .marked k above c) (eq-or-lt-of-le h));
+      only =
+          λ i.
+          set-cell (λ x. (x ≡ getD old i 0) ⊎ ((k : ℕ) × Caught old start size arrival landing k × (i ≡ entryRow old start k))) new row i 1 fits
+          (λ here. inr (place, caught, sym here)) (λ _. p .only i);
+    }
+
+-- the loop is at this entry, and has passed those above it
+pub record Down (old new : List ℕ) (start size arrival landing entry key : ℕ) : Type 0 where
+  pub place : ℕ
+  pub stands : entry ≡ start + 2 * place
+  pub key-is : key ≡ getD old (start + 2 * place) 0
+  pub caught : Caught old start size arrival landing place
+  pub passed : Passed old new start size arrival landing (suc place)
+
+module _ (work : List ℕ) (land arrival landing : ℕ) (c : Catching work land arrival landing) where
+  abbrev start : ℕ
+  start = stackStart work land
+
+  abbrev size : ℕ
+  size = stackSize work land
+
+  -- the stack as the code finds it
+  pub falling-there : {from count : ℕ} → from ≡ start → count ≡ size → Falling work from count arrival
+  falling-there {from} {count} e n =
+      subst (λ k. Falling work k count arrival) (sym e) (subst (λ k. Falling work start k arrival) (sym n) (c .falling))
+
+  pub down-first : {from count at : ℕ} → from ≡ start → count ≡ size → FirstOpenAt work from count arrival at
+      → Down work work start size arrival landing at (getD work at 0)
+  down-first {from} {count} {at} e n found =
+      let f = subst (λ k. FirstOpenAt work start k arrival at) n (subst (λ k. FirstOpenAt work k count arrival at) e found) in
+      record {
+        place = f .place;
+        stands = f .stands;
+        key-is = ap (λ k. getD work k 0) (f .stands);
+        caught = record { inside = f .inside; opens = f .opens; needed = λ k above h. omega (arith, f .missed k above h, c .late) };
+        passed =
+            record {
+              same-length = refl;
+              marked = λ k above caught. absurd (let z : ⊥ = omega (arith, f .missed k above (caught .inside), caught .opens) in z);
+              only = λ i. inl refl;
+            };
+      }
+
+  -- the marks stand ahead of the stacks
+  pub kept : {new : List ℕ} {place : ℕ} → Passed work new start size arrival landing place → (i : ℕ) → 2000 ≤ i → getD new i 0 ≡ getD work i 0
+  kept p i h =
+      ⊎-elim (λ same. same) (λ k. absurd (let z : ⊥ = omega (arith, c .rows (k .0) (k .1 .inside), k .2) in z)) (p .only i)
+
+  module _ {new : List ℕ} {entry key : ℕ} (d : Down work new start size arrival landing entry key) where
+    row-is : key % 2048 ≡ entryRow work start (d .place)
+    row-is = ap (λ k. k % 2048) (d .key-is)
+
+    down-marked : (at : ℕ) → at ≡ key % 2048 → Passed work (set new at 1) start size arrival landing (d .place)
+    down-marked at here =
+        subst (λ k. Passed work (set new k 1) start size arrival landing (d .place)) (sym (here ∙ row-is))
+        (let row = c .rows (d .place) (d .caught .inside) in
+        passed-on (d .passed) (d .caught) (let z : entryRow work start (d .place) < length work = omega (arith, c .cells) in z))
+
+    departs-is : key / 2048 ≡ departureAt work start (d .place)
+    departs-is = ap (λ k. k / 2048) (d .key-is)
+
+    -- an entry that departs too early is not the last
+    not-last : key / 2048 < landing → 1 ≤ d .place
+    not-last early = go (d .place) departs-is
+      where
+        go : (p : ℕ) → key / 2048 ≡ departureAt work start p → 1 ≤ p
+        go zero e = absurd (let z : ⊥ = omega (arith, c .safe) in z)
+        go (suc p) e = omega arith
+
+    pub down-on : (at : ℕ) → at ≡ key % 2048 → key / 2048 < landing
+        → Down work (set new at 1) start size arrival landing (entry - 2) (getD (set new at 1) (entry - 2) 0)
+    down-on at here early =
+        let marked : Passed work (set new at 1) start size arrival landing (d .place) = down-marked at here in
+        let first : 1 ≤ d .place = not-last early in
+        let below : entry - 2 ≡ start + 2 * (d .place - 1) = omega (arith, d .stands) in
+        let next : suc (d .place - 1) ≡ d .place = omega arith in
+        record {
+          place = d .place - 1;
+          stands = below;
+          key-is = kept marked (entry - 2) (let z : 2000 ≤ entry - 2 = omega (arith, below) in z) ∙ ap (λ k. getD work k 0) below;
+          caught =
+              record {
+                inside = (let z : d .place - 1 < size = omega (arith, d .caught .inside) in z);
+                opens =
+                    (let falls : departureAt work start (d .place) < departureAt work start (d .place - 1) =
+                    c .falling .falls (d .place - 1) (d .place) (omega arith) (d .caught .inside) in
+                    omega (arith, d .caught .opens));
+                needed =
+                    λ k above h.
+                    ⊎-elim (λ same. omega (arith, ap (departureAt work start) (sym next ∙ same), departs-is))
+                    (λ higher. d .caught .needed k (let z : d .place < k = omega arith in z) h) (eq-or-lt-of-le above);
+              };
+          passed = subst (λ p. Passed work (set new at 1) start size arrival landing p) (sym next) marked;
+        }
+
+    pub down-last : (at : ℕ) → at ≡ key % 2048 → landing ≤ key / 2048 → AllPassed work (set new at 1) land arrival landing
+    down-last at here opened =
+        let marked : Passed work (set new at 1) start size arrival landing (d .place) = down-marked at here in
+        record {
+          same-length = marked .same-length;
+          marked =
+              λ k _ caught.
+              marked .marked k
+              (ifb (λ _. d .place ≤ k) (leb (d .place) k) (leb-true (d .place) k)
+              (λ below. absurd (let early = caught .needed (d .place) (leb-false (d .place) k below) (d .caught .inside) in
+              let z : ⊥ = omega (arith, departs-is) in z))) caught;
+          only = marked .only;
+        }

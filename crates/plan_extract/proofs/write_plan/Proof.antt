@@ -1,0 +1,105 @@
+-- `plan_extract::write_plan` meets its contract: the marks are cleared but for the first row's, and the pass begins there. Assumes nothing.
+use Prim.Native.Nat.{ℕ, _+_, _*_, _<_}
+use mathlib.Core.List.{List}
+use mathlib.Core.Path.{sym, subst, _∙_}
+use native.Mathlib.Nat.{zero-add}
+use native.Mathlib.Omega.{arith}
+use lib.ListN.{set}
+use Rattle.plans.proofs.Open.{found-member}
+use Rattle.plan_scan.specs.Scanned.{scanIn}
+use Rattle.plan_extract.specs.Marks.{HeadAlone}
+use Rattle.plan_extract.proofs.Headed.{headed-kept, headed-alone}
+use Rattle.plan_extract.proofs.Kept.{Kept, kept-drop, kept-held}
+use Rattle.plan_extract.proofs.Timed.{known}
+use borrow.Author.Needs.{needs}
+use Rattle.plan_extract.proofs.write_plan.Statement.{statement}
+use Rattle.plan_extract.proofs.write_plan.Tie as tie
+
+fill-requires : tie.Need-fill-requires
+fill-requires c κs = search needs
+
+-- the first row is one of those scanned
+head-inside : (c : tie.Start) → c .args .head < c .args .s .rows
+head-inside c =
+    let a = c .args in
+    let f = c .pre .7 in
+    let all = known (a .file .now) (a .s) (c .pre .0) (a .end) (c .pre .3) (a .goal) (a .first) (c .pre .2) (f .ride) in
+    let first = all (found-member (scanIn (a .file .now) (a .s) (a .goal) (a .first) (a .end) .chosen) (f .stop) (f .minute) (f .is-first)) in
+    omega (arith, f .boards-at, first .before-end, c .pre .3)
+
+-- the cells once the marks are cleared but for the first row's
+abbrev entered : tie.After-fill → tie.Start
+entered c = c .before .before .before .before .before .before
+
+abbrev marked : tie.After-fill → List ℕ
+marked c = set (c .fill .last .0) (0 + entered c .args .head) 1
+
+kept : (c : tie.After-fill) → Kept (entered c .args .work .now) (marked c)
+kept c =
+    let a = entered c in
+    let h = a .args .head in
+    subst (λ l. Kept (a .args .work .now) (set l (0 + h) 1)) (sym (c .fill .ensures))
+    (headed-kept (a .args .work .now) (a .args .s .rows) (0 + h) h (zero-add h) (head-inside a) (a .pre .0 .few-rows) (omega (arith, a .pre .4)))
+
+alone : (c : tie.After-fill) → HeadAlone (marked c) (entered c .args .s .rows) (entered c .args .head)
+alone c =
+    let a = entered c in
+    let h = a .args .head in
+    subst (λ l. HeadAlone (set l (0 + h) 1) (a .args .s .rows) h) (sym (c .fill .ensures))
+    (headed-alone (a .args .work .now) (a .args .s .rows) (0 + h) h (zero-add h) (head-inside a) (a .pre .0 .few-rows) (omega (arith, a .pre .4)))
+
+mul-work : tie.Need-mul-work
+mul-work c =
+    let a = c .before .before .before .before .before .before .before .before in
+    omega (arith, head-inside a, a .pre .0 .few-rows)
+
+add-work : tie.Need-add-work
+add-work c = search needs
+
+slice-write-work : tie.Need-slice-write-work
+slice-write-work c =
+    let a = c .before .before .before .before .before .before .before .before in
+    omega (arith, head-inside a, a .pre .4, c .before .before .fill .kept .0)
+
+write-wanted-requires : tie.Need-write-wanted-requires
+write-wanted-requires c κs =
+    let a = c .before .before .before .before .before .before .before .before .before .before in
+    let k = kept (c .before .before .before .before) in (
+      a .pre .0,
+      a .pre .1,
+      a .pre .2,
+      a .pre .3,
+      omega (arith, k .same-length, a .pre .4),
+      a .pre .5,
+      kept-held k (a .pre .6),
+      a .pre .7,
+      alone (c .before .before .before .before),
+    )
+
+same-length : tie.Need-same-length
+same-length c =
+    let f = c .before .before .before .before .before .before .before .before .before in
+    c .before .before .before .before .write-wanted .ensures .1 ∙ kept f .same-length
+
+same-length-2 : tie.Need-same-length-2
+same-length-2 c = search needs
+
+returns : tie.Need-returns
+returns c =
+    let a = c .before .before .before .before .before .before .before .before .before .before .before .before .before .before .before in
+    let k = kept (c .before .before .before .before .before .before .before .before .before) in
+    let w = c .before .before .before .before .write-wanted .ensures in
+    (w .0, w .1 ∙ k .same-length, w .2 ∙ kept-drop k (4 * a .args .s .rows + 2402) (omega arith))
+
+pub write-plan-spec : {M : Type 1} → statement M
+write-plan-spec =
+    tie.close
+    (tie.spec
+    fill-requires
+    add-work
+    mul-work
+    slice-write-work
+    write-wanted-requires
+    same-length
+    same-length-2
+    returns)

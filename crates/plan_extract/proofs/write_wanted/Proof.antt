@@ -1,0 +1,279 @@
+-- `plan_extract::write_wanted` meets its contract: at row i the plan is written as far as the rows before it. Assumes nothing.
+use Prim.Native.Nat.{_+_, _-_, _*_, _≤_, _<_}
+use mathlib.Core.List.{List, List·Memᴰ}
+use mathlib.Core.Logic.{_≢_}
+use mathlib.Core.Path.{sym, ap, _∙_}
+use native.Mathlib.Nat.{zero-add}
+use native.Mathlib.Omega.{arith}
+use lib.ListN.{getD}
+use Rattle.timetable.specs.declared.Row.{Row}
+use Rattle.plans.specs.Worth.{Valued}
+use Rattle.plans.proofs.Open.{found-member}
+use Rattle.plans.proofs.Order.{Ordered}
+use Rattle.plans.proofs.OwnWorth.{OwnWorth}
+use Rattle.plan_scan.specs.Scanned.{scanIn}
+use Rattle.plan_extract.specs.Marks.{Catching}
+use Rattle.plan_extract.proofs.Kept.{Kept, kept-none, kept-on, kept-drop}
+use Rattle.plan_extract.proofs.Timed.{ordered, own-worth, known}
+use Rattle.plan_extract.proofs.Passing.{kept as passed-kept}
+use Rattle.plan_extract.proofs.Writing.{writing-start, writing-pass, writing-end, plan-length}
+use Rattle.plan_extract.proofs.Turn.{AtRow, Turn, leave-inside, class-inside, landing-fits, met, arrived, changed}
+use Rattle.plan_extract.proofs.write_wanted.Statement.{statement}
+use Rattle.plan_extract.proofs.write_wanted.Tie as tie
+
+abbrev Inv-loop : tie.InvT-loop
+Inv-loop file s tables goal first head end work₀ plan₀ rides₀ latest₀ i₀ work plan rides latest i =
+    (i ≤ end) × (rides ≤ i) × (latest < 65536) × Kept work₀ work × AtRow file s goal first head end plan₀ work plan rides latest i
+
+abbrev μ-loop : tie.MeasureT-loop
+μ-loop file s tables goal first head end work₀ plan₀ rides₀ latest₀ i₀ work plan rides latest i = end - i
+
+-- the chosen rides, in order, each worth what those behind it give
+abbrev chosen : tie.Start Inv-loop μ-loop → List Valued
+chosen a = scanIn (a .args .file .now) (a .args .s) (a .args .goal) (a .args .first) (a .args .end) .chosen
+
+scanned : (a : tie.Start Inv-loop μ-loop) → Ordered (chosen a) × OwnWorth (a .args .goal .target) (chosen a)
+scanned a = (
+  ordered (a .args .file .now) (a .args .s) (a .pre .0) (a .args .end) (a .pre .3) (a .args .goal) (a .args .first) (a .pre .2),
+  own-worth (a .args .file .now) (a .args .s) (a .pre .0) (a .args .end) (a .pre .3) (a .args .goal) (a .args .first) (a .pre .2),
+)
+
+before-end : (a : tie.Start Inv-loop μ-loop) → (v : Valued) → List·Memᴰ v (chosen a) → v .ride .board < a .args .end
+before-end a v m =
+    known (a .args .file .now) (a .args .s) (a .pre .0) (a .args .end) (a .pre .3) (a .args .goal) (a .args .first) (a .pre .2) v m .before-end
+
+head-inside : (a : tie.Start Inv-loop μ-loop) → a .args .head < a .args .end
+head-inside a =
+    let f = a .pre .7 in
+    omega (arith, before-end a (f .ride) (found-member (chosen a) (f .stop) (f .minute) (f .is-first)), f .boards-at)
+
+loop-holds : tie.Need-loop-holds Inv-loop μ-loop
+loop-holds c =
+    let a = c .before .before .before .before in
+    let all = scanned a in
+    let w = a .args .work .now in
+    let p = a .args .plan .now in (
+      omega (arith, head-inside a),
+      omega arith,
+      omega arith,
+      kept-none (a .args .work .now),
+      λ f. writing-start (chosen a) (all .0) f (a .args .goal .target) (a .args .s .rows) (all .1) p w (a .pre .8),
+    )
+
+add-i : tie.Need-add-i Inv-loop μ-loop
+add-i c = omega arith
+
+add-if1 : tie.Need-add-if1 Inv-loop μ-loop
+add-if1 c = omega arith
+
+mul-if1 : tie.Need-mul-if1 Inv-loop μ-loop
+mul-if1 c = omega arith
+
+slice-read-if1 : tie.Need-slice-read-if1 Inv-loop μ-loop
+slice-read-if1 c = omega arith
+
+-- a turn at a marked row, from the place where the mark is read
+abbrev entered : tie.Then1 Inv-loop μ-loop → tie.Start Inv-loop μ-loop
+entered c = c .before .before .before .before .before .before .before .before
+
+abbrev TurnOf : tie.Then1 Inv-loop μ-loop → Type 0
+TurnOf c =
+    let a = entered c .args in
+    let l = c .before .before .before .loop in
+    Turn (a .file .now) (a .s) (a .tables .now) (a .goal) (a .first) (a .head) (a .end) (a .work .now) (a .plan .now) (l .work) (l .plan)
+    (l .rides) (l .latest) (l .i)
+
+turn : (c : tie.Then1 Inv-loop μ-loop) → TurnOf c
+turn c =
+    let a = entered c in
+    let l = c .before .before .before .loop in
+    record {
+      stand = a .pre .0;
+      blocks = a .pre .1;
+      ahead = a .pre .2;
+      inside = a .pre .3;
+      cells = a .pre .4;
+      room = a .pre .5;
+      held = a .pre .6;
+      begun = a .pre .7;
+      below = c .before .before .loop-test .taken;
+      few = l .inv .1;
+      kept = l .inv .3;
+      at-row = l .inv .4;
+      mark = ap (λ k. getD (l .work) k 0) (sym (zero-add (l .i))) ∙ c .if1 .taken;
+    }
+
+write-ride-requires : tie.Need-write-ride-requires Inv-loop μ-loop
+write-ride-requires c κs =
+    let a = c .before .before .before .before .before .before .before .before .before .before in
+    let l = c .before .before .before .before .before .loop in
+    let few : l .rides < a .args .s .rows = omega arith in
+    (omega arith, omega (arith, l .inv .3 .same-length), omega (arith, plan-length (l .inv .4 (a .pre .7)) (omega arith)))
+
+nth-row-requires : tie.Need-nth-row-requires Inv-loop μ-loop
+nth-row-requires c κs =
+    let m = c .before .before .before .before .before in
+    (entered m .pre .0, leave-inside (turn m) (c .before .before .write-ride .result) (c .before .before .write-ride .ensures .0))
+
+mul-number : tie.Need-mul-number Inv-loop μ-loop
+mul-number c = omega arith
+
+add-number : tie.Need-add-number Inv-loop μ-loop
+add-number c = omega arith
+
+mul-number-2 : tie.Need-mul-number-2 Inv-loop μ-loop
+mul-number-2 c = omega arith
+
+shared-slice-read-number : tie.Need-shared-slice-read-number Inv-loop μ-loop
+shared-slice-read-number c =
+    let m = c .before .before .before .before .before .before .before .before in
+    let w = c .before .before .before .before .before .write-ride in
+    let n = c .before .before .nth-row in
+    omega (arith, entered m .pre .1 .room, class-inside (turn m) (w .result) (w .ensures .0) (n .result) (n .ensures .0))
+
+number-requires : tie.Need-number-requires Inv-loop μ-loop
+number-requires c κs = tt
+
+-- it lands in time, at a minute of 16 bits
+lands-soon : (c : tie.After-number Inv-loop μ-loop) → c .before .before .before .nth-row .result .arrival + c .number .result < 65536
+lands-soon c =
+    let m = c .before .before .before .before .before .before .before .before .before in
+    let w = c .before .before .before .before .before .before .write-ride in
+    let n = c .before .before .before .nth-row in
+    landing-fits (turn m) (w .result) (w .ensures .0) (n .result) (n .ensures .0) (c .number .result) (c .number .ensures .0)
+
+add-landing : tie.Need-add-landing Inv-loop μ-loop
+add-landing c = record { fits = omega (arith, lands-soon (c .before)) }
+
+add-rides : tie.Need-add-rides Inv-loop μ-loop
+add-rides c = omega arith
+
+later-requires : tie.Need-later-requires Inv-loop μ-loop
+later-requires c κs = tt
+
+-- the turn that wrote a ride, and the row where that leaves
+abbrev boarded : tie.After-later Inv-loop μ-loop → tie.Then1 Inv-loop μ-loop
+boarded c = c .before .before .before .before .before .before .before .before .before .before .before
+
+abbrev leaving : tie.After-later Inv-loop μ-loop → Row
+leaving c = c .before .before .before .before .before .nth-row .result
+
+-- away from the target the stack of the landing stop is met
+stack-met : (c : tie.After-later Inv-loop μ-loop) → leaving c .land ≢ entered (boarded c) .args .goal .target
+    → Catching (boarded c .before .before .before .loop .work) (leaving c .land) (leaving c .arrival)
+    (leaving c .arrival + c .before .before .number .result)
+stack-met c =
+    let w = c .before .before .before .before .before .before .before .before .write-ride in
+    let n = c .before .before .before .before .before .nth-row in
+    let d = c .before .before .number in
+    met (turn (boarded c)) (w .result) (w .ensures .0) (n .result) (n .ensures .0) (d .result) (d .ensures .0)
+
+want-requires : tie.Need-want-requires Inv-loop μ-loop
+want-requires c κs = stack-met (c .before .before .before .before) (c .before .if2 .taken)
+
+loop-less : tie.Need-loop-less Inv-loop μ-loop
+loop-less c =
+    let r = c .before .before .before .before .before .before .before in
+    omega (arith, turn (boarded r) .below)
+
+loop-again : tie.Need-loop-again Inv-loop μ-loop
+loop-again c =
+    let r = c .before .before .before .before .before .before .before in
+    let m = boarded r in
+    let l = m .before .before .before .loop in
+    let w = r .before .before .before .before .before .before .before .before .write-ride in
+    let n = r .before .before .before .before .before .nth-row in
+    let d = r .before .before .number in
+    let away = c .before .before .before .before .if2 .taken in
+    let passed = c .before .before .want .ensures in (
+      omega (arith, turn m .below),
+      omega (arith, l .inv .1),
+      omega (arith, r .later .ensures, lands-soon (r .before .before), l .inv .2),
+      kept-on (l .inv .3) (record { same-length = passed .same-length; same-cell = passed-kept (l .work) _ _ _ (stack-met r away) passed }),
+      changed (turn m) (w .result) (w .ensures .0) (n .result) (n .ensures .0) (d .result) (d .ensures .0) (w .last .1 .1 .1 .0) (w .ensures .1)
+          (r .later .result) (r .later .ensures) away (c .before .before .want .last .1 .1 .1 .0) passed,
+    )
+
+loop-less-2 : tie.Need-loop-less-2 Inv-loop μ-loop
+loop-less-2 c = omega arith
+
+loop-again-2 : tie.Need-loop-again-2 Inv-loop μ-loop
+loop-again-2 c =
+    let r = c .before .before .before in
+    let m = boarded r in
+    let l = m .before .before .before .loop in
+    let w = r .before .before .before .before .before .before .before .before .write-ride in
+    let n = r .before .before .before .before .before .nth-row in
+    let d = r .before .before .number in (
+      omega (arith, turn m .below),
+      omega (arith, l .inv .1),
+      omega (arith, r .later .ensures, lands-soon (r .before .before), l .inv .2),
+      l .inv .3,
+      arrived (turn m) (w .result) (w .ensures .0) (n .result) (n .ensures .0) (d .result) (d .ensures .0) (w .last .1 .1 .1 .0) (w .ensures .1)
+          (r .later .result) (r .later .ensures) (c .if2 .left),
+    )
+
+loop-less-3 : tie.Need-loop-less-3 Inv-loop μ-loop
+loop-less-3 c = omega arith
+
+loop-again-3 : tie.Need-loop-again-3 Inv-loop μ-loop
+loop-again-3 c =
+    let l = c .before .before .before .loop in (
+      omega arith,
+      omega arith,
+      l .inv .2,
+      l .inv .3,
+      λ f. writing-pass (l .inv .4 f) (λ mark. c .if1 .left (ap (λ k. getD (l .work) k 0) (zero-add (l .i)) ∙ mark)),
+    )
+
+cell-requires : tie.Need-cell-requires Inv-loop μ-loop
+cell-requires c κs = omega arith
+
+same-length : tie.Need-same-length Inv-loop μ-loop
+same-length c = c .before .before .loop .inv .3 .same-length
+
+same-length-2 : tie.Need-same-length-2 Inv-loop μ-loop
+same-length-2 c = plan-length (c .before .before .loop .inv .4 (c .before .before .before .before .before .before .before .pre .7)) (omega arith)
+
+returns : tie.Need-returns Inv-loop μ-loop
+returns c =
+    let a = c .before .before .before .before .before .before .before in
+    let l = c .before .before .loop in (
+      (λ f. let done = writing-end (l .inv .4 f) (λ v m. omega (arith, c .before .loop-test .left, before-end a v m)) in
+          (done .0, done .1, c .cell .ensures ∙ done .2)),
+      l .inv .3 .same-length,
+      kept-drop (l .inv .3) (4 * a .args .s .rows + 2402) (omega arith),
+    )
+
+pub write-wanted-spec : {M : Type 1} → statement M
+write-wanted-spec =
+    tie.close
+    (tie.spec
+    Inv-loop
+    μ-loop
+    loop-holds
+    add-i
+    add-if1
+    mul-if1
+    slice-read-if1
+    write-ride-requires
+    nth-row-requires
+    mul-number
+    add-number
+    mul-number-2
+    shared-slice-read-number
+    number-requires
+    add-landing
+    add-rides
+    later-requires
+    want-requires
+    loop-less
+    loop-again
+    loop-less-2
+    loop-again-2
+    loop-less-3
+    loop-again-3
+    cell-requires
+    same-length
+    same-length-2
+    returns)

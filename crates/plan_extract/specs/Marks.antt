@@ -1,0 +1,47 @@
+-- Which rows are wanted, as the lent cells mark them: a row's mark is 1 once a ride of the plan may be changed to its ride.
+use Prim.Native.Nat.{ℕ, _+_, _*_, _%_, _≤_, _<_}
+use mathlib.Core.List.{List}
+use mathlib.Core.Logic.{_⊎_}
+use mathlib.Core.Path.{_≡_}
+use lib.ListN.{length, getD, set}
+use Rattle.plan_cells.specs.Cells.{stackStart, stackSize}
+use Rattle.plan_landing.specs.Landing.{departureAt, Falling}
+
+-- the row of a stack's entry, by its place from the bottom
+abbrev pub entryRow : List ℕ → (start place : ℕ) → ℕ
+entryRow work start place = getD work (start + 2 * place) 0 % 2048
+
+-- an entry from `arrival` on, up to and including the first at or after `landing`: all that depart before it do so before `landing`
+pub record Caught (work : List ℕ) (start size arrival landing place : ℕ) : Type 0 where
+  pub inside : place < size
+  pub opens : arrival ≤ departureAt work start place
+  pub needed : (k : ℕ) → place < k → k < size → departureAt work start k < landing
+
+-- the stack of a landing stop, whose last entry departs at or after `landing`
+pub record Catching (work : List ℕ) (land arrival landing : ℕ) : Type 0 where
+  pub stop : land < 200
+  pub cells : 2400 ≤ length work
+  pub falling : Falling work (stackStart work land) (stackSize work land) arrival
+  pub rows : (k : ℕ) → k < stackSize work land → entryRow work (stackStart work land) k < 2000
+  pub late : arrival ≤ landing
+  pub safe : landing ≤ departureAt work (stackStart work land) 0
+
+-- the entries caught from place `place` up are marked, and nothing else is changed
+pub record Passed (old new : List ℕ) (start size arrival landing place : ℕ) : Type 0 where
+  pub same-length : length new ≡ length old
+  pub marked : (k : ℕ) → place ≤ k → Caught old start size arrival landing k → getD new (entryRow old start k) 0 ≡ 1
+  pub only :
+      (i : ℕ) → (getD new i 0 ≡ getD old i 0) ⊎ ((k : ℕ) × Caught old start size arrival landing k × (i ≡ entryRow old start k))
+
+-- all entries caught at a stop are
+abbrev pub AllPassed : (old new : List ℕ) (land arrival landing : ℕ) → Type 0
+AllPassed old new land arrival landing = Passed old new (stackStart old land) (stackSize old land) arrival landing 0
+
+-- row `head` alone of n rows is marked
+pub record HeadAlone (work : List ℕ) (n head : ℕ) : Type 0 where
+  pub marked : getD work head 0 ≡ 1
+  pub only : (i : ℕ) → i < n → getD work i 0 ≡ 1 → i ≡ head
+
+-- three numbers of the plan: ride number `ride`
+abbrev pub put : List ℕ → (ride board leave worth : ℕ) → List ℕ
+put plan ride board leave worth = set (set (set plan (3 * ride) board) (3 * ride + 1) leave) (3 * ride + 2) worth

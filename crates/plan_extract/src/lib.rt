@@ -1,0 +1,149 @@
+// Document 01, "Expected arrival in ticks": the plan, by one pass forward over the wanted rows.
+ghost use mathlib.Core.Path.{_≡_};
+ghost use Prim.Native.Nat.{ℕ, _+_, _*_, _≤_, _<_, max};
+ghost use lib.ListN.{length, drop, getD};
+ghost use Rattle.plans.specs.Plan.{latestOf};
+ghost use Rattle.plan_cells.specs.Cells.{used, pairs};
+ghost use Rattle.plan_rows.specs.Reading.{tablesIn, Stand, TablesHeld};
+ghost use Rattle.plan_scan.specs.Scanned.{scanIn, ScanHeld};
+ghost use Rattle.plan_extract.specs.Extracted.{FirstRide, ridesOf, written};
+ghost use Rattle.numbers.specs.Over.{over};
+ghost use Rattle.plan_extract.specs.Marks.{Catching, AllPassed, HeadAlone, put};
+use numbers::cell;
+use numbers::number;
+use plan_cells::PAIRS;
+use plan_cells::SIZES;
+use plan_cells::STOPS;
+use plan_cells::TRIPS;
+use plan_cells::fill;
+use plan_landing::Goal;
+use plan_landing::departure_of;
+use plan_landing::first_open;
+use plan_landing::row_of;
+use plan_rows::BLOCK;
+use plan_rows::LONGEST;
+use plan_rows::Sailings;
+use plan_rows::nth_row;
+use plan_rows::opens;
+
+// How many rides a plan has, and the largest a + M of them.
+pub struct Written {
+    pub rides: usize,
+    pub latest: u32,
+}
+
+// The rides of the plan whose first row is `head`, by boarding row rising, into the plan slice.
+pub fn write_plan(
+    file: &[u8],
+    s: Sailings,
+    tables: &[u32],
+    goal: Goal,
+    first: usize,
+    head: usize,
+    end: usize,
+    work: &mut [u32],
+    plan: &mut [u32],
+) -> Written
+    requires { ⌜ Stand (now file) s × TablesHeld (now tables) (tablesIn (now file) s) × (first ≤ end) × (end ≤ s .rows)
+        × (used (s .rows) ≤ length (now work)) × (3 * s .rows ≤ length (now plan))
+        × ScanHeld (now work) (s .rows) first end (scanIn (now file) s goal first end)
+        × FirstRide (scanIn (now file) s goal first end .chosen) head ⌝ }
+    ensures { λ r. ⌜ ((f : FirstRide (scanIn (now (file .entry)) s goal first end .chosen) head)
+        → (now (plan .exit) ≡ over (written (ridesOf (goal .target) f)) (now (plan .entry)))
+        × (r .rides ≡ length (ridesOf (goal .target) f)) × (r .latest ≡ latestOf (ridesOf (goal .target) f)))
+        × (length (now (work .exit)) ≡ length (now (work .entry)))
+        × (drop (used (s .rows)) (now (work .exit)) ≡ drop (used (s .rows)) (now (work .entry))) ⌝ }
+{
+    fill(work, TRIPS, s.rows, 0);
+    work[TRIPS + head] = 1;
+    write_wanted(file, s, tables, goal, first, head, end, work, plan)
+}
+
+// The rides of the marked rows; each marks the rows that it may be changed to, all of them further on.
+fn write_wanted(
+    file: &[u8],
+    s: Sailings,
+    tables: &[u32],
+    goal: Goal,
+    first: usize,
+    head: usize,
+    end: usize,
+    work: &mut [u32],
+    plan: &mut [u32],
+) -> Written
+    requires { ⌜ Stand (now file) s × TablesHeld (now tables) (tablesIn (now file) s) × (first ≤ end) × (end ≤ s .rows)
+        × (used (s .rows) ≤ length (now work)) × (3 * s .rows ≤ length (now plan))
+        × ScanHeld (now work) (s .rows) first end (scanIn (now file) s goal first end)
+        × FirstRide (scanIn (now file) s goal first end .chosen) head × HeadAlone (now work) (s .rows) head ⌝ }
+    ensures { λ r. ⌜ ((f : FirstRide (scanIn (now (file .entry)) s goal first end .chosen) head)
+        → (now (plan .exit) ≡ over (written (ridesOf (goal .target) f)) (now (plan .entry)))
+        × (r .rides ≡ length (ridesOf (goal .target) f)) × (r .latest ≡ latestOf (ridesOf (goal .target) f)))
+        × (length (now (work .exit)) ≡ length (now (work .entry)))
+        × (drop (used (s .rows)) (now (work .exit)) ≡ drop (used (s .rows)) (now (work .entry))) ⌝ }
+{
+    let mut rides = 0;
+    let mut latest = 0;
+    let mut i = head;
+    while i < end {
+        let board = i;
+        i += 1;
+        if work[TRIPS + board] == 1 {
+            let leave = write_ride(board, rides, work, plan);
+            let row = nth_row(file, s, leave);
+            let landing = row.arrival + number(tables[BLOCK * row.class + LONGEST]);
+            rides += 1;
+            latest = later(latest, landing);
+            if row.land != goal.target {
+                want(row.land, row.arrival, landing, work);
+            }
+        }
+    }
+    Written {
+        rides,
+        latest: cell(latest),
+    }
+}
+
+// The later of two minutes.
+fn later(a: usize, b: usize) -> usize
+    ensures { λ r. ⌜ r ≡ max a b ⌝ }
+{
+    if a < b {
+        return b;
+    }
+    a
+}
+
+// Boarding row, leaving row and worth, as ride number `ride`; the leaving row.
+fn write_ride(board: usize, ride: usize, work: &[u32], plan: &mut [u32]) -> usize
+    requires { ⌜ (board < 4294967296) × (pairs + 2 * board + 1 < length (now work)) × (3 * ride + 2 < length (now plan)) ⌝ }
+    ensures { λ r. ⌜ (r ≡ getD (now (work .entry)) (pairs + 2 * board + 1) 0)
+        × (now (plan .exit) ≡ put (now (plan .entry)) ride board (getD (now (work .entry)) (pairs + 2 * board + 1) 0) (getD (now (work .entry)) (pairs + 2 * board) 0)) ⌝ }
+{
+    let pair = PAIRS + 2 * board;
+    let at = 3 * ride;
+    let leave = work[pair + 1];
+    plan[at] = cell(board);
+    plan[at + 1] = leave;
+    plan[at + 2] = work[pair];
+    number(leave)
+}
+
+// After a ride that lands at `land` from `arrival` to `landing`: the rows that can be caught are wanted, up
+// to and including the first that departs at or after `landing`.
+fn want(land: usize, arrival: usize, landing: usize, work: &mut [u32])
+    requires { ⌜ Catching (now work) land arrival landing ⌝ }
+    ensures { λ r. ⌜ AllPassed (now (work .entry)) (now (work .exit)) land arrival landing ⌝ }
+{
+    let size = number(work[SIZES + land]);
+    let start = PAIRS + 2 * number(work[STOPS + land]);
+    let mut entry = first_open(work, start, size, arrival);
+    let mut key = work[entry];
+    while !opens(departure_of(key), landing) {
+        work[TRIPS + row_of(key)] = 1;
+        entry -= 2;
+        key = work[entry];
+    }
+    let safe = row_of(key);
+    work[TRIPS + safe] = 1;
+}

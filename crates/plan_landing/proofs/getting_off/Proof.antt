@@ -1,0 +1,299 @@
+-- `plan_landing::getting_off` meets its contract: each way out is what the definition says. Assumes nothing.
+use Prim.Native.Nat.{ℕ, _+_, _*_, _/_, _≤_, _<_}
+use mathlib.Core.List.{List}
+use mathlib.Core.Path.{_≡_, sym, ap, subst, _∙_}
+use native.Mathlib.Nat.{add-zero}
+use native.Mathlib.Omega.{arith}
+use lib.ListN.{getD}
+use borrow.Author.Needs.{needs}
+use borrow.Author.Tests.{leb-true, leb-false, not-true, not-false}
+use Rattle.timetable.specs.Timetable.{longest}
+use Rattle.plan_cells.specs.Cells.{stackStart, stackSize}
+use Rattle.plans.specs.Worth.{Valued, caught}
+use Rattle.plan_landing.specs.Landing.{Ready, Falling, FirstOpenAt, departureAt}
+use Rattle.plan_landing.proofs.Landings.{falling, none-there, all-gone, boarding, expected-fits, off-late, off-there, off-unsafe, off-changing}
+use Rattle.plan_landing.proofs.getting_off.Statement.{statement}
+use Rattle.plan_landing.proofs.getting_off.Tie as tie
+
+moved : (P : ℕ → ℕ → Type 0) {s t y z : ℕ} → s ≡ t → y ≡ z → P t z → P s y
+moved P {s} {t} {y} {z} e f p = subst (λ x. P x y) (sym e) (subst (λ x. P t x) (sym f) p)
+
+-- places on the way: the entry; where M is read, by the way to the target or to another stop; where the stack's start is read
+abbrev begun : tie.After-number → tie.Start
+begun c = c .before .before .before .before .before
+
+abbrev timed-there : tie.Then1 → tie.After-number
+timed-there c = c .before .before .before .before
+
+abbrev elsewhere : tie.After-number3 → tie.Else1
+elsewhere c = c .before .before .before .before
+
+abbrev timed : tie.After-number3 → tie.After-number
+timed c = elsewhere c .before .before .before .before
+
+abbrev stacked : tie.After-opens → tie.After-number3
+stacked c = c .before .before .before .before
+
+-- a + M, as the class's block has it
+abbrev landing : tie.After-number → ℕ
+landing c = begun c .args .row .arrival + c .number .result
+
+lands : (c : tie.After-number) (shares : List ℕ) (chosen : List Valued) →
+    let a = begun c .args in
+    Ready (a .row) (a .tables .now) (a .work .now) shares chosen → landing c ≡ a .row .arrival + longest shares
+lands c shares chosen ready =
+    let a = begun c .args in
+    ap (λ m. a .row .arrival + m)
+    (c .number .ensures .0 ∙ ap (λ k. getD (a .tables .now) k 0) (add-zero (256 * a .row .class)) ∙ ready .block .longest-held)
+
+-- the stack's size and first cell, as read
+size-read : (c : tie.After-number3) →
+    let a = begun (timed c) .args in
+    c .before .before .number2 .result ≡ stackSize (a .work .now) (a .row .land)
+size-read c = c .before .before .number2 .ensures .0
+
+start-read : (c : tie.After-number3) →
+    let a = begun (timed c) .args in
+    2400 + 2 * c .number3 .result ≡ stackStart (a .work .now) (a .row .land)
+start-read c = ap (λ x. 2400 + 2 * x) (c .number3 .ensures .0)
+
+some-entry : (c : tie.Else3) →
+    let a = begun (timed (c .before)) .args in
+    0 < stackSize (a .work .now) (a .row .land)
+some-entry c = omega (arith, c .if3 .left, size-read (c .before))
+
+-- the bottom entry's departure, as read
+bottom-read : (c : tie.After-opens) →
+    let a = begun (timed (stacked c)) .args in
+    c .before .departure-of .result ≡ departureAt (a .work .now) (stackStart (a .work .now) (a .row .land)) 0
+bottom-read c =
+    let a = begun (timed (stacked c)) .args in
+    let there : 2400 + 2 * stacked c .number3 .result ≡ stackStart (a .work .now) (a .row .land) + 2 * 0 = omega (arith, start-read (stacked c)) in
+    c .before .departure-of .ensures ∙ ap (λ x. getD (a .work .now) x 0 / 2048) there
+
+gone : (c : tie.Then4) →
+    let t = timed (stacked (c .before)) in
+    let a = begun t .args in
+    departureAt (a .work .now) (stackStart (a .work .now) (a .row .land)) 0 < landing t
+gone c =
+    let t = timed (stacked (c .before)) in
+    subst (λ d. d < landing t) (bottom-read (c .before))
+    (leb-false (landing t) (c .before .before .departure-of .result)
+    (sym (c .before .opens .ensures) ∙ not-true (c .before .opens .result) (c .if4 .taken)))
+
+late : (c : tie.Else4) →
+    let t = timed (stacked (c .before)) in
+    let a = begun t .args in
+    landing t ≤ departureAt (a .work .now) (stackStart (a .work .now) (a .row .land)) 0
+late c =
+    let t = timed (stacked (c .before)) in
+    subst (λ d. landing t ≤ d) (bottom-read (c .before))
+    (leb-true (landing t) (c .before .before .departure-of .result)
+    (sym (c .before .opens .ensures) ∙ not-false (c .before .opens .result) (c .if4 .left)))
+
+found : (c : tie.After-first-open) →
+    let a = begun (timed (stacked (c .before .before))) .args in
+    FirstOpenAt (a .work .now) (stackStart (a .work .now) (a .row .land)) (stackSize (a .work .now) (a .row .land))
+    (a .row .arrival) (c .first-open .result)
+found c =
+    let s = stacked (c .before .before) in
+    let a = begun (timed s) .args in
+    moved (λ start size. FirstOpenAt (a .work .now) start size (a .row .arrival) (c .first-open .result)) (sym (start-read s))
+    (sym (size-read s)) (c .first-open .ensures)
+
+mul-class : tie.Need-mul-class
+mul-class c = search needs
+
+add-number : tie.Need-add-number
+add-number c = search needs
+
+mul-number : tie.Need-mul-number
+mul-number c = search needs
+
+shared-slice-read-number : tie.Need-shared-slice-read-number
+shared-slice-read-number c = search needs
+
+number-requires : tie.Need-number-requires
+number-requires c κs = search needs
+
+add-landing : tie.Need-add-landing
+add-landing c = search needs
+
+bounded-requires : tie.Need-bounded-requires
+bounded-requires c κs = search needs
+
+returns : tie.Need-returns
+returns c =
+    λ shares chosen ready.
+    let t = timed-there (c .before .before) in
+    let goal = begun t .args .goal in
+    off-late ready (goal .target) (goal .bound) (landing t) (lands t shares chosen ready) (c .before .before .if1 .taken)
+    (sym (c .before .bounded .ensures) ∙ not-true (c .before .bounded .result) (c .if2 .taken))
+
+mul-cell : tie.Need-mul-cell
+mul-cell c = search needs
+
+cell-requires : tie.Need-cell-requires
+cell-requires c κs = search needs
+
+add-result : tie.Need-add-result
+add-result c = search needs
+
+mul-result : tie.Need-mul-result
+mul-result c = search needs
+
+shared-slice-read-result : tie.Need-shared-slice-read-result
+shared-slice-read-result c = search needs
+
+add-result-2 : tie.Need-add-result-2
+add-result-2 c =
+    let t = timed-there (c .before .before .before .before .before) in
+    omega (arith, c .before .cell .ensures, expected-fits (begun t .pre .ready))
+
+returns-2 : tie.Need-returns-2
+returns-2 c =
+    λ shares chosen ready.
+    let there = c .before .before .before .before .before in
+    let t = timed-there there in
+    let a = begun t .args in
+    let soon = c .before .before .before .before .bounded in
+    ap (λ x. x + getD (a .tables .now) (256 * a .row .class + 1) 0) (c .before .cell .ensures)
+    ∙ off-there ready (a .goal .target) (a .goal .bound) (landing t) (lands t shares chosen ready) (there .if1 .taken)
+    (sym (soon .ensures) ∙ not-false (soon .result) (c .before .before .before .if2 .left))
+
+add-number-2 : tie.Need-add-number-2
+add-number-2 c = search needs
+
+mul-number-2 : tie.Need-mul-number-2
+mul-number-2 c = search needs
+
+shared-slice-read-number-2 : tie.Need-shared-slice-read-number-2
+shared-slice-read-number-2 c = search needs
+
+number-requires-2 : tie.Need-number-requires-2
+number-requires-2 c κs = search needs
+
+add-number-3 : tie.Need-add-number-3
+add-number-3 c = search needs
+
+mul-number-3 : tie.Need-mul-number-3
+mul-number-3 c = search needs
+
+shared-slice-read-number-3 : tie.Need-shared-slice-read-number-3
+shared-slice-read-number-3 c = search needs
+
+number-requires-3 : tie.Need-number-requires-3
+number-requires-3 c κs = search needs
+
+mul-start : tie.Need-mul-start
+mul-start c = search needs
+
+add-start : tie.Need-add-start
+add-start c = search needs
+
+returns-3 : tie.Need-returns-3
+returns-3 c =
+    λ shares chosen ready.
+    let t = timed (c .before) in
+    let goal = begun t .args .goal in
+    off-unsafe ready (goal .target) (goal .bound) (landing t) (lands t shares chosen ready) (elsewhere (c .before) .if1 .left)
+    (none-there ready (landing t) (sym (size-read (c .before)) ∙ c .if3 .taken))
+
+mul-departure-of : tie.Need-mul-departure-of
+mul-departure-of c = search needs
+
+shared-slice-read-departure-of : tie.Need-shared-slice-read-departure-of
+shared-slice-read-departure-of c = search needs
+
+departure-of-requires : tie.Need-departure-of-requires
+departure-of-requires c κs = search needs
+
+opens-requires : tie.Need-opens-requires
+opens-requires c κs = search needs
+
+returns-4 : tie.Need-returns-4
+returns-4 c =
+    λ shares chosen ready.
+    let s = stacked (c .before) in
+    let t = timed s in
+    let goal = begun t .args .goal in
+    off-unsafe ready (goal .target) (goal .bound) (landing t) (lands t shares chosen ready) (elsewhere s .if1 .left)
+    (all-gone ready (landing t) (some-entry (c .before .before .before .before)) (gone c))
+
+first-open-requires : tie.Need-first-open-requires
+first-open-requires c κs =
+    let s = stacked (c .before) in
+    let begin = begun (timed s) in
+    moved (λ start size. Falling (begin .args .work .now) start size (begin .args .row .arrival)) (start-read s) (size-read s)
+    (falling (begin .pre .ready) (begin .args .row .arrival) (some-entry (c .before .before .before .before)) (omega (arith, late c)))
+
+add-changing : tie.Need-add-changing
+add-changing c = search needs
+
+changing-requires : tie.Need-changing-requires
+changing-requires c κs =
+    let t = timed (stacked (c .before .before)) in
+    let a = begun t .args in
+    let p = begun t .pre in
+    record {
+      start = stackStart (a .work .now) (a .row .land);
+      first = found c .place;
+      shares = p .shares;
+      caught = λ minute. caught (p .chosen) (a .row .land) minute;
+      stands = found c .stands;
+      boarding = boarding (p .ready) (c .first-open .result) (found c) (landing t) (lands t (p .shares) (p .chosen) (p .ready)) (late (c .before));
+    }
+
+returns-5 : tie.Need-returns-5
+returns-5 c =
+    λ shares chosen ready.
+    let s = stacked (c .before .before .before) in
+    let t = timed s in
+    let a = begun t .args in
+    let opened = found (c .before) in
+    let on = lands t shares chosen ready in
+    let safe = late (c .before .before) in
+    c .changing .ensures (stackStart (a .work .now) (a .row .land)) (opened .place) shares (λ minute. caught chosen (a .row .land) minute)
+    (opened .stands) (boarding ready (c .before .first-open .result) opened (landing t) on safe)
+    ∙ off-changing ready (a .goal .target) (a .goal .bound) (landing t) on (elsewhere s .if1 .left)
+    (some-entry (c .before .before .before .before .before .before)) safe
+
+pub getting-off-spec : {M : Type 1} → statement M
+getting-off-spec =
+    tie.close
+    (tie.spec
+    mul-class
+    add-number
+    mul-number
+    shared-slice-read-number
+    number-requires
+    add-landing
+    bounded-requires
+    returns
+    mul-cell
+    cell-requires
+    add-result
+    mul-result
+    shared-slice-read-result
+    add-result-2
+    returns-2
+    add-number-2
+    mul-number-2
+    shared-slice-read-number-2
+    number-requires-2
+    add-number-3
+    mul-number-3
+    shared-slice-read-number-3
+    number-requires-3
+    mul-start
+    add-start
+    returns-3
+    mul-departure-of
+    shared-slice-read-departure-of
+    departure-of-requires
+    opens-requires
+    returns-4
+    first-open-requires
+    add-changing
+    changing-requires
+    returns-5)

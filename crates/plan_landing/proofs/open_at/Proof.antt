@@ -1,0 +1,53 @@
+-- `plan_landing::open_at` meets its contract: a minute and its least key tell the same. Assumes nothing.
+use Prim.Native.Nat.{_*_, _/_}
+use mathlib.Core.Bool.{Bool, true, false, cond}
+use mathlib.Core.Path.{_≡_, ap, _∙_}
+use lib.Dec.{leb}
+use lib.ListN.{getD}
+use mir.Val.{boolByte}
+use borrow.Author.Needs.{needs}
+use Rattle.plan_landing.proofs.Search.{by-keys}
+use Rattle.plan_landing.proofs.open_at.Statement.{statement}
+use Rattle.plan_landing.proofs.open_at.Tie as tie
+
+-- a test as a number
+counted : (one other : Bool) → one ≡ other → boolByte one ≡ cond other 1 0
+counted true other same = ap (λ b. cond b 1 0) same
+counted false other same = ap (λ b. cond b 1 0) same
+
+mul-number : tie.Need-mul-number
+mul-number c = search needs
+
+shared-slice-read-number : tie.Need-shared-slice-read-number
+shared-slice-read-number c = search needs
+
+number-requires : tie.Need-number-requires
+number-requires c κs = search needs
+
+mul-opens : tie.Need-mul-opens
+mul-opens c = search needs
+
+opens-requires : tie.Need-opens-requires
+opens-requires c κs = search needs
+
+cast-result : tie.Need-cast-result
+cast-result c = search needs
+
+returns : tie.Need-returns
+returns c =
+    let a = c .before .before .before .before .args in
+    let key = getD (a .work .now) (a .at) 0 in
+    counted (c .opens .result) (leb (a .minute) (key / 2048))
+    (c .opens .ensures ∙ ap (λ k. leb (2048 * a .minute) k) (c .before .number .ensures .0) ∙ by-keys (a .minute) key)
+
+pub open-at-spec : {M : Type 1} → statement M
+open-at-spec =
+    tie.close
+    (tie.spec
+    mul-number
+    shared-slice-read-number
+    number-requires
+    mul-opens
+    opens-requires
+    cast-result
+    returns)

@@ -1,0 +1,63 @@
+// A sound file's rows by their numbers, and when one can board.
+ghost use mathlib.Core.Path.{_≡_};
+ghost use Prim.Native.Nat.{_<_};
+ghost use lib.Dec.{leb};
+ghost use Rattle.timetable.specs.Timetable.{rowOf};
+ghost use Rattle.file_layout.specs.Small.{SmallRow};
+ghost use Rattle.plan_rows.specs.Reading.{rowsIn, Stand, Cut};
+use file_layout::row_at;
+use timetable::Row;
+
+// Where a sound file's sections stand: how many rows, the first one's byte, the bytes of a row; how
+// many classes, the first one's byte.
+pub struct Sailings {
+    pub rows: usize,
+    pub rowstart: usize,
+    pub width: usize,
+    pub classes: usize,
+    pub tablestart: usize,
+}
+
+// A class's block in the lent array of tables: its maximum delay M, its expected delay in ticks,
+// then the share of landings at most 0, 1, .. M minutes late.
+pub const BLOCK: usize = 256;
+
+pub const LONGEST: usize = 0;
+
+pub const EXPECTED: usize = 1;
+
+pub const SHARES: usize = 2;
+
+// Row number `i`.
+pub fn nth_row(file: &[u8], s: Sailings, i: usize) -> Row
+    requires { ⌜ Stand (now file) s × (i < s .rows) ⌝ }
+    ensures { λ r. ⌜ (r ≡ rowOf (rowsIn (now (file .entry)) s) i) × SmallRow r ⌝ }
+{
+    row_at(file, s.rowstart + s.width * i)
+}
+
+// One who stands at the stop at `minute` can board what departs there at `departure`.
+pub fn opens(departure: usize, minute: usize) -> bool
+    ensures { λ r. ⌜ r ≡ leb minute departure ⌝ }
+{
+    minute <= departure
+}
+
+// How many rows depart before `minute`: they stand ahead of all others.
+pub fn rows_before(file: &[u8], s: Sailings, minute: usize) -> usize
+    requires { ⌜ Stand (now file) s ⌝ }
+    ensures { λ r. ⌜ Cut (rowsIn (now (file .entry)) s) minute r ⌝ }
+{
+    let mut low = 0;
+    let mut high = s.rows;
+    while low < high {
+        let middle = low + (high - low) / 2;
+        let row = nth_row(file, s, middle);
+        if opens(row.departure, minute) {
+            high = middle;
+        } else {
+            low = middle + 1;
+        }
+    }
+    low
+}

@@ -1,0 +1,69 @@
+-- The scan's first and last cells: what parting the stacks leaves begins it, and what it holds at its first row is the scan.
+use Prim.Native.Nat.{ℕ, suc, _+_, _≤_, _<_}
+use mathlib.Core.List.{List, []}
+use mathlib.Core.Path.{_≡_, sym, ap, subst, _∙_}
+use native.Mathlib.Omega.{arith}
+use lib.ListN.{getD}
+use lib.Seq.{slice, slice-empty, length-slice}
+use Rattle.plans.specs.Chosen.{Scan, scan, nextOf}
+use Rattle.plan_cells.specs.Cells.{trips, missing, stackAt, stackStart}
+use Rattle.plan_rows.specs.declared.Sailings.{Sailings}
+use Rattle.plan_rows.specs.Reading.{rowsIn, tablesIn, Stand}
+use Rattle.plan_landing.specs.declared.Goal.{Goal}
+use Rattle.plan_landing.specs.Landing.{atStop}
+use Rattle.plan_scan.specs.Stores.{pairCell, startOf, sizeOf, worthAt}
+use Rattle.plan_scan.specs.Regions.{countAt, below}
+use Rattle.plan_scan.specs.Scanned.{scanIn, ScanHeld}
+use Rattle.plan_scan.specs.Held.{PairsHeld, StackHeld, Held}
+use Rattle.plan_scan.proofs.Regions.{below-count, below-later}
+use Rattle.plan_scan.proofs.TimetableTo.{climbing}
+
+abbrev nothing : Scan
+nothing = record { weighed = []; chosen = [] }
+
+module _ (file : List ℕ) (s : Sailings) (goal : Goal) (first end : ℕ) (stand : Stand file s) (inside : end ≤ s .rows) where
+  scan-none : scanIn file s goal end end ≡ nothing
+  unfolding scan
+  scan-none = ap (scan _ (goal .target) (tablesIn file s) end) (slice-empty end (rowsIn file s))
+
+  -- no row has been weighed: no trip has a next row, the stacks are empty
+  pub held-begins :
+      (w : List ℕ) → ((trip : ℕ) → trip < 2000 → getD w (trips + trip) 0 ≡ s .rows) → worthAt w (s .rows) ≡ missing
+      → ((stop : ℕ) → stop < 200 → startOf w stop ≡ suc (s .rows) + below (λ k. countAt k (slice first end (rowsIn file s))) stop)
+      → ((stop : ℕ) → stop < 200 → sizeOf w stop ≡ 0) → Held file s goal first end end w
+  unfolding nextOf atStop stackAt
+  held-begins w no-next last starts empty =
+      record {
+        pairs-held = subst (λ (sc : Scan). PairsHeld w (s .rows) end end sc) (sym scan-none)
+            (record {
+              weighed = λ j low high. absurd (let z : ⊥ = omega arith in z);
+              last = last;
+              next = λ trip small. let n = no-next trip small in
+                  record {
+                    later = omega arith;
+                    inside = omega arith;
+                    holds = ap (λ k. getD w (pairCell k) 0) n ∙ last;
+                  };
+            });
+        stacks-held = λ stop h. subst (λ (sc : Scan). StackHeld w (suc (s .rows)) (slice first end (rowsIn file s)) (slice end end (rowsIn file s)) (sc .chosen) stop) (sym scan-none)
+            (record {
+              start = starts stop h;
+              room = (let e = empty stop h in omega arith);
+              holds = ap (stackAt w (stackStart w stop)) (empty stop h);
+            });
+      }
+
+  pub held-ends : (w : List ℕ) → first ≤ end → Held file s goal first end first w → ScanHeld w (s .rows) first end (scanIn file s goal first end)
+  held-ends w low held =
+      record {
+        pair-holds = held .pairs-held .weighed;
+        stack-holds = λ stop h. held .stacks-held stop h .holds;
+        climbing = λ stop h. climbing file s goal end stand inside first low stop;
+        stack-behind = λ stop h. let start = held .stacks-held stop h .start in omega arith;
+        stack-inside = λ stop h.
+            let start = held .stacks-held stop h .start in
+            let few = held .stacks-held stop h .room in
+            let ends = below-later (λ k. countAt k (slice first end (rowsIn file s))) stop 200 h in
+            let total = below-count (slice first end (rowsIn file s)) 200 in
+            let rows = length-slice first end (rowsIn file s) (omega (arith, stand .rows-count)) in omega arith;
+      }

@@ -1,0 +1,269 @@
+-- Choosing one more row: each stop's stack holds the stop's chosen rides again. Assumes nothing.
+use Prim.Native.Nat.{ℕ, suc, _+_, _*_, _/_, _≤_, _<_}
+use mathlib.Core.List.{List, [], _∷_, map, List·Memᴰ, List·Memᴰ·head}
+use mathlib.Core.Logic.{_≢_, _⊎_, inl, inr}
+use mathlib.Core.Option.{Option, none, some}
+use mathlib.Core.Path.{_≡_, refl, sym, ap, ap₂, subst, _∙_}
+use native.Mathlib.Nat.{mul-add-div, div-eq-of-lt}
+use native.Mathlib.Omega.{arith}
+use lib.Dec.{eqb, ltb}
+use lib.ListN.{length, getD}
+use borrow.Author.Tests.{eqb-true, eqb-false, ltb-true, ltb-false}
+use Rattle.laws.proofs.Tests.{ifb}
+use Rattle.timetable.specs.declared.Row.{Row}
+use Rattle.plans.specs.Worth.{Valued}
+use Rattle.plans.specs.Chosen.{choose}
+use Rattle.plans.proofs.Order.{Ordered}
+use Rattle.plan_cells.specs.Cells.{Entry, missing, keyOf, stackAt, stackStart, stackSize}
+use Rattle.plan_landing.specs.Landing.{atStop, entryOf, EntryFits}
+use Rattle.plan_landing.proofs.AtStop.{at-stop-member}
+use Rattle.plan_scan.specs.Stores.{pairCell, startOf, sizeOf, worthAt, Chose, worthless, alone, not-below, replaces, ahead}
+use Rattle.plan_scan.specs.Regions.{countAt, below}
+use Rattle.plan_scan.specs.Scanned.{PairHolds}
+use Rattle.plan_scan.specs.Held.{StackHeld}
+use Rattle.plan_scan.proofs.Paired.{entry}
+use Rattle.plan_scan.proofs.Regions.{count-here, count-more, below-later}
+use Rattle.plan_scan.proofs.ByStop.{at-from, choose-elsewhere, choose-none, own-alone, own-kept, own-replaces, own-ahead}
+use Rattle.plan_scan.proofs.Rising.{at-ordered, departs-later}
+use Rattle.plan_scan.proofs.PairsHeld.{Holds, pair-holds}
+use Rattle.plan_scan.proofs.StackHeld.{stack-kept, stack-none, Top, stack-top}
+use Rattle.plan_scan.proofs.Stored.{stored, stored-start, stored-size, stored-other, stored-stack, stored-own-size, pushed-stored}
+
+-- what is known of a row that has been weighed, and of the rides chosen behind it
+pub record Choosable (row : Row) (i target : ℕ) (best : Option Valued) (chosen : List Valued) : Type 0 where
+  pub board : row .board < 200
+  pub away : row .board ≢ target
+  pub boarded : (v : Valued) → best ≡ some v → v .ride .board ≡ i
+  pub stop : (v : Valued) → best ≡ some v → v .ride .from ≡ row .board
+  pub minute : (v : Valued) → best ≡ some v → v .ride .departs ≡ row .departure
+  pub ordered : Ordered chosen
+  pub fits : (v : Valued) → List·Memᴰ v chosen → EntryFits v
+  pub rising : (v : Valued) → List·Memᴰ v chosen → row .departure ≤ v .ride .departs
+
+key-departure : (departs row key : ℕ) → row < 2048 → key ≡ keyOf departs row → key / 2048 ≡ departs
+key-departure departs row key small e =
+    ap (λ x. x / 2048) e ∙ mul-add-div (let z : 0 < 2048 = omega arith in z) departs row
+    ∙ (let none' : row / 2048 ≡ 0 = div-eq-of-lt small in let z : departs + row / 2048 ≡ departs = omega arith in z)
+
+worth-none : (best : Option Valued) (a b : ℕ) → Holds a b best → a ≡ missing → best ≡ none
+worth-none none a b h e = refl
+worth-none (some v) a b h e = absurd (let z : ⊥ = omega (arith, h .0, h .2) in z)
+
+worth-some : (best : Option Valued) (a b : ℕ) → Holds a b best → (a ≡ missing → ⊥) → (v : Valued) × (best ≡ some v) × (a ≡ v .worth)
+worth-some none a b h has = absurd (has h)
+worth-some (some v) a b h has = (v, refl, h .0)
+
+module _ (row : Row) (i target : ℕ) (best : Option Valued) (chosen : List Valued) (c : Choosable row i target best chosen) (w : List ℕ)
+    (from : ℕ) (all rest : List Row) (held : (stop : ℕ) → stop < 200 → StackHeld w from all rest chosen stop)
+    (suffix : (stop : ℕ) → countAt stop (row ∷ rest) ≤ countAt stop all) (room : pairCell (from + below (λ s. countAt s all) 200) ≤ length w) where
+  own : StackHeld w from all rest chosen (row .board)
+  own = held (row .board) (c .board)
+
+  -- an entry no higher than the stack's top lies in the stop's region
+  in-region : (k : ℕ) → k ≤ sizeOf w (row .board)
+      → startOf w (row .board) + k < from + (below (λ s. countAt s all) (row .board) + countAt (row .board) all)
+  in-region k h =
+      let start = own .start in
+      let few = own .room in
+      let here = count-here (row .board) row rest refl in
+      let more = suffix (row .board) in omega arith
+
+  pub stored-inside : (k : ℕ) → k ≤ sizeOf w (row .board) → pairCell (startOf w (row .board) + k) + 1 < length w
+  stored-inside k h =
+      let region = in-region k h in
+      let ends = below-later (λ s. countAt s all) (row .board) 200 (c .board) in omega arith
+
+  -- other stops' regions lie apart
+  Beside : (k j : ℕ) → Type 0
+  Beside k j = (j ≡ pairCell (startOf w (row .board) + k) → ⊥) × (j ≡ pairCell (startOf w (row .board) + k) + 1 → ⊥)
+
+  apart : (k : ℕ) → k ≤ sizeOf w (row .board) → (stop : ℕ) → stop < 200 → (row .board ≡ stop → ⊥) → (j : ℕ)
+      → stackStart w stop ≤ j → j < stackStart w stop + 2 * stackSize w stop → Beside k j
+  unfolding Beside
+  apart k h stop inside ne j low high =
+      let region = in-region k h in
+      let start = own .start in
+      let start' = held stop inside .start in
+      let few' = held stop inside .room in
+      let more' = count-more stop row rest in
+      let all' = suffix stop in
+      ifb (λ b. ltb stop (row .board) ≡ b → Beside k j) (ltb stop (row .board))
+      (λ e _. let before : below (λ s. countAt s all) stop + countAt stop all ≤ below (λ s. countAt s all) (row .board) =
+      below-later (λ s. countAt s all) stop (row .board) (ltb-true stop (row .board) e) in
+      ((λ q. omega arith), (λ q. omega arith)))
+      (λ e _. let not-before : row .board ≤ stop = ltb-false stop (row .board) e in
+      let before : below (λ s. countAt s all) (row .board) + countAt (row .board) all ≤ below (λ s. countAt s all) stop =
+      below-later (λ s. countAt s all) (row .board) stop (omega arith) in
+      ((λ q. omega arith), (λ q. omega arith))) refl
+
+  elsewhere : (v : Valued) (stop : ℕ) → (row .board ≡ stop → ⊥) → best ≡ some v → v .ride .from ≢ stop
+  elsewhere v stop ne e q = ne (sym (c .stop v e) ∙ q)
+
+  -- nothing was stored
+  kept : atStop (row .board) (choose target best chosen) ≡ atStop (row .board) chosen → (stop : ℕ) → stop < 200
+      → StackHeld w from all (row ∷ rest) (choose target best chosen) stop
+  kept same stop h =
+      let old = held stop h in
+      record {
+        start = old .start;
+        room = (let few = old .room in let more = count-more stop row rest in omega arith);
+        holds = old .holds ∙ ap (map entryOf)
+            (ifb (λ b. eqb (row .board) stop ≡ b → atStop stop chosen ≡ atStop stop (choose target best chosen)) (eqb (row .board) stop)
+            (λ e _. subst (λ k. atStop k chosen ≡ atStop k (choose target best chosen)) (eqb-true (row .board) stop e) (sym same))
+            (λ e _. sym (choose-elsewhere target best chosen stop (λ v. elsewhere v stop (eqb-false (row .board) stop e)))) refl);
+      }
+
+  -- the row's entry was stored k pairs behind the start
+  put : (k : ℕ) → k ≤ sizeOf w (row .board)
+      → entry (keyOf (row .departure) i) (worthAt w i) ∷ stackAt w (stackStart w (row .board)) k ≡ map entryOf (atStop (row .board) (choose target best chosen))
+      → (stop : ℕ) → stop < 200 → StackHeld (stored row i k w) from all (row ∷ rest) (choose target best chosen) stop
+  unfolding Beside
+  put k low now stop h =
+      ifb (λ b. eqb (row .board) stop ≡ b → StackHeld (stored row i k w) from all (row ∷ rest) (choose target best chosen) stop) (eqb (row .board) stop)
+      (λ e _. subst (λ x. StackHeld (stored row i k w) from all (row ∷ rest) (choose target best chosen) x) (eqb-true (row .board) stop e)
+      (record {
+        start = stored-start row i k w (c .board) (row .board) (c .board) ∙ own .start;
+        room = (let size = stored-own-size row i k w (c .board) (stored-inside k low) in
+            let few = own .room in
+            let here = count-here (row .board) row rest refl in omega arith);
+        holds = stored-stack row i k w (c .board) (stored-inside k low) ∙ now;
+      }))
+      (λ e _. let ne : row .board ≡ stop → ⊥ = eqb-false (row .board) stop e in
+      let old = held stop h in
+      record {
+        start = stored-start row i k w (c .board) stop h ∙ old .start;
+        room = (let size = stored-size row i k w (c .board) stop h ne in
+            let few = old .room in
+            let more = count-more stop row rest in omega arith);
+        holds = stack-kept w (stored row i k w) stop (stored-start row i k w (c .board) stop h) (stored-size row i k w (c .board) stop h ne)
+            (λ j a b. let beside = apart k low stop h ne j a b in stored-other row i k w (c .board) j (λ q. omega arith) (beside .0) (beside .1))
+            ∙ old .holds ∙ ap (map entryOf) (sym (choose-elsewhere target best chosen stop (λ v. elsewhere v stop ne)));
+      }) refl
+
+  module _ (holds : PairHolds w i best) where
+    -- the row has no worth
+    none-chosen : worthAt w i ≡ missing → atStop (row .board) (choose target best chosen) ≡ atStop (row .board) chosen
+    none-chosen e =
+        ap (atStop (row .board)) (ap (λ (o : Option Valued). choose target o chosen)
+        (worth-none best (getD w (pairCell i) 0) (getD w (pairCell i + 1) 0) (pair-holds w i best holds) e) ∙ choose-none target chosen)
+
+    module _ (v : Valued) (is : best ≡ some v) (worth : worthAt w i ≡ v .worth) where
+      own-away : v .ride .from ≢ target
+      own-away q = c .away (sym (c .stop v is) ∙ q)
+
+      at-own : (l : List Valued) → atStop (row .board) chosen ≡ l → atStop (v .ride .from) chosen ≡ l
+      at-own l e = ap (λ s. atStop s chosen) (c .stop v is) ∙ e
+
+      to-own : (l : List Valued) → atStop (v .ride .from) (choose target (some v) chosen) ≡ l → atStop (row .board) (choose target best chosen) ≡ l
+      to-own l e = ap₂ (λ (s : ℕ) (o : Option Valued). atStop s (choose target o chosen)) (sym (c .stop v is)) is ∙ e
+
+      own-entry : entry (keyOf (row .departure) i) (worthAt w i) ≡ entryOf v
+      own-entry = ap₂ entry (ap₂ keyOf (sym (c .minute v is)) (sym (c .boarded v is))) worth
+
+      -- the stack with the row's entry on top of those of `under`
+      topped : (k : ℕ) (under : List Valued) → stackAt w (stackStart w (row .board)) k ≡ map entryOf under
+          → atStop (v .ride .from) (choose target (some v) chosen) ≡ v ∷ under
+          → entry (keyOf (row .departure) i) (worthAt w i) ∷ stackAt w (stackStart w (row .board)) k ≡ map entryOf (atStop (row .board) (choose target best chosen))
+      topped k under stack now =
+          ap₂ (λ (e : Entry) (es : List Entry). e ∷ es) own-entry stack ∙ ap (map entryOf) (sym (to-own (v ∷ under) now))
+
+      first-put : sizeOf w (row .board) ≡ 0 → (stop : ℕ) → stop < 200 → StackHeld (stored row i 0 w) from all (row ∷ rest) (choose target best chosen) stop
+      first-put size =
+          let stack : stackAt w (stackStart w (row .board)) 0 ≡ map entryOf (atStop (row .board) chosen) =
+          subst (λ n. stackAt w (stackStart w (row .board)) n ≡ map entryOf (atStop (row .board) chosen)) size (own .holds) in
+          let none' : atStop (row .board) chosen ≡ [] = stack-none w (stackStart w (row .board)) (atStop (row .board) chosen) stack in
+          put 0 (omega arith) (topped 0 [] (stack ∙ ap (map entryOf) none') (own-alone target chosen v own-away (at-own [] none')))
+
+      module _ (k : ℕ) (size : sizeOf w (row .board) ≡ suc k) where
+        stack : stackAt w (stackStart w (row .board)) (suc k) ≡ map entryOf (atStop (row .board) chosen)
+        stack = subst (λ n. stackAt w (stackStart w (row .board)) n ≡ map entryOf (atStop (row .board) chosen)) size (own .holds)
+
+        top : Top w (stackStart w (row .board)) k (atStop (row .board) chosen)
+        top = stack-top w (stackStart w (row .board)) k (atStop (row .board) chosen) stack
+
+        top-at : pairCell (startOf w (row .board) + k) ≡ stackStart w (row .board) + 2 * k
+        top-at = omega arith
+
+        top-worth : getD w (pairCell (startOf w (row .board) + k) + 1) 0 ≡ top .first .worth
+        top-worth = ap (λ x. getD w (x + 1) 0) top-at ∙ top .worth
+
+        top-member : (x : Valued) → List·Memᴰ x (top .first ∷ top .rest) → List·Memᴰ x chosen × (x .ride .from ≡ row .board)
+        top-member x m =
+            let there : List·Memᴰ x (atStop (row .board) chosen) = subst (λ (l : List Valued). List·Memᴰ x l) (sym (top .all)) m in
+            (at-stop-member (row .board) chosen x there, at-from (row .board) chosen there)
+
+        first-member : List·Memᴰ (top .first) chosen × (top .first .ride .from ≡ row .board)
+        first-member = top-member (top .first) (List·Memᴰ·head refl)
+
+        top-departs : getD w (pairCell (startOf w (row .board) + k)) 0 / 2048 ≡ top .first .ride .departs
+        top-departs =
+            key-departure (top .first .ride .departs) (top .first .ride .board) (getD w (pairCell (startOf w (row .board) + k)) 0)
+            (c .fits (top .first) (first-member .0) .row) (ap (λ x. getD w x 0) top-at ∙ top .key)
+
+        later : (x : Valued) → List·Memᴰ x (top .rest) → top .first .ride .departs < x .ride .departs
+        later =
+            departs-later (row .board) (subst (λ (l : List Valued). Ordered l) (top .all) (at-ordered (row .board) (c .ordered)))
+            (λ x m. top-member x m .1)
+
+        rises : v .ride .departs ≤ top .first .ride .departs
+        rises = subst (λ x. x ≤ top .first .ride .departs) (sym (c .minute v is)) (c .rising (top .first) (first-member .0))
+
+        not-chosen : getD w (pairCell (startOf w (row .board) + k) + 1) 0 ≤ worthAt w i
+            → atStop (row .board) (choose target best chosen) ≡ atStop (row .board) chosen
+        not-chosen h =
+            to-own (top .first ∷ top .rest)
+            (own-kept target chosen v own-away (top .first) (top .rest) (at-own (top .first ∷ top .rest) (top .all)) (omega (arith, top-worth)))
+            ∙ sym (top .all)
+
+        module _ (less : worthAt w i < getD w (pairCell (startOf w (row .board) + k) + 1) 0) where
+          below-first : v .worth < top .first .worth
+          below-first = omega (arith, top-worth)
+
+          replace-put : getD w (pairCell (startOf w (row .board) + k)) 0 / 2048 ≡ row .departure
+              → (stop : ℕ) → stop < 200 → StackHeld (stored row i k w) from all (row ∷ rest) (choose target best chosen) stop
+          replace-put same =
+              put k (omega arith)
+              (topped k (top .rest) (top .below)
+              (own-replaces target chosen v own-away (top .first) (top .rest) (at-own (top .first ∷ top .rest) (top .all)) below-first later rises
+              (first-member .1 ∙ sym (c .stop v is)) (sym top-departs ∙ same ∙ sym (c .minute v is))))
+
+          ahead-put : (getD w (pairCell (startOf w (row .board) + k)) 0 / 2048 ≡ row .departure → ⊥)
+              → (stop : ℕ) → stop < 200 → StackHeld (stored row i (suc k) w) from all (row ∷ rest) (choose target best chosen) stop
+          ahead-put other =
+              put (suc k) (omega arith)
+              (topped (suc k) (top .first ∷ top .rest) (stack ∙ ap (map entryOf) (top .all))
+              (own-ahead target chosen v own-away (top .first) (top .rest) (at-own (top .first ∷ top .rest) (top .all)) below-first later rises
+              (λ q. other (top-departs ∙ q ∙ c .minute v is))))
+
+    -- the worth that the row has
+    found : (worthAt w i ≡ missing → ⊥) → (v : Valued) × (best ≡ some v) × (worthAt w i ≡ v .worth)
+    found has = worth-some best (getD w (pairCell i) 0) (getD w (pairCell i + 1) 0) (pair-holds w i best holds) has
+
+    pub stacks-chosen :
+        (w' : List ℕ) → Chose row i w w' → (stop : ℕ) → stop < 200 → StackHeld w' from all (row ∷ rest) (choose target best chosen) stop
+    stacks-chosen w' (worthless e q) stop h =
+        subst (λ (l : List ℕ). StackHeld l from all (row ∷ rest) (choose target best chosen) stop) (sym q) (kept (none-chosen e) stop h)
+    stacks-chosen w' (alone has size q) stop h =
+        let f = found has in
+        subst (λ (l : List ℕ). StackHeld l from all (row ∷ rest) (choose target best chosen) stop) (sym q) (first-put (f .0) (f .1) (f .2) size stop h)
+    stacks-chosen w' (not-below has k size less q) stop h =
+        let f = found has in
+        subst (λ (l : List ℕ). StackHeld l from all (row ∷ rest) (choose target best chosen) stop) (sym q)
+        (kept (not-chosen (f .0) (f .1) (f .2) k size less) stop h)
+    stacks-chosen w' (replaces has k size less same q) stop h =
+        let f = found has in
+        subst (λ (l : List ℕ). StackHeld l from all (row ∷ rest) (choose target best chosen) stop)
+        (sym (q ∙ pushed-stored row i k w (c .board) size)) (replace-put (f .0) (f .1) (f .2) k size less same stop h)
+    stacks-chosen w' (ahead has k size less other q) stop h =
+        let f = found has in
+        subst (λ (l : List ℕ). StackHeld l from all (row ∷ rest) (choose target best chosen) stop) (sym q)
+        (ahead-put (f .0) (f .1) (f .2) k size less other stop h)
+
+  -- what a store leaves of the other cells
+  pub chose-or-stored :
+      (w' : List ℕ) → Chose row i w w' → (w' ≡ w) ⊎ ((k : ℕ) × (k ≤ sizeOf w (row .board)) × (w' ≡ stored row i k w))
+  chose-or-stored w' (worthless e q) = inl q
+  chose-or-stored w' (alone has size q) = inr (0, (let z : 0 ≤ sizeOf w (row .board) = omega arith in z), q)
+  chose-or-stored w' (not-below has k size less q) = inl q
+  chose-or-stored w' (replaces has k size less same q) = inr (k, (let z : k ≤ sizeOf w (row .board) = omega arith in z), q ∙ pushed-stored row i k w (c .board) size)
+  chose-or-stored w' (ahead has k size less other q) = inr (suc k, (let z : suc k ≤ sizeOf w (row .board) = omega arith in z), q)

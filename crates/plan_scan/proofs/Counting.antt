@@ -1,0 +1,55 @@
+-- Counting the rows that board at each stop: with the rows to come, the sizes are those of all rows. Assumes nothing.
+use Prim.Native.Nat.{ℕ, _+_, _≤_, _<_}
+use mathlib.Core.List.{List, [], _∷_}
+use mathlib.Core.Path.{_≡_, refl, subst}
+use native.Mathlib.Omega.{arith}
+use lib.Dec.{eqb}
+use lib.ListN.{length, set}
+use lib.Seq.{getD-set-same, getD-set-other}
+use borrow.Author.Tests.{eqb-true, eqb-false}
+use Rattle.timetable.specs.declared.Row.{Row}
+use Rattle.laws.proofs.Tests.{ifb}
+use Rattle.plan_cells.specs.Cells.{sizes, pairs}
+use Rattle.plan_scan.specs.Stores.{sizeOf}
+use Rattle.plan_scan.specs.Regions.{countAt, Apart, Counted}
+use Rattle.plan_scan.proofs.Regions.{count-here, count-elsewhere}
+use Rattle.plan_scan.proofs.Apart.{apart-same, apart-set}
+
+pub record Counting (all rest : List Row) (w w' : List ℕ) : Type 0 where
+  pub apart : Apart w w'
+  pub so-far : (stop : ℕ) → stop < 200 → sizeOf w' stop + countAt stop rest ≡ countAt stop all
+
+pub counting-begins : (rows : List Row) (w : List ℕ) → ((stop : ℕ) → stop < 200 → sizeOf w stop ≡ 0) → Counting rows rows w w
+counting-begins rows w empty = record { apart = apart-same w; so-far = λ stop h. let e : sizeOf w stop ≡ 0 = empty stop h in omega arith }
+
+counts-on :
+    (all rest : List Row) (r : Row) (w : List ℕ) → pairs ≤ length w → r .board < 200 → (stop : ℕ) → stop < 200
+    → sizeOf w stop + countAt stop (r ∷ rest) ≡ countAt stop all
+    → sizeOf (set w (sizes + r .board) (sizeOf w (r .board) + 1)) stop + countAt stop rest ≡ countAt stop all
+counts-on all rest r w room board stop h so-far =
+    ifb (λ b. eqb (r .board) stop ≡ b → sizeOf (set w (sizes + r .board) (sizeOf w (r .board) + 1)) stop + countAt stop rest ≡ countAt stop all) (eqb (r .board) stop)
+    (λ e _. let here : r .board ≡ stop = eqb-true (r .board) stop e in
+    let count = count-here stop r rest here in
+    let stored : sizeOf (set w (sizes + r .board) (sizeOf w (r .board) + 1)) (r .board) ≡ sizeOf w (r .board) + 1 =
+    getD-set-same w (sizes + r .board) (sizeOf w (r .board) + 1) 0 (omega arith) in
+    let moved : sizeOf (set w (sizes + r .board) (sizeOf w (r .board) + 1)) stop ≡ sizeOf w stop + 1 =
+    subst (λ k. sizeOf (set w (sizes + r .board) (sizeOf w (r .board) + 1)) k ≡ sizeOf w k + 1) here stored in
+    omega arith)
+    (λ e _. let apart : r .board ≡ stop → ⊥ = eqb-false (r .board) stop e in
+    let count = count-elsewhere stop r rest apart in
+    let kept : sizeOf (set w (sizes + r .board) (sizeOf w (r .board) + 1)) stop ≡ sizeOf w stop =
+    getD-set-other w (sizes + r .board) (sizes + stop) (sizeOf w (r .board) + 1) 0 (λ q. apart (omega arith)) in
+    omega arith) refl
+
+pub counting-on :
+    (all rest : List Row) (r : Row) (w w' : List ℕ) → pairs ≤ length w → r .board < 200 → Counting all (r ∷ rest) w w'
+    → Counting all rest w (set w' (sizes + r .board) (sizeOf w' (r .board) + 1))
+counting-on all rest r w w' room board c =
+    record {
+      apart = apart-set (c .apart) (sizes + r .board) (sizeOf w' (r .board) + 1) (omega arith) (omega arith);
+      so-far = λ stop h. counts-on all rest r w' (omega (arith, c .apart .same-length)) board stop h (c .so-far stop h);
+    }
+
+pub counting-done : (all : List Row) (w w' : List ℕ) → Counting all [] w w' → Counted all w w'
+unfolding countAt
+counting-done all w w' c = record { apart = c .apart; counts = λ stop h. omega (arith, c .so-far stop h) }

@@ -1,0 +1,66 @@
+-- Parting the stacks: the stops below `stop` have their regions. Assumes nothing.
+use Prim.Native.Nat.{ℕ, _+_, _≤_, _<_}
+use mathlib.Core.List.{List}
+use mathlib.Core.Path.{_≡_, refl, sym, subst, _∙_}
+use native.Mathlib.Omega.{arith}
+use lib.Dec.{eqb}
+use lib.ListN.{length, set, length-set}
+use lib.Seq.{getD-set-same, getD-set-other}
+use borrow.Author.Tests.{eqb-true, eqb-false}
+use Rattle.laws.proofs.Tests.{ifb}
+use Rattle.plan_cells.specs.Cells.{stops, sizes, pairs}
+use Rattle.plan_scan.specs.Stores.{startOf, sizeOf}
+use Rattle.plan_scan.specs.Regions.{below, Apart}
+use Rattle.plan_scan.proofs.Apart.{apart-same, apart-set}
+
+pub record Parting (from stop : ℕ) (w w' : List ℕ) : Type 0 where
+  pub apart : Apart w w'
+  pub starts : (k : ℕ) → k < stop → startOf w' k ≡ from + below (sizeOf w) k
+  pub empty : (k : ℕ) → k < stop → sizeOf w' k ≡ 0
+  pub left : (k : ℕ) → stop ≤ k → k < 200 → sizeOf w' k ≡ sizeOf w k
+
+pub parting-begins : (from : ℕ) (w : List ℕ) → Parting from 0 w w
+parting-begins from w =
+    record {
+      apart = apart-same w;
+      starts = λ k h. absurd (let z : ⊥ = omega arith in z);
+      empty = λ k h. absurd (let z : ⊥ = omega arith in z);
+      left = λ k low high. refl;
+    }
+
+-- the next stop's start and size
+abbrev pub partedNext : (stop start : ℕ) → List ℕ → List ℕ
+partedNext stop start w = set (set w (stops + stop) start) (sizes + stop) 0
+
+module _ (from stop start : ℕ) (w w' : List ℕ) (room : pairs ≤ length w') (inside : stop < 200) where
+  next-start : startOf (partedNext stop start w') stop ≡ start
+  next-start =
+      getD-set-other (set w' (stops + stop) start) (sizes + stop) (stops + stop) 0 0 (λ e. omega arith)
+      ∙ getD-set-same w' (stops + stop) start 0 (omega arith)
+
+  next-size : sizeOf (partedNext stop start w') stop ≡ 0
+  next-size = getD-set-same (set w' (stops + stop) start) (sizes + stop) 0 0 (omega (arith, length-set w' (stops + stop) start))
+
+  kept-start : (k : ℕ) → k < 200 → (k ≡ stop → ⊥) → startOf (partedNext stop start w') k ≡ startOf w' k
+  kept-start k h ne =
+      getD-set-other (set w' (stops + stop) start) (sizes + stop) (stops + k) 0 0 (λ e. omega arith)
+      ∙ getD-set-other w' (stops + stop) (stops + k) start 0 (λ e. ne (omega arith))
+
+  kept-size : (k : ℕ) → k < 200 → (k ≡ stop → ⊥) → sizeOf (partedNext stop start w') k ≡ sizeOf w' k
+  kept-size k h ne =
+      getD-set-other (set w' (stops + stop) start) (sizes + stop) (sizes + k) 0 0 (λ e. ne (omega arith))
+      ∙ getD-set-other w' (stops + stop) (sizes + k) start 0 (λ e. omega arith)
+
+  pub parting-on :
+      start ≡ from + below (sizeOf w) stop → Parting from stop w w' → Parting from (stop + 1) w (partedNext stop start w')
+  parting-on here p =
+      record {
+        apart = apart-set (apart-set (p .apart) (stops + stop) start (omega arith) (omega arith)) (sizes + stop) 0 (omega arith) (omega arith);
+        starts = λ k h. ifb (λ b. eqb k stop ≡ b → startOf (partedNext stop start w') k ≡ from + below (sizeOf w) k) (eqb k stop)
+            (λ e _. subst (λ j. startOf (partedNext stop start w') j ≡ from + below (sizeOf w) j) (sym (eqb-true k stop e)) (next-start ∙ here))
+            (λ e _. let ne : k ≡ stop → ⊥ = eqb-false k stop e in kept-start k (omega arith) ne ∙ p .starts k (omega arith)) refl;
+        empty = λ k h. ifb (λ b. eqb k stop ≡ b → sizeOf (partedNext stop start w') k ≡ 0) (eqb k stop)
+            (λ e _. subst (λ j. sizeOf (partedNext stop start w') j ≡ 0) (sym (eqb-true k stop e)) next-size)
+            (λ e _. let ne : k ≡ stop → ⊥ = eqb-false k stop e in kept-size k (omega arith) ne ∙ p .empty k (omega arith)) refl;
+        left = λ k low high. kept-size k high (λ e. omega arith) ∙ p .left k (omega arith) high;
+      }

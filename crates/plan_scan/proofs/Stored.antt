@@ -1,0 +1,60 @@
+-- The cells after a row's entry was stored on its stop's stack. Assumes nothing.
+use Prim.Native.Nat.{ℕ, suc, _+_, _*_, _<_}
+use mathlib.Core.List.{List, _∷_}
+use mathlib.Core.Path.{_≡_, sym, ap, ap₂, _∙_}
+use native.Mathlib.Omega.{arith}
+use lib.ListN.{length, getD, drop, length-set}
+use lib.Seq.{getD-set-same, getD-set-other, drop-set-lt, set-getD}
+use Rattle.timetable.specs.declared.Row.{Row}
+use Rattle.plan_cells.specs.Cells.{stops, sizes, pairs, keyOf, stackAt, stackStart, stackOf}
+use Rattle.plan_scan.specs.Stores.{pairCell, pushed, sized, startOf, sizeOf, worthAt}
+use Rattle.plan_scan.proofs.Paired.{length-paired, paired-other, drop-paired, entry, stack-same, stack-pushed}
+
+-- k pairs behind the start, as the top of k + 1 entries
+abbrev pub stored : Row → (i k : ℕ) → List ℕ → List ℕ
+stored row i k w = sized row (suc k) (pushed row i k w)
+
+module _ (row : Row) (i k : ℕ) (w : List ℕ) (board : row .board < 200) where
+  pub length-stored : length (stored row i k w) ≡ length w
+  length-stored =
+      length-set (pushed row i k w) (sizes + row .board) (suc k)
+      ∙ length-paired w (startOf w (row .board) + k) (keyOf (row .departure) i) (worthAt w i)
+
+  pub stored-other :
+      (j : ℕ) → (j ≡ sizes + row .board → ⊥) → (j ≡ pairCell (startOf w (row .board) + k) → ⊥) → (j ≡ pairCell (startOf w (row .board) + k) + 1 → ⊥)
+      → getD (stored row i k w) j 0 ≡ getD w j 0
+  stored-other j size front behind =
+      getD-set-other (pushed row i k w) (sizes + row .board) j (suc k) 0 size
+      ∙ paired-other w (startOf w (row .board) + k) (keyOf (row .departure) i) (worthAt w i) j front behind
+
+  pub stored-start : (stop : ℕ) → stop < 200 → startOf (stored row i k w) stop ≡ startOf w stop
+  stored-start stop h = stored-other (stops + stop) (λ e. omega arith) (λ e. omega arith) (λ e. omega arith)
+
+  pub stored-size : (stop : ℕ) → stop < 200 → (row .board ≡ stop → ⊥) → sizeOf (stored row i k w) stop ≡ sizeOf w stop
+  stored-size stop h apart = stored-other (sizes + stop) (λ e. apart (omega arith)) (λ e. omega arith) (λ e. omega arith)
+
+  pub drop-stored : (n : ℕ) → pairCell (startOf w (row .board) + k) + 1 < n → drop n (stored row i k w) ≡ drop n w
+  drop-stored n h =
+      drop-set-lt n (pushed row i k w) (sizes + row .board) (suc k) (omega arith)
+      ∙ drop-paired n w (startOf w (row .board) + k) (keyOf (row .departure) i) (worthAt w i) h
+
+  -- on a stack of k + 1 entries already, the size is stored for free
+  pub pushed-stored : sizeOf w (row .board) ≡ suc k → pushed row i k w ≡ stored row i k w
+  pushed-stored size =
+      sym (set-getD (pushed row i k w) (sizes + row .board) 0)
+      ∙ ap (λ x. sized row x (pushed row i k w))
+      (paired-other w (startOf w (row .board) + k) (keyOf (row .departure) i) (worthAt w i) (sizes + row .board) (λ e. omega arith) (λ e. omega arith) ∙ size)
+
+  module _ (room : pairCell (startOf w (row .board) + k) + 1 < length w) where
+    pub stored-own-size : sizeOf (stored row i k w) (row .board) ≡ suc k
+    stored-own-size =
+        getD-set-same (pushed row i k w) (sizes + row .board) (suc k) 0
+        (omega (arith, length-paired w (startOf w (row .board) + k) (keyOf (row .departure) i) (worthAt w i)))
+
+    pub stored-stack :
+        stackOf (stored row i k w) (row .board) ≡ entry (keyOf (row .departure) i) (worthAt w i) ∷ stackAt w (stackStart w (row .board)) k
+    stored-stack =
+        ap₂ (λ (a n : ℕ). stackAt (stored row i k w) (pairs + 2 * a) n) (stored-start (row .board) board) stored-own-size
+        ∙ stack-same (pushed row i k w) (stored row i k w) (stackStart w (row .board)) (suc k)
+        (λ j low high. getD-set-other (pushed row i k w) (sizes + row .board) j (suc k) 0 (λ e. omega arith))
+        ∙ stack-pushed w (startOf w (row .board)) k (keyOf (row .departure) i) (worthAt w i) room

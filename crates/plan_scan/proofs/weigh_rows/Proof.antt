@@ -1,0 +1,151 @@
+-- `plan_scan::weigh_rows` meets its contract: the cells hold the scan from row i on. Assumes nothing.
+use Prim.Native.Nat.{suc, _-_, _≤_, _<_}
+use mathlib.Core.Path.{_≡_, subst}
+use native.Mathlib.Omega.{arith}
+use lib.ListN.{length}
+use Rattle.plan_cells.specs.Cells.{used}
+use Rattle.plan_scan.specs.Held.{Held, Inside}
+use Rattle.plan_scan.proofs.Inside.{inside-same, inside-then}
+use Rattle.plan_scan.proofs.Turn.{Weighed, turn-weighable, turn-some-ready, turn-weighed, turn-unchosen, turn-pushable, turn-chosen, turn-stays}
+use Rattle.plan_scan.proofs.weigh_rows.Statement.{statement}
+use Rattle.plan_scan.proofs.weigh_rows.Tie as tie
+
+abbrev Inv-loop : tie.InvT-loop
+Inv-loop file s tables goal first end work₀ i₀ work i =
+    (first ≤ i) × (i ≤ end) × Held file s goal first end i work × Inside (s .rows) work₀ work
+
+abbrev μ-loop : tie.MeasureT-loop
+μ-loop file s tables goal first end work₀ i₀ work i = i
+
+loop-holds : tie.Need-loop-holds Inv-loop μ-loop
+loop-holds c =
+    let a = c .before .before .before in (a .pre .2, (let z : a .args .end ≤ a .args .end = omega arith in z), a .pre .5, inside-same (a .args .s .rows) (a .args .work .now))
+
+sub-i : tie.Need-sub-i Inv-loop μ-loop
+sub-i c = omega arith
+
+nth-row-requires : tie.Need-nth-row-requires Inv-loop μ-loop
+nth-row-requires c κs = (c .before .before .before .before .before .pre .0, omega arith)
+
+-- the cells as the row finds them
+held-here :
+    (c : tie.After-nth-row Inv-loop μ-loop)
+    → let a = c .before .before .before .before .before .before .args in
+    let l = c .before .before .loop in
+    Held (a .file .now) (a .s) (a .goal) (a .first) (a .end) (suc (l .i - 1)) (l .work)
+held-here c =
+    let a = c .before .before .before .before .before .before .args in
+    let l = c .before .before .loop in
+    let next : l .i ≡ suc (l .i - 1) = omega (arith, c .before .loop-test .taken) in
+    subst (λ k. Held (a .file .now) (a .s) (a .goal) (a .first) (a .end) k (l .work)) next (l .inv .2)
+
+room-here :
+    (c : tie.After-nth-row Inv-loop μ-loop) → used (c .before .before .before .before .before .before .args .s .rows) ≤ length (c .before .before .loop .work)
+room-here c = omega (arith, c .before .before .before .before .before .before .pre .4, c .before .before .loop .inv .3 .same-length)
+
+first-here :
+    (c : tie.After-nth-row Inv-loop μ-loop) → c .before .before .before .before .before .before .args .first ≤ c .before .before .loop .i - 1
+first-here c = omega (arith, c .before .loop-test .taken)
+
+end-here : (c : tie.After-nth-row Inv-loop μ-loop) → c .before .before .loop .i - 1 < c .before .before .before .before .before .before .args .end
+end-here c = omega (arith, c .before .loop-test .taken, c .before .before .loop .inv .1)
+
+getting-off-requires : tie.Need-getting-off-requires Inv-loop μ-loop
+getting-off-requires c κs =
+    let a = c .before .before .before .before .before .before .before in
+    let l = c .before .before .before .loop in
+    turn-some-ready (a .args .file .now) (a .args .s) (a .args .goal) (a .args .first) (a .args .end) (a .pre .0) (a .pre .3) (l .i - 1) (first-here (c .before))
+    (end-here (c .before)) (l .work) (room-here (c .before)) (c .before .nth-row .result) (c .before .nth-row .ensures .0) (held-here (c .before))
+    (a .args .tables .now) (a .pre .1)
+
+weigh-row-requires : tie.Need-weigh-row-requires Inv-loop μ-loop
+weigh-row-requires c κs =
+    let a = c .before .before .before .before .before .before .before .before .before in
+    let l = c .before .before .before .before .before .loop in
+    turn-weighable (a .args .file .now) (a .args .s) (a .args .goal) (a .args .first) (a .args .end) (a .pre .0) (a .pre .3) (l .i - 1) (first-here (c .before .before .before))
+    (end-here (c .before .before .before)) (l .work) (room-here (c .before .before .before)) (c .before .before .before .nth-row .result) (c .before .before .before .nth-row .ensures .0) (held-here (c .before .before .before))
+
+-- the row is weighed
+weighed-here :
+    (c : tie.After-weigh-row Inv-loop μ-loop)
+    → let a = c .before .before .before .before .before .before .before .before .before .before .args in
+    let l = c .before .before .before .before .before .before .loop in
+    Weighed (a .file .now) (a .s) (a .goal) (a .first) (a .end) (l .i - 1) (l .work) (c .weigh-row .last .1 .1 .1 .0)
+weighed-here c =
+    let a = c .before .before .before .before .before .before .before .before .before .before in
+    let l = c .before .before .before .before .before .before .loop in
+    turn-weighed (a .args .file .now) (a .args .s) (a .args .goal) (a .args .first) (a .args .end) (a .pre .0) (a .pre .3) (l .i - 1) (first-here (c .before .before .before .before))
+    (end-here (c .before .before .before .before)) (l .work) (room-here (c .before .before .before .before)) (c .before .before .before .before .nth-row .result) (c .before .before .before .before .nth-row .ensures .0) (held-here (c .before .before .before .before))
+    (a .args .tables .now) (a .pre .1) (c .before .before .getting-off .result) (c .before .before .getting-off .ensures) (c .weigh-row .last .1 .1 .1 .0) (c .weigh-row .ensures)
+
+choose-requires : tie.Need-choose-requires Inv-loop μ-loop
+choose-requires c κs =
+    let a = c .before .before .before .before .before .before .before .before .before .before .before .before .before .before .before .before in
+    let l = c .before .before .before .before .before .before .before .before .before .before .before .before .loop in
+    turn-pushable (a .args .file .now) (a .args .s) (a .args .goal) (a .args .first) (a .args .end) (a .pre .0) (a .pre .3) (l .i - 1) (first-here (c .before .before .before .before .before .before .before .before .before .before))
+    (end-here (c .before .before .before .before .before .before .before .before .before .before)) (l .work) (room-here (c .before .before .before .before .before .before .before .before .before .before)) (c .before .before .before .before .before .before .before .before .before .before .nth-row .result) (c .before .before .before .before .before .before .before .before .before .before .nth-row .ensures .0)
+    (c .before .before .before .before .before .before .weigh-row .last .1 .1 .1 .0) (weighed-here (c .before .before .before .before .before .before)) (c .before .if1 .taken)
+
+loop-less : tie.Need-loop-less Inv-loop μ-loop
+loop-less c = omega (arith, c .before .before .before .before .before .before .before .before .before .before .before .before .before .before .loop-test .taken)
+
+loop-again : tie.Need-loop-again Inv-loop μ-loop
+loop-again c =
+    let a = c .before .before .before .before .before .before .before .before .before .before .before .before .before .before .before .before .before .before .before in
+    let l = c .before .before .before .before .before .before .before .before .before .before .before .before .before .before .before .loop in
+    let w = c .before .before .before .before .before .before .before .before .before .weigh-row .last .1 .1 .1 .0 in
+    let chosen = c .before .before .choose .last .1 .1 .0 in (
+      first-here (c .before .before .before .before .before .before .before .before .before .before .before .before .before),
+      (let z = end-here (c .before .before .before .before .before .before .before .before .before .before .before .before .before) in omega arith),
+      turn-chosen (a .args .file .now) (a .args .s) (a .args .goal) (a .args .first) (a .args .end) (a .pre .0) (a .pre .3) (l .i - 1) (first-here (c .before .before .before .before .before .before .before .before .before .before .before .before .before))
+          (end-here (c .before .before .before .before .before .before .before .before .before .before .before .before .before)) (l .work) (room-here (c .before .before .before .before .before .before .before .before .before .before .before .before .before)) (c .before .before .before .before .before .before .before .before .before .before .before .before .before .nth-row .result) (c .before .before .before .before .before .before .before .before .before .before .before .before .before .nth-row .ensures .0)
+          w (weighed-here (c .before .before .before .before .before .before .before .before .before)) (c .before .before .before .before .if1 .taken) chosen (c .before .before .choose .ensures),
+      inside-then (a .args .s .rows) (l .inv .3)
+          (turn-stays (a .args .file .now) (a .args .s) (a .args .goal) (a .args .first) (a .args .end) (a .pre .0) (a .pre .3) (l .i - 1) (first-here (c .before .before .before .before .before .before .before .before .before .before .before .before .before))
+          (end-here (c .before .before .before .before .before .before .before .before .before .before .before .before .before)) (l .work) (room-here (c .before .before .before .before .before .before .before .before .before .before .before .before .before)) (c .before .before .before .before .before .before .before .before .before .before .before .before .before .nth-row .result) (c .before .before .before .before .before .before .before .before .before .before .before .before .before .nth-row .ensures .0)
+          w (weighed-here (c .before .before .before .before .before .before .before .before .before)) (c .before .before .before .before .if1 .taken) chosen (c .before .before .choose .ensures)),
+    )
+
+loop-less-2 : tie.Need-loop-less-2 Inv-loop μ-loop
+loop-less-2 c = omega (arith, c .before .before .before .before .before .before .before .before .before .before .loop-test .taken)
+
+loop-again-2 : tie.Need-loop-again-2 Inv-loop μ-loop
+loop-again-2 c =
+    let a = c .before .before .before .before .before .before .before .before .before .before .before .before .before .before .before in
+    let l = c .before .before .before .before .before .before .before .before .before .before .before .loop in
+    let w = c .before .before .before .before .before .weigh-row .last .1 .1 .1 .0 in (
+      first-here (c .before .before .before .before .before .before .before .before .before),
+      (let z = end-here (c .before .before .before .before .before .before .before .before .before) in omega arith),
+      turn-unchosen (a .args .file .now) (a .args .s) (a .args .goal) (a .args .first) (a .args .end) (a .pre .0) (a .pre .3) (l .i - 1) (first-here (c .before .before .before .before .before .before .before .before .before))
+          (end-here (c .before .before .before .before .before .before .before .before .before)) (l .work) (room-here (c .before .before .before .before .before .before .before .before .before)) (c .before .before .before .before .before .before .before .before .before .nth-row .result) (c .before .before .before .before .before .before .before .before .before .nth-row .ensures .0)
+          w (weighed-here (c .before .before .before .before .before)) (c .if1 .left),
+      inside-then (a .args .s .rows) (l .inv .3) (weighed-here (c .before .before .before .before .before) .stays),
+    )
+
+same-length : tie.Need-same-length Inv-loop μ-loop
+same-length c = c .before .loop .inv .3 .same-length
+
+returns : tie.Need-returns Inv-loop μ-loop
+returns c =
+    let a = c .before .before .before .before .before .args in
+    let all : c .before .loop .i ≡ a .first = omega arith in
+    (subst (λ k. Held (a .file .now) (a .s) (a .goal) (a .first) (a .end) k (c .before .loop .work)) all (c .before .loop .inv .2), c .before .loop .inv .3)
+
+pub weigh-rows-spec : {M : Type 1} → statement M
+weigh-rows-spec =
+    tie.close
+    (tie.spec
+    Inv-loop
+    μ-loop
+    loop-holds
+    sub-i
+    nth-row-requires
+    getting-off-requires
+    weigh-row-requires
+    choose-requires
+    loop-less
+    loop-again
+    loop-less-2
+    loop-again-2
+    same-length
+    returns)

@@ -1,0 +1,48 @@
+-- What the lent cells hold within the scan, when the rows from i to before `end` have been weighed.
+use Prim.Native.Nat.{ℕ, suc, _+_, _≤_, _<_}
+use mathlib.Core.List.{List}
+use mathlib.Core.Option.{Option}
+use mathlib.Core.Path.{_≡_}
+use lib.ListN.{length, getD, drop}
+use lib.Seq.{slice}
+use Rattle.timetable.specs.declared.Row.{Row}
+use Rattle.plans.specs.Worth.{Valued}
+use Rattle.plans.specs.Chosen.{Scan, nextOf}
+use Rattle.plan_cells.specs.Cells.{trips, used, missing}
+use Rattle.plan_rows.specs.declared.Sailings.{Sailings}
+use Rattle.plan_rows.specs.Reading.{rowsIn}
+use Rattle.plan_landing.specs.declared.Goal.{Goal}
+use Rattle.plan_landing.specs.Landing.{StackHolds}
+use Rattle.plan_scan.specs.Stores.{startOf, sizeOf, worthAt}
+use Rattle.plan_scan.specs.Scanned.{scanIn, bestIn, PairHolds}
+use Rattle.plan_scan.specs.Regions.{countAt, below}
+
+-- a trip's cell names its next row, n for none, whose pair holds its best ride
+pub record NextHolds (w : List ℕ) (n i trip : ℕ) (best : Option Valued) : Type 0 where
+  pub later : i ≤ getD w (trips + trip) 0
+  pub inside : getD w (trips + trip) 0 ≤ n
+  pub holds : PairHolds w (getD w (trips + trip) 0) best
+
+-- worths, leaving rows and next rows
+pub record PairsHeld (w : List ℕ) (n i end : ℕ) (sc : Scan) : Type 0 where
+  pub weighed : (j : ℕ) → i ≤ j → j < end → PairHolds w j (bestIn sc i j)
+  pub last : worthAt w n ≡ missing
+  pub next : (trip : ℕ) → trip < 2000 → NextHolds w n i trip (nextOf (sc .weighed) trip)
+
+-- a stop's stack: its region begins behind those of the stops below, and has room for the rows to come; `all` are the scan's rows, `rest`
+-- those that have been weighed
+pub record StackHeld (w : List ℕ) (from : ℕ) (all rest : List Row) (chosen : List Valued) (stop : ℕ) : Type 0 where
+  pub start : startOf w stop ≡ from + below (λ s. countAt s all) stop
+  pub room : sizeOf w stop ≤ countAt stop rest
+  pub holds : StackHolds w stop chosen
+
+pub record Held (file : List ℕ) (s : Sailings) (goal : Goal) (first end i : ℕ) (w : List ℕ) : Type 0 where
+  pub pairs-held : PairsHeld w (s .rows) i end (scanIn file s goal i end)
+  pub stacks-held :
+      (stop : ℕ) → stop < 200
+      → StackHeld w (suc (s .rows)) (slice first end (rowsIn file s)) (slice i end (rowsIn file s)) (scanIn file s goal i end .chosen) stop
+
+-- the cells behind those that planning uses stay
+pub record Inside (n : ℕ) (w w' : List ℕ) : Type 0 where
+  pub same-length : length w' ≡ length w
+  pub rest-kept : drop (used n) w' ≡ drop (used n) w

@@ -1,0 +1,169 @@
+// Document 01, "Expected arrival in ticks": worth, leaving row and chosen rows, by one scan backward.
+ghost use mathlib.Core.Path.{_≡_};
+ghost use Prim.Native.Nat.{ℕ, _+_, _≤_, _<_};
+ghost use lib.ListN.{length, drop};
+ghost use lib.Seq.{slice};
+ghost use Rattle.plan_cells.specs.Cells.{pairs, used, keyOf};
+ghost use Rattle.plan_rows.specs.Reading.{rowsIn, tablesIn, Stand, TablesHeld};
+ghost use Rattle.plan_scan.specs.Held.{Held, Inside};
+ghost use Rattle.plan_scan.specs.Regions.{below, Counted, Parted};
+ghost use Rattle.plan_scan.specs.Scanned.{scanIn, ScanHeld};
+ghost use Rattle.plan_scan.specs.Stores.{pairCell, paired, sizeOf, Chose, Pushable, Weighable, Weighs};
+use numbers::cell;
+use numbers::number;
+use plan_cells::MOST_STOPS;
+use plan_cells::MOST_TRIPS;
+use plan_cells::NONE;
+use plan_cells::PAIRS;
+use plan_cells::SIZES;
+use plan_cells::STOPS;
+use plan_cells::TRIPS;
+use plan_cells::fill;
+use plan_landing::Goal;
+use plan_landing::KEY;
+use plan_landing::departure_of;
+use plan_landing::getting_off;
+use plan_rows::Sailings;
+use plan_rows::nth_row;
+use timetable::Row;
+
+// The rows from `first` to before `end`, from the last to the first.
+pub fn scan_back(
+    file: &[u8],
+    s: Sailings,
+    tables: &[u32],
+    goal: Goal,
+    first: usize,
+    end: usize,
+    work: &mut [u32],
+)
+    requires { ⌜ Stand (now file) s × TablesHeld (now tables) (tablesIn (now file) s) × (first ≤ end) × (end ≤ s .rows)
+        × (used (s .rows) ≤ length (now work)) ⌝ }
+    ensures { λ r. ⌜ ScanHeld (now (work .exit)) (s .rows) first end (scanIn (now (file .entry)) s goal first end)
+        × (length (now (work .exit)) ≡ length (now (work .entry)))
+        × (drop (used (s .rows)) (now (work .exit)) ≡ drop (used (s .rows)) (now (work .entry))) ⌝ }
+{
+    let none = PAIRS + 2 * s.rows;
+    fill(work, TRIPS, MOST_TRIPS, cell(s.rows));
+    fill(work, SIZES, MOST_STOPS, 0);
+    count_boardings(file, s, first, end, work);
+    part_stacks(s.rows + 1, work);
+    work[none] = NONE;
+    weigh_rows(file, s, tables, goal, first, end, work);
+}
+
+// How many rows board at each stop.
+fn count_boardings(file: &[u8], s: Sailings, first: usize, end: usize, work: &mut [u32])
+    requires { ⌜ Stand (now file) s × (first ≤ end) × (end ≤ s .rows) × (pairs ≤ length (now work))
+        × ((stop : ℕ) → stop < 200 → sizeOf (now work) stop ≡ 0) ⌝ }
+    ensures { λ r. ⌜ Counted (slice first end (rowsIn (now (file .entry)) s)) (now (work .entry)) (now (work .exit)) ⌝ }
+{
+    let mut i = first;
+    while i < end {
+        let row = nth_row(file, s, i);
+        let size = SIZES + row.board;
+        work[size] += 1;
+        i += 1;
+    }
+}
+
+// A region of pairs for each stop, one behind the other from pair `from` on; the stacks are empty.
+fn part_stacks(from: usize, work: &mut [u32])
+    requires { ⌜ (pairs ≤ length (now work)) × (from + below (sizeOf (now work)) 200 < 4294967296) ⌝ }
+    ensures { λ r. ⌜ Parted from (now (work .entry)) (now (work .exit)) ⌝ }
+{
+    let mut stop = 0;
+    let mut start = cell(from);
+    while stop < MOST_STOPS {
+        work[STOPS + stop] = start;
+        start += work[SIZES + stop];
+        work[SIZES + stop] = 0;
+        stop += 1;
+    }
+}
+
+// From row `end` down to row `first`: each row's worth, then whether it is chosen.
+fn weigh_rows(
+    file: &[u8],
+    s: Sailings,
+    tables: &[u32],
+    goal: Goal,
+    first: usize,
+    end: usize,
+    work: &mut [u32],
+)
+    requires { ⌜ Stand (now file) s × TablesHeld (now tables) (tablesIn (now file) s) × (first ≤ end) × (end ≤ s .rows)
+        × (used (s .rows) ≤ length (now work)) × Held (now file) s goal first end end (now work) ⌝ }
+    ensures { λ r. ⌜ Held (now (file .entry)) s goal first end first (now (work .exit))
+        × Inside (s .rows) (now (work .entry)) (now (work .exit)) ⌝ }
+{
+    let mut i = end;
+    while first < i {
+        i -= 1;
+        let row = nth_row(file, s, i);
+        let off = getting_off(row, tables, goal, work);
+        weigh_row(row, i, off, work);
+        if row.board != goal.target {
+            choose(row, i, work);
+        }
+    }
+}
+
+// A row's worth is the least over getting off and staying on; at equal worth the ride stays aboard.
+fn weigh_row(row: Row, i: usize, off: u32, work: &mut [u32])
+    requires { ⌜ Weighable row i (now work) ⌝ }
+    ensures { λ r. ⌜ Weighs row i off (now (work .entry)) (now (work .exit)) ⌝ }
+{
+    let trip = TRIPS + row.trip;
+    let pair = PAIRS + 2 * i;
+    let next = PAIRS + 2 * number(work[trip]);
+    let on = work[next];
+    work[trip] = cell(i);
+    if off < on {
+        work[pair] = off;
+        work[pair + 1] = cell(i);
+    } else {
+        work[pair] = on;
+        work[pair + 1] = work[next + 1];
+    }
+}
+
+// A row with a worth below that of its stop's first chosen row goes on the stack; in the same minute it
+// replaces that row.
+fn choose(row: Row, i: usize, work: &mut [u32])
+    requires { ⌜ Pushable row i (now work) ⌝ }
+    ensures { λ r. ⌜ Chose row i (now (work .entry)) (now (work .exit)) ⌝ }
+{
+    let board = row.board;
+    let worth = work[PAIRS + 2 * i];
+    let size = number(work[SIZES + board]);
+    let start = number(work[STOPS + board]);
+    if worth == NONE {
+        return;
+    }
+    if size == 0 {
+        push(row, i, worth, start, work);
+        work[SIZES + board] = 1;
+        return;
+    }
+    let top = start + size - 1;
+    if work[PAIRS + 2 * top + 1] <= worth {
+        return;
+    }
+    if departure_of(work[PAIRS + 2 * top]) == row.departure {
+        push(row, i, worth, top, work);
+    } else {
+        push(row, i, worth, top + 1, work);
+        work[SIZES + board] = cell(size + 1);
+    }
+}
+
+// An entry at pair `pair`.
+fn push(row: Row, i: usize, worth: u32, pair: usize, work: &mut [u32])
+    requires { ⌜ (keyOf (row .departure) i < 4294967296) × (pairCell pair + 1 < length (now work)) ⌝ }
+    ensures { λ r. ⌜ now (work .exit) ≡ paired (now (work .entry)) pair (keyOf (row .departure) i) worth ⌝ }
+{
+    let at = PAIRS + 2 * pair;
+    work[at] = cell(KEY * row.departure + i);
+    work[at + 1] = worth;
+}

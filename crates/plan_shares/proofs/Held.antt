@@ -1,0 +1,69 @@
+-- Class by class: a block more is held, and those read before stay. Assumes nothing.
+use Prim.Native.Nat.{ℕ, suc, _+_, _≤_, _<_}
+use mathlib.Core.List.{List}
+use mathlib.Core.Logic.{_⊎_, inl, inr}
+use mathlib.Core.Path.{_≡_, refl, sym, ap, subst, _∙_}
+use native.Mathlib.Nat.{eq-or-lt-of-le}
+use native.Mathlib.Omega.{arith}
+use lib.ListN.{length}
+use Rattle.timetable.specs.Timetable.{sharesOf}
+use Rattle.file_layout.specs.Decode.{tableAt, blockEnd}
+use Rattle.file_layout.proofs.Blocks.{blockAt, next-block, table-has}
+use Rattle.plan_rows.specs.declared.Sailings.{Sailings}
+use Rattle.plan_rows.specs.Reading.{tablesIn, blockCell, BlockHeld, BlocksStand}
+use Rattle.plan_shares.specs.Summed.{BlockStands, SameOutside}
+
+-- a class's block stands where it starts
+pub block-stands : (file : List ℕ) (s : Sailings) → BlocksStand file s → (c : ℕ) → c < s .classes → BlockStands file (blockAt file (s .tablestart) c)
+unfolding blockEnd
+block-stands file s b c h =
+    record {
+      inside = omega (arith, b .block-readable c h, ap length (b .block-read c h), table-has file (blockAt file (s .tablestart) c));
+      shares-fit = subst (λ shares. Rattle.plan_rows.specs.Reading.SharesFit shares) (b .block-read c h) (b .shares-fit c h);
+    }
+
+-- a block of an earlier class stays
+block-kept : (cells cells' : List ℕ) (k c : ℕ) (shares : List ℕ) → SameOutside cells cells' k → c < k → length shares ≤ 254
+    → BlockHeld cells c shares → BlockHeld cells' c shares
+block-kept cells cells' k c shares same earlier few held =
+    record {
+      longest-held = same .kept (blockCell c) (inl (let z : blockCell c < blockCell k = omega arith in z)) ∙ held .longest-held;
+      expected-held = same .kept (blockCell c + 1) (inl (let z : blockCell c + 1 < blockCell k = omega arith in z)) ∙ held .expected-held;
+      cumulative-held =
+          λ v h.
+          same .kept (blockCell c + 2 + v) (inl (let z : blockCell c + 2 + v < blockCell k = omega arith in z)) ∙ held .cumulative-held v h;
+    }
+
+-- the blocks of the classes below k are held, and the next one starts at `block`
+pub record ReadSoFar (file : List ℕ) (s : Sailings) (cells : List ℕ) (k block : ℕ) : Type 0 where
+  pub not-past : k ≤ s .classes
+  pub next : block ≡ blockAt file (s .tablestart) k
+  pub room : length cells ≡ 4096
+  pub held : (c : ℕ) → c < k → BlockHeld cells c (sharesOf (tablesIn file s) c)
+
+pub read-none : (file : List ℕ) (s : Sailings) (cells : List ℕ) → length cells ≡ 4096 → ReadSoFar file s cells 0 (s .tablestart)
+unfolding blockAt
+read-none file s cells room =
+    record { not-past = omega arith; next = refl; room = room; held = λ c h. absurd (let z : ⊥ = omega arith in z) }
+
+pub read-more : (file : List ℕ) (s : Sailings) → BlocksStand file s → (cells cells' : List ℕ) (k block end : ℕ)
+    → ReadSoFar file s cells k block → k < s .classes → end ≡ blockEnd file block → BlockHeld cells' k (tableAt file block)
+    → SameOutside cells cells' k → ReadSoFar file s cells' (k + 1) end
+read-more file s b cells cells' k block end so-far inside ends here same =
+    let one : suc k ≡ k + 1 = omega arith in
+    record {
+      not-past = omega arith;
+      next =
+          ends ∙ ap (blockEnd file) (so-far .next) ∙ sym (next-block file (s .tablestart) k) ∙ ap (blockAt file (s .tablestart)) one;
+      room = same .same-length ∙ so-far .room;
+      held = λ c h. at c (eq-or-lt-of-le (let z : c ≤ k = omega arith in z));
+    }
+  where
+    at : (c : ℕ) → (c ≡ k) ⊎ (c < k) → BlockHeld cells' c (sharesOf (tablesIn file s) c)
+    at c (inr earlier) =
+        block-kept cells cells' k c (sharesOf (tablesIn file s) c) same earlier
+        (b .shares-fit c (let z : c < s .classes = omega arith in z) .few-shares)
+        (so-far .held c earlier)
+    at c (inl e) =
+        subst (λ n. BlockHeld cells' n (sharesOf (tablesIn file s) n)) (sym e)
+        (subst (BlockHeld cells' k) (ap (tableAt file) (so-far .next) ∙ sym (b .block-read k inside)) here)

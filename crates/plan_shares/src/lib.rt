@@ -1,0 +1,62 @@
+// A sound file's delay tables, as cumulative shares in lent cells.
+ghost use mathlib.Core.Path.{_≡_};
+ghost use Prim.Native.Nat.{suc, _+_, _<_};
+ghost use lib.ListN.{length};
+ghost use Rattle.file_layout.specs.Decode.{sharesFrom, tableAt, blockEnd};
+ghost use Rattle.plans.specs.Worth.{weigh};
+ghost use Rattle.plan_rows.specs.Reading.{tablesIn, BlocksStand, BlockHeld, TablesHeld};
+ghost use Rattle.plan_shares.specs.Summed.{BlockStands, SharesStand, SameOutside, Summed};
+use numbers::cell;
+use numbers::u16_at;
+use plan_rows::BLOCK;
+use plan_rows::EXPECTED;
+use plan_rows::LONGEST;
+use plan_rows::SHARES;
+use plan_rows::Sailings;
+
+// Each class's block of cells, from its class block in the file.
+pub fn read_tables(file: &[u8], s: Sailings, tables: &mut [u32])
+    requires { ⌜ BlocksStand (now file) s × (length (now tables) ≡ 4096) ⌝ }
+    ensures { λ r. ⌜ TablesHeld (now (tables .exit)) (tablesIn (now (file .entry)) s) ⌝ }
+{
+    let mut k = 0;
+    let mut block = s.tablestart;
+    while k < s.classes {
+        block = read_table(file, block, k, tables);
+        k += 1;
+    }
+}
+
+// One class block at byte `at`, into the cells of class `k`; the byte where it ends.
+fn read_table(file: &[u8], at: usize, k: usize, tables: &mut [u32]) -> usize
+    requires { ⌜ BlockStands (now file) at × (k < 16) × (length (now tables) ≡ 4096) ⌝ }
+    ensures { λ r. ⌜ (r ≡ blockEnd (now (file .entry)) at) × BlockHeld (now (tables .exit)) k (tableAt (now (file .entry)) at)
+        × SameOutside (now (tables .entry)) (now (tables .exit)) k ⌝ }
+{
+    let longest = u16_at(file, at);
+    let into = BLOCK * k;
+    let late = read_shares(file, at + 2, longest, into + SHARES, tables);
+    tables[into + LONGEST] = cell(longest);
+    tables[into + EXPECTED] = cell((late + 15) / 16);
+    at + 4 + 2 * longest
+}
+
+// The cumulative shares of delays 0 to `longest`, from byte `at` on, into the cells from `into` on; the
+// sum of delay x share.
+fn read_shares(file: &[u8], at: usize, longest: usize, into: usize, tables: &mut [u32]) -> usize
+    requires { ⌜ SharesStand (now file) at longest × (into + longest < length (now tables)) ⌝ }
+    ensures { λ r. ⌜ (r ≡ weigh (sharesFrom (now (file .entry)) at (suc longest)) 0 (λ v. v))
+        × Summed (now (tables .entry)) (now (tables .exit)) into (sharesFrom (now (file .entry)) at (suc longest)) (suc longest) ⌝ }
+{
+    let mut minute = 0;
+    let mut total = 0;
+    let mut late = 0;
+    while minute <= longest {
+        let share = u16_at(file, at + 2 * minute);
+        total += share;
+        late += share * minute;
+        tables[into + minute] = cell(total);
+        minute += 1;
+    }
+    late
+}

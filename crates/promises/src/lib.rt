@@ -1,0 +1,1 @@
+// No code: what is true of what the planning calls return (proofs/).

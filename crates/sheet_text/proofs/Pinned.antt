@@ -1,0 +1,67 @@
+-- Facts that pin the sheet to document 01's own lines. Assumes nothing.
+use Prim.Native.Nat.{ℕ}
+use mathlib.Core.List.{List, [], _∷_}
+use mathlib.Core.Path.{_≡_, refl}
+use Rattle.timetable.specs.Rows.{ownRule, departureRule, lastOfTrip, follows, tripRule, rowVerdict, rowsVerdict}
+use Rattle.timetable.specs.Classes.{sum, sharesRule}
+use Rattle.numbers.specs.Numbers.{u16At, u32At}
+use Rattle.file_layout.specs.Decode.{decode, headOf, headAt, trailerAt, rowsFrom, rowAt, tablesFrom, tableAt, sharesFrom, blockEnd, tablesEnd}
+use Rattle.file_layout.specs.Check.{checked, checkedAs, fileVerdict, headVerdict, lengthRule, headRule, classVerdict, classesVerdict, joined, sectionsJoin, rangesOf, answered}
+use Rattle.plans.specs.Worth.{weigh, firstOpen, worthOr, caught, arrivalWorth, changeWorth}
+use Rattle.plans.specs.Chosen.{whenSafe, offInTicks, worthOf, offInMinutes, nextOf, getOff, stayOn, least, firstAt, leads, others, choose, bestOf, scan, scanned}
+use Rattle.plans.specs.Plan.{earliest, chosenFor, inWindow, wanted, upTo, windowsOf, extract, ridesFrom, latestOf, planWithin, planBefore, planned}
+use Rattle.plans.specs.Examples.{Case, Hold}
+use Rattle.cases.specs.Cases.{wBytes}
+use Rattle.planner.specs.Outcome.{journeyRule, codeRule}
+use Rattle.clock.specs.Clock.{dayOf, dayStart, sinceMidnight, hourOf, minuteOfHour, roundedUp}
+use Rattle.clock.specs.Text.{digitsOnto, decimal, faceText, timeText}
+use Rattle.sheet_text.specs.Sheet.{numberText, refusedText, callText, lineText, rideText, ridesText, firstText, planText, queryOf, plannedText, askedText, soundText, checkedText, sheetText}
+
+-- case W's query: 0 2 590 0
+abbrev queryW : List ℕ
+queryW = 0 ∷ 0 ∷ 2 ∷ 0 ∷ 78 ∷ 2 ∷ 0 ∷ 0 ∷ []
+
+-- document 01's four lines, to the letter
+abbrev linesW : List ℕ
+linesW =
+    112 ∷ 108 ∷ 97 ∷ 110 ∷ 32 ∷ 51 ∷ 32 ∷ 100 ∷ 49 ∷ 32 ∷ 49 ∷ 49 ∷ 58 ∷ 49 ∷ 53 ∷ 32 ∷ 100 ∷ 49 ∷ 32 ∷ 49 ∷ 49 ∷ 58 ∷ 51 ∷ 48
+    ∷ 10 ∷ 48 ∷ 32 ∷ 100 ∷ 49 ∷ 32 ∷ 49 ∷ 48 ∷ 58 ∷ 48 ∷ 48 ∷ 32 ∷ 49 ∷ 32 ∷ 100 ∷ 49 ∷ 32 ∷ 49 ∷ 48 ∷ 58 ∷ 51 ∷ 48 ∷ 32 ∷ 100
+    ∷ 49 ∷ 32 ∷ 49 ∷ 49 ∷ 58 ∷ 49 ∷ 53 ∷ 10 ∷ 49 ∷ 32 ∷ 100 ∷ 49 ∷ 32 ∷ 49 ∷ 48 ∷ 58 ∷ 51 ∷ 50 ∷ 32 ∷ 50 ∷ 32 ∷ 100 ∷ 49 ∷ 32
+    ∷ 49 ∷ 49 ∷ 58 ∷ 48 ∷ 48 ∷ 32 ∷ 100 ∷ 49 ∷ 32 ∷ 49 ∷ 49 ∷ 58 ∷ 48 ∷ 48 ∷ 10 ∷ 49 ∷ 32 ∷ 100 ∷ 49 ∷ 32 ∷ 49 ∷ 48 ∷ 58 ∷ 53
+    ∷ 48 ∷ 32 ∷ 50 ∷ 32 ∷ 100 ∷ 49 ∷ 32 ∷ 49 ∷ 49 ∷ 58 ∷ 51 ∷ 48 ∷ 32 ∷ 100 ∷ 49 ∷ 32 ∷ 49 ∷ 49 ∷ 58 ∷ 51 ∷ 48 ∷ 10 ∷ []
+
+abbrev printedCases : List Case
+printedCases =
+    record { answered = sheetText wBytes queryW; expected = linesW }
+    -- from a stop to itself: 6
+    ∷ record { answered = sheetText wBytes (0 ∷ 0 ∷ 0 ∷ 0 ∷ 78 ∷ 2 ∷ 0 ∷ 0 ∷ []); expected = refusedText 6 }
+    -- a query of seven bytes: 6
+    ∷ record { answered = sheetText wBytes (0 ∷ 0 ∷ 2 ∷ 0 ∷ 78 ∷ 2 ∷ 0 ∷ []); expected = refusedText 6 }
+    -- no files: 1
+    ∷ record { answered = sheetText [] []; expected = refusedText 1 }
+    -- T 601: 8
+    ∷ record { answered = sheetText wBytes (0 ∷ 0 ∷ 2 ∷ 0 ∷ 89 ∷ 2 ∷ 0 ∷ 0 ∷ []); expected = refusedText 8 }
+    ∷ []
+
+pub cases-print : Hold printedCases
+unfolding sheetText checkedText soundText askedText plannedText planText firstText ridesText rideText lineText callText refusedText numberText queryOf journeyRule codeRule timeText faceText decimal digitsOnto dayOf dayStart sinceMidnight hourOf minuteOfHour roundedUp wBytes u16At u32At checked checkedAs fileVerdict headVerdict lengthRule headRule classVerdict classesVerdict joined sectionsJoin rangesOf answered decode headOf headAt trailerAt rowsFrom rowAt tablesFrom tableAt sharesFrom blockEnd tablesEnd ownRule departureRule lastOfTrip follows tripRule rowVerdict rowsVerdict sum sharesRule planned planBefore earliest weigh firstOpen worthOr caught arrivalWorth changeWorth whenSafe offInTicks worthOf offInMinutes nextOf getOff stayOn least firstAt leads others choose bestOf scan scanned chosenFor inWindow wanted upTo windowsOf extract ridesFrom latestOf planWithin
+cases-print = (refl, (refl, (refl, (refl, (refl, tt)))))
+
+-- `refused 4`
+pub refusal-prints : refusedText 4 ≡
+    114 ∷ 101 ∷ 102 ∷ 117 ∷ 115 ∷ 101 ∷ 100 ∷ 32 ∷ 52 ∷ 10 ∷ []
+unfolding refusedText numberText decimal digitsOnto
+refusal-prints = refl
+
+-- 0, 10 and 2000 in digits
+pub nought : numberText 0 ≡ 48 ∷ []
+unfolding numberText decimal digitsOnto
+nought = refl
+
+pub ten : numberText 10 ≡ 49 ∷ 48 ∷ []
+unfolding numberText decimal digitsOnto
+ten = refl
+
+pub two-thousand : numberText 2000 ≡ 50 ∷ 48 ∷ 48 ∷ 48 ∷ []
+unfolding numberText decimal digitsOnto
+two-thousand = refl

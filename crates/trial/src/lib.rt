@@ -1,0 +1,132 @@
+// Document 01, "Both sides of each line": the entry points with their whole answers, for the comparison with an independent second program.
+ghost use mathlib.Core.List.{[], _∷_};
+ghost use mathlib.Core.Path.{_≡_};
+ghost use Rattle.file_layout.specs.Check.{answerOf, checked};
+ghost use Rattle.house.specs.HouseShare.{houseShare, houseAnswer};
+ghost use Rattle.planner.specs.Outcome.{planOutcome, planAnswer, earliestOutcome, earliestAnswer};
+ghost use Rattle.trial.specs.Seen.{asked, inSix, seen};
+use file_check::check;
+use file_layout::Checked;
+use house::HouseShare;
+use house::house_share;
+use numbers::cell;
+use planner::Earliest;
+use planner::Planned;
+use planner::earliest_safe_arrival;
+use planner::plan;
+use plans::Query;
+
+// The check: number, place, S, n, K.
+#[no_mangle]
+pub extern "C" fn trial_check(file: &[u8], answer: &mut [u32])
+    ensures { λ r. ⌜ now (answer .exit) ≡ seen (answerOf (checked (now (file .entry)))) (now (answer .entry)) ⌝ }
+{
+    let checked = check(file);
+    match checked {
+        Checked::Sound {
+            stops,
+            rows,
+            classes,
+        } => put_six(0, 0, cell(stops), cell(rows), cell(classes), 0, answer),
+        Checked::Refused { number, place } => {
+            put_six(cell(number), cell(place), 0, 0, 0, 0, answer)
+        }
+    }
+}
+
+// The plan: number, place, rides, expected ticks, latest minute, bound; and both slices.
+#[no_mangle]
+pub extern "C" fn trial_plan(
+    file: &[u8],
+    source: u32,
+    target: u32,
+    minute: u32,
+    code: u32,
+    work: &mut [u32],
+    rides: &mut [u32],
+    answer: &mut [u32],
+)
+    ensures { λ r. ⌜ (now (answer .exit) ≡ seen
+        (planAnswer (planOutcome (now (file .entry)) (asked source target minute code) (now (work .entry)) (now (rides .entry)) .answer))
+        (now (answer .entry)))
+        × (now (work .exit) ≡ planOutcome (now (file .entry)) (asked source target minute code) (now (work .entry)) (now (rides .entry)) .work)
+        × (now (rides .exit) ≡ planOutcome (now (file .entry)) (asked source target minute code) (now (work .entry)) (now (rides .entry)) .plan) ⌝ }
+{
+    let q = Query {
+        source,
+        target,
+        minute,
+        code,
+    };
+    let planned = plan(file, q, work, rides);
+    put_planned(planned, answer);
+}
+
+// Earliest safe arrival: number, place, E; and the work slice.
+#[no_mangle]
+pub extern "C" fn trial_earliest(
+    file: &[u8],
+    source: u32,
+    target: u32,
+    minute: u32,
+    work: &mut [u32],
+    answer: &mut [u32],
+)
+    ensures { λ r. ⌜ (now (answer .exit) ≡ seen
+        (earliestAnswer (earliestOutcome (now (file .entry)) source target minute (now (work .entry)) .answer))
+        (now (answer .entry)))
+        × (now (work .exit) ≡ earliestOutcome (now (file .entry)) source target minute (now (work .entry)) .work) ⌝ }
+{
+    let found = earliest_safe_arrival(file, source, target, minute, work);
+    put_earliest(found, answer);
+}
+
+// A cumulative share of a house table: number, place, share.
+#[no_mangle]
+pub extern "C" fn trial_house(pair: u32, minute: u32, answer: &mut [u32])
+    ensures { λ r. ⌜ now (answer .exit) ≡ seen (houseAnswer (houseShare pair minute)) (now (answer .entry)) ⌝ }
+{
+    let share = house_share(pair, minute);
+    match share {
+        HouseShare::Share { cumulative } => put_six(0, 0, cumulative, 0, 0, 0, answer),
+        HouseShare::Refused { number, place } => put_six(number, place, 0, 0, 0, 0, answer),
+    }
+}
+
+fn put_planned(planned: Planned, answer: &mut [u32])
+    ensures { λ r. ⌜ now (answer .exit) ≡ seen (planAnswer planned) (now (answer .entry)) ⌝ }
+{
+    match planned {
+        Planned::Plan {
+            rides,
+            expected,
+            latest,
+            bound,
+        } => put_six(0, 0, rides, expected, latest, bound, answer),
+        Planned::Refused { number, place } => put_six(number, place, 0, 0, 0, 0, answer),
+    }
+}
+
+fn put_earliest(found: Earliest, answer: &mut [u32])
+    ensures { λ r. ⌜ now (answer .exit) ≡ seen (earliestAnswer found) (now (answer .entry)) ⌝ }
+{
+    match found {
+        Earliest::Arrival { minute } => put_six(0, 0, minute, 0, 0, 0, answer),
+        Earliest::Refused { number, place } => put_six(number, place, 0, 0, 0, 0, answer),
+    }
+}
+
+// Six numbers into a buffer that has room for them.
+fn put_six(a: u32, b: u32, c: u32, d: u32, e: u32, f: u32, answer: &mut [u32])
+    ensures { λ r. ⌜ now (answer .exit) ≡ inSix (a ∷ b ∷ c ∷ d ∷ e ∷ f ∷ []) (now (answer .entry)) ⌝ }
+{
+    if answer.len() < 6 {
+        return;
+    }
+    answer[0] = a;
+    answer[1] = b;
+    answer[2] = c;
+    answer[3] = d;
+    answer[4] = e;
+    answer[5] = f;
+}
