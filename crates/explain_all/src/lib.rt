@@ -14,7 +14,7 @@ use file_layout::Checked;
 use numbers::cell;
 use numbers::number;
 use numbers::u16_at;
-use planner::Planned;
+use plan_whole::Planned;
 use planner::plan;
 use plans::Query;
 

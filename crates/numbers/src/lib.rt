@@ -37,11 +37,11 @@ pub fn long(x: u32) -> u64
 }
 
 // A number of 64 bits as a cell.
-pub fn short(x: u64) -> u32
-    requires { ⌜ x < 4294967296 ⌝ }
-    ensures { λ r. ⌜ r ≡ x ⌝ }
+pub fn short(value: u64) -> u32
+    requires { ⌜ value < 4294967296 ⌝ }
+    ensures { λ r. ⌜ r ≡ value ⌝ }
 {
-    x as u32
+    value as u32
 }
 
 // The number of two bytes at `at`.

@@ -25,9 +25,9 @@ use Rattle.plan_cells.specs.Cells.{missing, cellOf, filled}
 use Rattle.plan_extract.specs.Extracted.{written}
 use Rattle.numbers.specs.Over.{over}
 use Rattle.plan_rows.proofs.Standing.{version-one-plannable}
-use Rattle.planner.specs.declared.Planned.{Planned}
+use Rattle.plan_whole.specs.declared.Planned.{Planned}
 use Rattle.planner.specs.declared.Earliest.{Earliest}
-use Rattle.planner.specs.declared.Planned.the-variants.{Plan as AsPlan, Refused as NoPlan}
+use Rattle.plan_whole.specs.declared.Planned.the-variants.{Plan as AsPlan, Refused as NoPlan}
 use Rattle.planner.specs.declared.Earliest.the-variants.{Arrival, Refused as NoArrival}
 use Rattle.planner.specs.Outcome.{
   journeyRule,
@@ -49,7 +49,9 @@ use Rattle.planner.specs.Outcome.{
   earliestChecked,
   earliestOutcome,
 }
-use Rattle.planner.specs.Steps.{FoundSound, Answers, KeptBehind}
+use Rattle.plan_whole.specs.Answers.{Answers}
+use Rattle.plan_whole.specs.Steps.{KeptBehind}
+use Rattle.planner.specs.Found.{FoundSound}
 
 -- a conjunction with a false part is false
 pub broken-left : {a : Bool} (b : Bool) → a ≡ false → (a && b) ≡ false
@@ -102,72 +104,20 @@ pub refused-as-earliest : (o : EarliestOutcome) (number place : ℕ) (r : Earlie
 refused-as-earliest o number place r work e told =
     (told ∙ sym (ap (λ (x : EarliestOutcome). x .answer) e), sym (ap (λ (x : EarliestOutcome). x .work) e))
 
--- the answer and the plan slice do not look at work
-answered-alike : (o : Option Plan) (work plan : List ℕ)
-    → (planAnswered o [] plan .answer ≡ planAnswered o work plan .answer) × (planAnswered o [] plan .plan ≡ planAnswered o work plan .plan)
-    × (work ≡ planAnswered o work plan .work)
-unfolding planAnswered
-answered-alike none work plan = (refl, refl, refl)
-answered-alike (some p) work plan = (refl, refl, refl)
-
 pub answered-as : (o : PlanOutcome) (p : Option Plan) (r : Planned) (work plan after : List ℕ) → o ≡ planAnswered p work plan → Answers p r plan after
     → (r ≡ o .answer) × (work ≡ o .work) × (after ≡ o .plan)
-answered-as o p r work plan after e answers =
-    let alike = answered-alike p work plan in (
-      answers .answer ∙ alike .0 ∙ sym (ap (λ (x : PlanOutcome). x .answer) e),
-      alike .2 ∙ sym (ap (λ (x : PlanOutcome). x .work) e),
-      answers .written ∙ alike .1 ∙ sym (ap (λ (x : PlanOutcome). x .plan) e),
-    )
-
--- no plan is refusal 8, and leaves the plan slice as it was
-pub no-plan-answers : (o : Option Plan) (r : Planned) (plan : List ℕ) → o ≡ none → r ≡ NoPlan 8 0 → Answers o r plan plan
 unfolding planAnswered
-no-plan-answers o r plan e told =
-    subst (λ (x : Option Plan). Answers x r plan plan) (sym e) (record { answer = told; written = refl })
-
--- a plan by its numbers
-pub plan-answers : (o : Option Plan) (p : Plan) (rides expected latest bound : ℕ) (plan after : List ℕ) → o ≡ some p → rides ≡ length (p .rides)
-    → expected ≡ p .expected → latest ≡ p .last → bound ≡ p .bound → after ≡ over (written (p .rides)) plan
-    → Answers o (AsPlan rides expected latest bound) plan after
-unfolding planAnswered
-plan-answers o p rides expected latest bound plan after e a b c d w =
-    subst (λ (x : Option Plan). Answers x (AsPlan rides expected latest bound) plan after) (sym e)
-    (record {
-      answer =
-          ap (λ n. AsPlan n expected latest bound) a ∙ ap (λ n. AsPlan (length (p .rides)) n latest bound) b
-          ∙ ap (λ n. AsPlan (length (p .rides)) (p .expected) n bound) c ∙ ap (AsPlan (length (p .rides)) (p .expected) (p .last)) d;
-      written = w;
-    })
-
--- work cleared where only its first cells were used
-pub kept-later : (from room : ℕ) (work after : List ℕ) → from ≤ room → KeptBehind from work after → KeptBehind room work after
-kept-later from room work after h kept =
-    let far : from + (room - from) ≡ room = omega arith in
-    record {
-      same-length = kept .same-length;
-      kept =
-          subst (λ n. drop n after ≡ drop n work) far
-          (sym (drop-drop (room - from) from after) ∙ ap (drop (room - from)) (kept .kept) ∙ drop-drop (room - from) from work);
-    }
-
-pub kept-both : (from : ℕ) (work between after : List ℕ) → KeptBehind from work between → KeptBehind from between after → KeptBehind from work after
-kept-both from work between after one two =
-    record { same-length = two .same-length ∙ one .same-length; kept = two .kept ∙ one .kept }
+answered-as o p r work plan after e answers = (
+  answers .answer ∙ sym (ap (λ (x : PlanOutcome). x .answer) e),
+  sym (ap (λ (x : PlanOutcome). x .work) e),
+  answers .written ∙ sym (ap (λ (x : PlanOutcome). x .plan) e),
+)
 
 pub cleared-behind : (room : ℕ) (work after : List ℕ) → KeptBehind room work after → filled after 0 room 0 ≡ cleared room work
 unfolding cleared
 cleared-behind room work after kept =
     let zero-room : 0 + room ≡ room = omega arith in
     ap (λ n. replicate room 0 ++ drop n after) zero-room ∙ ap (λ (l : List ℕ). replicate room 0 ++ l) (kept .kept)
-
--- E or none, as a cell tells it
-pub no-arrival-cell : (o : Option ℕ) (r : ℕ) → r ≡ cellOf o → ((e : ℕ) → o ≡ some e → e < 65536) → r ≡ missing → o ≡ none
-no-arrival-cell none r told small e = refl
-no-arrival-cell (some x) r told small e = absurd (let z : ⊥ = omega (arith, small x refl) in z)
-
-pub arrival-cell : (o : Option ℕ) (r : ℕ) → r ≡ cellOf o → (r ≡ missing → ⊥) → o ≡ some r
-arrival-cell none r told real = absurd (real told)
-arrival-cell (some x) r told real = ap some (sym told)
 
 pub earliest-answers : (o : EarliestOutcome) (p : Option ℕ) (r : ℕ) (work : List ℕ) → o ≡ earliestAnswered p work → p ≡ some r
     → (Arrival r ≡ o .answer) × (work ≡ o .work)
@@ -179,11 +129,6 @@ earliest-answers o p r work e found =
 pub no-earliest-answers : (o : EarliestOutcome) (p : Option ℕ) (work : List ℕ) → o ≡ earliestAnswered p work → p ≡ none → o ≡ refusedEarliest 8 0 work
 unfolding earliestAnswered
 no-earliest-answers o p work e gone = e ∙ ap (λ (x : Option ℕ). earliestAnswered x work) gone
-
--- the plan of a timetable by its E
-pub no-plan-of : (t : Timetable) (q : Query) → earliest t q ≡ none → planned t q ≡ none
-unfolding planned planBefore
-no-plan-of t q e = ap (planBefore t q) e
 
 -- numbers of two bytes are small, and so a refusal's number and place fit a cell
 module _ (f : Format) (s : List ℕ) (bytes : (i : ℕ) → getD s i 0 < 256) where

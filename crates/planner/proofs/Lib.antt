@@ -1,8 +1,4 @@
 -- Planning, proved: the rules of a query, the numbers' sizes, the part of the rows that is looked at, the answer and the slices.
 pub mod Rules
-pub mod Bounds
-pub mod Parts
-pub mod First
 pub mod Answered
-pub mod Laying
 pub mod Settled

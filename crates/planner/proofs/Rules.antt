@@ -11,7 +11,8 @@ use Rattle.laws.proofs.Tests.{both-left, both-right, either}
 use Rattle.file_layout.specs.declared.Format.{Format}
 use Rattle.plans.specs.declared.Query.{Query}
 use Rattle.planner.specs.Outcome.{journeyRule, codeRule}
-use Rattle.planner.specs.Steps.{FoundSound, Asked}
+use Rattle.plan_whole.specs.Steps.{Asked}
+use Rattle.planner.specs.Found.{FoundSound}
 
 -- a conjunction with a false part is false
 broken : (b : Bool) → (b && false) ≡ false

@@ -1,3 +1,3 @@
--- What the planning entry points answer, and what every lent slice holds afterwards; what their steps ask of each other.
+-- What the planning entry points answer, and what every lent slice holds afterwards.
 pub mod Outcome
-pub mod Steps
+pub mod Found

@@ -14,12 +14,10 @@ use Rattle.file_layout.specs.Decode.{decode}
 use Rattle.file_layout.specs.Format.{versionOne}
 use Rattle.plans.specs.declared.Query.{Query}
 use Rattle.plans.specs.Plan.{Plan, planned, earliest}
-use Rattle.plans.specs.Worth.{Valued}
-use Rattle.plan_extract.specs.Extracted.{written}
-use Rattle.numbers.specs.Over.{over}
-use Rattle.planner.specs.declared.Planned.{Planned}
+use Rattle.plan_whole.specs.Answers.{answerFor, sliceAfter}
+use Rattle.plan_whole.specs.declared.Planned.{Planned}
 use Rattle.planner.specs.declared.Earliest.{Earliest}
-use Rattle.planner.specs.declared.Planned.the-variants.{Plan as AsPlan, Refused as NoPlan}
+use Rattle.plan_whole.specs.declared.Planned.the-variants.{Plan as AsPlan, Refused as NoPlan}
 use Rattle.planner.specs.declared.Earliest.the-variants.{Arrival, Refused as NoArrival}
 
 -- 6: a stop not below S, source equals target, T above 10,079
@@ -52,13 +50,7 @@ abbrev pub refusedPlan : ℕ → ℕ → List ℕ → List ℕ → PlanOutcome
 refusedPlan number place work plan = record { answer = NoPlan number place; work = work; plan = plan }
 
 unfoldable pub planAnswered : Option Plan → List ℕ → List ℕ → PlanOutcome
-planAnswered none work plan = refusedPlan 8 0 work plan
-planAnswered (some p) work plan =
-    record {
-      answer = AsPlan (length (p .rides)) (p .expected) (p .last) (p .bound);
-      work = work;
-      plan = over (written (p .rides)) plan;
-    }
+planAnswered o work plan = record { answer = answerFor o; work = work; plan = sliceAfter o plan }
 
 -- 1 to 5 as the check gives them, then 6, 7, 8; refusals 1 to 7 change no slice
 unfoldable pub planSound : Format → Timetable → Query → List ℕ → List ℕ → PlanOutcome

@@ -35,7 +35,8 @@ use Rattle.demands.proofs.Demand3 as demand3
 use Rattle.plan_rows.proofs.Standing.{timely}
 use Rattle.plan_extract.specs.Extracted.{written}
 use Rattle.numbers.specs.Over.{over}
-use Rattle.planner.specs.declared.Planned.the-variants.{Plan as AsPlan, Refused as NoPlan}
+use Rattle.plan_whole.specs.declared.Planned.the-variants.{Plan as AsPlan, Refused as NoPlan}
+use Rattle.plan_whole.specs.Answers.{answerFor, sliceAfter}
 use Rattle.planner.specs.Outcome.{
   journeyRule,
   codeRule,
@@ -160,7 +161,7 @@ module _ (file : List ℕ) (q : Query) (work plan : List ℕ) where
         stands = elim (code-gives q code) [ inl p ↦ inl p | inr p ↦ inr (p .0) ]
 
         none-answered : planned t q ≡ none → outcome ≡ refusedPlan 8 0 (cleared (workRoom rows) work) plan
-        unfolding planAnswered
+        unfolding planAnswered answerFor sliceAfter
         none-answered e =
             answered-outcome ∙ ap (λ (o : Option Plan). planAnswered o (cleared (workRoom rows) work) plan) e
 
@@ -171,12 +172,12 @@ module _ (file : List ℕ) (q : Query) (work plan : List ℕ) where
               work = cleared (workRoom rows) work;
               plan = over (written (p .rides)) plan;
             }
-        unfolding planAnswered
+        unfolding planAnswered answerFor sliceAfter
         some-answered p e =
             answered-outcome ∙ ap (λ (o : Option Plan). planAnswered o (cleared (workRoom rows) work) plan) e
 
         eight-planned : (o : Option Plan) → planAnswered o (cleared (workRoom rows) work) plan .answer ≡ NoPlan 8 0 → o ≡ none
-        unfolding planAnswered
+        unfolding planAnswered answerFor sliceAfter
         eight-planned none e = refl
         eight-planned (some p) e = absurd (refused-not-plan (sym e))
 
@@ -197,7 +198,7 @@ module _ (file : List ℕ) (q : Query) (work plan : List ℕ) where
         some-planned :
             (o : Option Plan) (rides expected last bound : ℕ)
             → planAnswered o (cleared (workRoom rows) work) plan .answer ≡ AsPlan rides expected last bound → (p : Plan) × (o ≡ some p)
-        unfolding planAnswered
+        unfolding planAnswered answerFor sliceAfter
         some-planned none rides expected last bound e = absurd (refused-not-plan e)
         some-planned (some p) rides expected last bound e = (p, refl)
 
@@ -207,7 +208,7 @@ module _ (file : List ℕ) (q : Query) (work plan : List ℕ) where
             some-planned (planned t q) rides expected last bound (sym (ap (λ (x : PlanOutcome). x .answer) answered-outcome) ∙ e)
 
         eight-number : (o : Option Plan) → planAnswer (planAnswered o (cleared (workRoom rows) work) plan .answer) .number ≡ 8 → o ≡ none
-        unfolding planAnswered planAnswer
+        unfolding planAnswered answerFor sliceAfter planAnswer
         eight-number none e = refl
         eight-number (some p) e = absurd (let z : ⊥ = omega arith in z)
 

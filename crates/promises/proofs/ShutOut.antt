@@ -22,8 +22,9 @@ use Rattle.plans.specs.Examples as examples
 use Rattle.plans.specs.Examples.{query}
 use Rattle.plan_extract.specs.Extracted.{written}
 use Rattle.numbers.specs.Over.{over}
-use Rattle.planner.specs.declared.Planned.{Planned}
-use Rattle.planner.specs.declared.Planned.the-variants.{Plan as AsPlan, Refused as NoPlan}
+use Rattle.plan_whole.specs.declared.Planned.{Planned}
+use Rattle.plan_whole.specs.declared.Planned.the-variants.{Plan as AsPlan, Refused as NoPlan}
+use Rattle.plan_whole.specs.Answers.{answerFor, sliceAfter}
 use Rattle.planner.specs.Outcome.{journeyRule, codeRule, workRoom, cleared, PlanOutcome, planAnswered, planOutcome}
 use Rattle.promises.proofs.Demands.{answered-outcome, refused-not-plan}
 
@@ -74,11 +75,11 @@ w-answered : ofW ≡ planAnswered (planned (decode versionOne w) asked) (cleared
 w-answered = answered-outcome w asked (blank 2516) (blank 12) 3 4 2 sound-w kept-rule kept-code (fits 2516) (fits 12)
 
 pub w-answer : ofW .answer ≡ AsPlan 3 172800 690 0
-unfolding planAnswered encode rowsBytes rowBytes tablesBytes tableBytes sharesBytes trailerBytes u16Bytes u32Bytes checked checkedAs fileVerdict headVerdict lengthRule headRule classVerdict classesVerdict joined sectionsJoin rangesOf answered decode headOf headAt trailerAt rowsFrom rowAt tablesFrom tableAt sharesFrom blockEnd tablesEnd u16At u32At ownRule departureRule lastOfTrip follows tripRule rowVerdict rowsVerdict sum sharesRule planned planBefore earliest weigh firstOpen worthOr caught arrivalWorth changeWorth whenSafe offInTicks worthOf offInMinutes nextOf getOff stayOn least firstAt leads others choose bestOf scan scanned chosenFor inWindow wanted upTo windowsOf extract ridesFrom latestOf planWithin
+unfolding planAnswered answerFor sliceAfter encode rowsBytes rowBytes tablesBytes tableBytes sharesBytes trailerBytes u16Bytes u32Bytes checked checkedAs fileVerdict headVerdict lengthRule headRule classVerdict classesVerdict joined sectionsJoin rangesOf answered decode headOf headAt trailerAt rowsFrom rowAt tablesFrom tableAt sharesFrom blockEnd tablesEnd u16At u32At ownRule departureRule lastOfTrip follows tripRule rowVerdict rowsVerdict sum sharesRule planned planBefore earliest weigh firstOpen worthOr caught arrivalWorth changeWorth whenSafe offInTicks worthOf offInMinutes nextOf getOff stayOn least firstAt leads others choose bestOf scan scanned chosenFor inWindow wanted upTo windowsOf extract ridesFrom latestOf planWithin
 w-answer = ap (λ (x : PlanOutcome). x .answer) w-answered
 
 pub w-plan : ofW .plan ≡ 0 ∷ 0 ∷ 172800 ∷ 1 ∷ 1 ∷ 168960 ∷ 3 ∷ 3 ∷ 176640 ∷ 0 ∷ 0 ∷ 0 ∷ []
-unfolding planAnswered written encode rowsBytes rowBytes tablesBytes tableBytes sharesBytes trailerBytes u16Bytes u32Bytes checked checkedAs fileVerdict headVerdict lengthRule headRule classVerdict classesVerdict joined sectionsJoin rangesOf answered decode headOf headAt trailerAt rowsFrom rowAt tablesFrom tableAt sharesFrom blockEnd tablesEnd u16At u32At ownRule departureRule lastOfTrip follows tripRule rowVerdict rowsVerdict sum sharesRule planned planBefore earliest weigh firstOpen worthOr caught arrivalWorth changeWorth whenSafe offInTicks worthOf offInMinutes nextOf getOff stayOn least firstAt leads others choose bestOf scan scanned chosenFor inWindow wanted upTo windowsOf extract ridesFrom latestOf planWithin
+unfolding planAnswered answerFor sliceAfter written encode rowsBytes rowBytes tablesBytes tableBytes sharesBytes trailerBytes u16Bytes u32Bytes checked checkedAs fileVerdict headVerdict lengthRule headRule classVerdict classesVerdict joined sectionsJoin rangesOf answered decode headOf headAt trailerAt rowsFrom rowAt tablesFrom tableAt sharesFrom blockEnd tablesEnd u16At u32At ownRule departureRule lastOfTrip follows tripRule rowVerdict rowsVerdict sum sharesRule planned planBefore earliest weigh firstOpen worthOr caught arrivalWorth changeWorth whenSafe offInTicks worthOf offInMinutes nextOf getOff stayOn least firstAt leads others choose bestOf scan scanned chosenFor inWindow wanted upTo windowsOf extract ridesFrom latestOf planWithin
 w-plan = ap (λ (x : PlanOutcome). x .plan) w-answered
 
 -- and of two rows of one trip
@@ -86,7 +87,7 @@ abbrev ofOneTrip : PlanOutcome
 ofOneTrip = planOutcome oneTrip asked (blank 2508) (blank 6)
 
 one-trip-answer : ofOneTrip .answer ≡ AsPlan 1 169920 670 0
-unfolding planAnswered encode rowsBytes rowBytes tablesBytes tableBytes sharesBytes trailerBytes u16Bytes u32Bytes checked checkedAs fileVerdict headVerdict lengthRule headRule classVerdict classesVerdict joined sectionsJoin rangesOf answered decode headOf headAt trailerAt rowsFrom rowAt tablesFrom tableAt sharesFrom blockEnd tablesEnd u16At u32At ownRule departureRule lastOfTrip follows tripRule rowVerdict rowsVerdict sum sharesRule planned planBefore earliest weigh firstOpen worthOr caught arrivalWorth changeWorth whenSafe offInTicks worthOf offInMinutes nextOf getOff stayOn least firstAt leads others choose bestOf scan scanned chosenFor inWindow wanted upTo windowsOf extract ridesFrom latestOf planWithin
+unfolding planAnswered answerFor sliceAfter encode rowsBytes rowBytes tablesBytes tableBytes sharesBytes trailerBytes u16Bytes u32Bytes checked checkedAs fileVerdict headVerdict lengthRule headRule classVerdict classesVerdict joined sectionsJoin rangesOf answered decode headOf headAt trailerAt rowsFrom rowAt tablesFrom tableAt sharesFrom blockEnd tablesEnd u16At u32At ownRule departureRule lastOfTrip follows tripRule rowVerdict rowsVerdict sum sharesRule planned planBefore earliest weigh firstOpen worthOr caught arrivalWorth changeWorth whenSafe offInTicks worthOf offInMinutes nextOf getOff stayOn least firstAt leads others choose bestOf scan scanned chosenFor inWindow wanted upTo windowsOf extract ridesFrom latestOf planWithin
 one-trip-answer =
     ap (λ (x : PlanOutcome). x .answer)
     (answered-outcome oneTrip asked (blank 2508) (blank 6) 3 2 2 sound-one-trip kept-rule kept-code (fits 2508) (fits 6))

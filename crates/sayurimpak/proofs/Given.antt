@@ -21,6 +21,7 @@ use Rattle.plans.specs.Plan.{Plan, planned}
 use Rattle.plans.specs.Worth.{Valued}
 use Rattle.plan_extract.specs.Extracted.{written}
 use Rattle.numbers.specs.Over.{over}
+use Rattle.plan_whole.specs.Answers.{answerFor, sliceAfter}
 use Rattle.planner.specs.Outcome.{PlanOutcome, workRoom, planRoom, refusedPlan, planAnswered, planSound, planChecked, journeyRule, codeRule, cleared}
 use Rattle.sayurimpak.specs.Desk.{DeskOutcome, refused, rideBytes, planBytes, deskAnswered, roomFor, deskSound, deskChecked}
 use Rattle.sayurimpak.specs.Given.{given}
@@ -47,7 +48,7 @@ givenOn o rest out = given (o .answer) (o .plan ++ rest) out
 
 module _ (plan rest out : List ℕ) where
   answered-given : (p : Option Plan) (work : List ℕ) → givenOn (planAnswered p work plan) rest out ≡ deskAnswered p out
-  unfolding given planAnswered deskAnswered
+  unfolding given planAnswered answerFor sliceAfter deskAnswered
   answered-given none work = refl
   answered-given (some p) work =
       let numbers = written (p .rides) in

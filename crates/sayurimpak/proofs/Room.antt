@@ -23,6 +23,7 @@ use Rattle.plans.specs.declared.Query.{Query}
 use Rattle.plans.specs.Plan.{Plan, planned}
 use Rattle.plan_extract.specs.Extracted.{written}
 use Rattle.numbers.specs.Over.{over}
+use Rattle.plan_whole.specs.Answers.{answerFor, sliceAfter}
 use Rattle.planner.specs.Outcome.{
   PlanOutcome,
   workRoom,
@@ -70,7 +71,7 @@ module _ (plan rest out : List ℕ) where
   FitsOn o = length (o .plan) ≡ length plan → Fitting (o .answer) (o .plan ++ rest) out
 
   answered-fits : length plan ≤ length out / 4 → (p : Option Plan) (work : List ℕ) → FitsOn (planAnswered p work plan)
-  unfolding planAnswered Fitting
+  unfolding planAnswered answerFor sliceAfter Fitting
   answered-fits l none work k = omega arith
   answered-fits l (some p) work k =
       let numbers = written (p .rides) in

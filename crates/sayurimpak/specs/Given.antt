@@ -4,8 +4,8 @@ use mathlib.Core.List.{List}
 use lib.ListN.{length, take}
 use Rattle.numbers.specs.Bytes.{bytesOf}
 use Rattle.numbers.specs.Over.{over}
-use Rattle.planner.specs.declared.Planned.{Planned}
-use Rattle.planner.specs.declared.Planned.the-variants.{Plan as AsPlan, Refused as NoPlan}
+use Rattle.plan_whole.specs.declared.Planned.{Planned}
+use Rattle.plan_whole.specs.declared.Planned.the-variants.{Plan as AsPlan, Refused as NoPlan}
 use Rattle.sayurimpak.specs.Desk.{DeskOutcome, refused}
 
 unfoldable pub given : Planned → List ℕ → List ℕ → DeskOutcome

@@ -5,7 +5,7 @@ ghost use lib.ListN.{length};
 ghost use Rattle.sayurimpak.specs.Desk.{asked, deskOutcome};
 ghost use Rattle.sayurimpak.specs.Given.{given, Fitting};
 use numbers::put_numbers;
-use planner::Planned;
+use plan_whole::Planned;
 use planner::plan;
 use plans::Query;
 

@@ -24,7 +24,8 @@ use Rattle.plans.proofs.Made.{plan-made}
 use Rattle.plans.proofs.PlanRides.{plan-member, for-ride}
 use Rattle.plan_extract.specs.Extracted.{written}
 use Rattle.numbers.specs.Over.{over}
-use Rattle.planner.specs.declared.Planned.the-variants.{Plan as AsPlan, Refused as NoPlan}
+use Rattle.plan_whole.specs.declared.Planned.the-variants.{Plan as AsPlan, Refused as NoPlan}
+use Rattle.plan_whole.specs.Answers.{answerFor, sliceAfter}
 use Rattle.planner.specs.Outcome.{journeyRule, codeRule, workRoom, planRoom, cleared, PlanOutcome, refusedPlan, planAnswered, planSound, planChecked, planOutcome}
 use Rattle.sheet_text.specs.Sheet.{firstText, refusedText, planText, plannedText, askedText}
 use Rattle.sheet_text.specs.Lines.{linesIn, RidesIn}
@@ -36,7 +37,7 @@ answeredTo rule found cells work plan = cond rule (planAnswered found cells plan
 
 refusal-when : (rule : Bool) (found : Option Plan) (cells work plan : List ℕ) {number place : ℕ}
     → NoPlan number place ≡ answeredTo rule found cells work plan .answer → refusedText number ≡ cond rule (plannedText found) (refusedText 6)
-unfolding planAnswered plannedText
+unfolding planAnswered answerFor sliceAfter plannedText
 refusal-when true none cells work plan {number} e = let same : number ≡ 8 = cc in ap refusedText same
 refusal-when true (some p) cells work plan e = absurd (let z : _≡_ {A = ℕ} 0 1 = cc in let y : ⊥ = omega arith in y)
 refusal-when false found cells work plan {number} e = let same : number ≡ 6 = cc in ap refusedText same
@@ -54,7 +55,7 @@ record Told (rule : Bool) (found : Option Plan) (rides expected last : ℕ) (pla
 plan-when : (rule : Bool) (found : Option Plan) (cells work plan after : List ℕ) {rides expected last bound : ℕ}
     → AsPlan rides expected last bound ≡ answeredTo rule found cells work plan .answer → after ≡ answeredTo rule found cells work plan .plan
     → Told rule found rides expected last plan after
-unfolding planAnswered
+unfolding planAnswered answerFor sliceAfter
 plan-when true none cells work plan after e laid = absurd (let z : _≡_ {A = ℕ} 0 1 = cc in let y : ⊥ = omega arith in y)
 plan-when true (some p) cells work plan after e laid =
     record { told = p; ruled = refl; is-found = refl; count = (cc); expects = (cc); ends = (cc); laid = laid }

@@ -24,7 +24,7 @@ use file_layout::row_at;
 use numbers::cell;
 use numbers::number;
 use numbers::u16_at;
-use planner::Planned;
+use plan_whole::Planned;
 use planner::plan;
 use plans::Query;
 use timetable::Row;

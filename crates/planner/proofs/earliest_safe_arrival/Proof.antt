@@ -4,14 +4,7 @@ use native.Mathlib.Omega.{arith}
 use Rattle.file_layout.specs.Format.{versionOne}
 use Rattle.planner.specs.declared.Earliest.the-variants.{Refused as NoArrival}
 use Rattle.planner.specs.Outcome.{EarliestOutcome, earliestOutcome}
-use Rattle.planner.proofs.Answered.{
-  refusal-fits,
-  refused-checked-as,
-  refused-by-check-earliest,
-  sound-by-check-earliest,
-  refused-as-earliest,
-  found-sound,
-}
+use Rattle.planner.proofs.Answered.{refusal-fits, refused-checked-as, refused-by-check-earliest, sound-by-check-earliest, refused-as-earliest, found-sound}
 use borrow.Author.Needs.{needs}
 use Rattle.planner.proofs.earliest_safe_arrival.Statement.{statement}
 use Rattle.planner.proofs.earliest_safe_arrival.Tie as tie

@@ -10,21 +10,11 @@ use Rattle.plans.specs.Plan.{earliest}
 use Rattle.plan_cells.specs.Cells.{filled}
 use Rattle.plan_rows.specs.Sections.{sailingsOf}
 use Rattle.planner.specs.Outcome.{journeyRule, workRoom, cleared, earliestAnswered, earliestSound}
-use Rattle.planner.specs.Steps.{Asked}
+use Rattle.plan_whole.specs.Steps.{Asked}
 use Rattle.planner.proofs.Rules.{asks}
-use Rattle.planner.proofs.Laying.{arrival-there}
-use Rattle.planner.proofs.Answered.{
-  refused-six-earliest,
-  refused-seven-earliest,
-  not-refused-earliest,
-  refused-as-earliest,
-  earliest-answers,
-  no-earliest-answers,
-  no-arrival-cell,
-  arrival-cell,
-  kept-later,
-  cleared-behind,
-}
+use Rattle.plan_whole.proofs.Laying.{arrival-there}
+use Rattle.planner.proofs.Answered.{refused-six-earliest, refused-seven-earliest, not-refused-earliest, refused-as-earliest, earliest-answers, no-earliest-answers, cleared-behind}
+use Rattle.plan_whole.proofs.Answered.{no-arrival-cell, arrival-cell, kept-later}
 use borrow.Author.Needs.{needs}
 use Rattle.planner.proofs.earliest_sound.Statement.{statement}
 use Rattle.planner.proofs.earliest_sound.Tie as tie

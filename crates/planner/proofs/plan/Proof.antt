@@ -2,7 +2,7 @@
 use mathlib.Core.Path.{sym, ap, ap₂, _∙_}
 use native.Mathlib.Omega.{arith}
 use Rattle.file_layout.specs.Format.{versionOne}
-use Rattle.planner.specs.declared.Planned.the-variants.{Refused as NoPlan}
+use Rattle.plan_whole.specs.declared.Planned.the-variants.{Refused as NoPlan}
 use Rattle.planner.specs.Outcome.{PlanOutcome, planOutcome}
 use Rattle.planner.proofs.Answered.{refusal-fits, refused-checked-as, refused-by-check, sound-by-check, refused-as, found-sound}
 use borrow.Author.Needs.{needs}

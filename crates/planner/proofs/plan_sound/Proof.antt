@@ -11,18 +11,9 @@ use Rattle.file_layout.specs.Decode.{headOf, decode}
 use Rattle.plans.specs.Plan.{planned}
 use Rattle.plan_cells.specs.Cells.{used, filled}
 use Rattle.planner.specs.Outcome.{journeyRule, codeRule, workRoom, planRoom, cleared, planSound}
-use Rattle.planner.proofs.Rules.{asks}
-use Rattle.planner.proofs.Answered.{
-  broken-left,
-  broken-right,
-  refused-six,
-  refused-seven,
-  not-refused,
-  refused-as,
-  answered-as,
-  kept-later,
-  cleared-behind,
-}
+use Rattle.planner.proofs.Rules.{asks, code-most}
+use Rattle.planner.proofs.Answered.{broken-left, broken-right, refused-six, refused-seven, not-refused, refused-as, answered-as, cleared-behind}
+use Rattle.plan_whole.proofs.Answered.{kept-later}
 use borrow.Author.Needs.{needs}
 use Rattle.planner.proofs.plan_sound.Statement.{statement}
 use Rattle.planner.proofs.plan_sound.Tie as tie
@@ -131,8 +122,9 @@ plan-in-room-requires c κs =
       asks (a .args .f) (a .args .file .now) (a .args .stops) (a .args .count) (a .args .q) (a .pre)
           (sym (c .before .before .before .before .before .before .before .before .journey-rule .ensures)
           ∙ not-false _ (c .before .before .before .before .before .before .before .if1 .left)),
-      sym (c .before .before .before .before .before .before .code-rule .ensures)
-          ∙ not-false _ (c .before .before .before .before .before .if2 .left),
+      code-most (a .args .q)
+          (sym (c .before .before .before .before .before .before .code-rule .ensures)
+          ∙ not-false _ (c .before .before .before .before .before .if2 .left)),
       omega (arith, c .before .before .before .before .work-room .ensures, rows),
       omega (arith, rows),
     )

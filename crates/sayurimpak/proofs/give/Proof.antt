@@ -5,8 +5,8 @@ use mathlib.Core.Path.{_≡_, sym, ap, subst, _∙_}
 use native.Mathlib.Omega.{arith}
 use borrow.Author.Needs.{needs}
 use lib.ListN.{length}
-use Rattle.planner.specs.declared.Planned.{Planned}
-use Rattle.planner.specs.declared.Planned.the-variants.{Plan, Refused}
+use Rattle.plan_whole.specs.declared.Planned.{Planned}
+use Rattle.plan_whole.specs.declared.Planned.the-variants.{Plan, Refused}
 use Rattle.sayurimpak.specs.Given.{given, Fitting}
 use Rattle.sayurimpak.proofs.give.Statement.{statement}
 use Rattle.sayurimpak.proofs.give.Tie as tie

@@ -1,4 +1,4 @@
--- `planner::plan_scanned` meets its contract: the top of the source's stack begins the plan. Assumes nothing.
+-- `plan_whole::plan_scanned` meets its contract: the top of the source's stack begins the plan. Assumes nothing.
 use Prim.Native.Nat.{_+_, _-_, _*_, _%_, _<_, _≤_}
 use mathlib.Core.Path.{_≡_, refl, sym, ap, ap₂, subst, _∙_}
 use native.Mathlib.Omega.{arith}
@@ -6,12 +6,12 @@ use lib.ListN.{getD}
 use Rattle.plan_cells.specs.Cells.{used, stackSize}
 use Rattle.plan_scan.specs.Scanned.{scanIn}
 use Rattle.plan_extract.specs.Extracted.{FirstRide}
-use Rattle.planner.specs.Steps.{planIn}
-use Rattle.planner.proofs.First.{top, Top, Told, goal-told}
-use Rattle.planner.proofs.Answered.{no-plan-answers, plan-answers}
+use Rattle.plan_whole.specs.Steps.{planIn}
+use Rattle.plan_whole.proofs.First.{top, Top, Told, goal-told}
+use Rattle.plan_whole.proofs.Answered.{no-plan-answers, plan-answers}
 use borrow.Author.Needs.{needs}
-use Rattle.planner.proofs.plan_scanned.Statement.{statement}
-use Rattle.planner.proofs.plan_scanned.Tie as tie
+use Rattle.plan_whole.proofs.plan_scanned.Statement.{statement}
+use Rattle.plan_whole.proofs.plan_scanned.Tie as tie
 
 -- places on the way: the entry; where the top of the stack is known; where the plan is written
 abbrev begun : tie.After-number3 → tie.Start

@@ -1,16 +1,17 @@
--- `planner::plan_within` meets its contract: the part of the rows that a plan can board is scanned, and the plan read off it. Assumes nothing.
+-- `plan_whole::plan_within` meets its contract: the part of the rows that a plan can board is scanned, and the plan read off it. Assumes nothing.
 use Prim.Native.Nat.{_≤_}
 use mathlib.Core.Path.{sym, subst}
 use native.Mathlib.Omega.{arith}
 use lib.ListN.{length}
 use Rattle.plan_cells.specs.Cells.{used}
 use Rattle.plan_rows.specs.Reading.{rowsIn}
-use Rattle.planner.specs.Steps.{Reaches, RowsWithin, Part, planIn, Answers}
-use Rattle.planner.proofs.Parts.{is-part}
-use Rattle.planner.proofs.Answered.{kept-both}
+use Rattle.plan_whole.specs.Steps.{Reaches, RowsWithin, Part, planIn}
+use Rattle.plan_whole.specs.Answers.{Answers}
+use Rattle.plan_whole.proofs.Parts.{is-part}
+use Rattle.plan_whole.proofs.Answered.{kept-both}
 use borrow.Author.Needs.{needs}
-use Rattle.planner.proofs.plan_within.Statement.{statement}
-use Rattle.planner.proofs.plan_within.Tie as tie
+use Rattle.plan_whole.proofs.plan_within.Statement.{statement}
+use Rattle.plan_whole.proofs.plan_within.Tie as tie
 
 -- places on the way: the entry; where the goal is known; where the scan is done
 abbrev begun : tie.After-number2 → tie.Start

@@ -16,7 +16,7 @@ use Rattle.plan_rows.specs.declared.Sailings.{Sailings}
 use Rattle.plan_rows.specs.Reading.{rowsIn, timetableIn, Cut}
 use Rattle.plan_rows.proofs.Cuts.{Idle, idle-end, bound-idle}
 use Rattle.plan_landing.specs.declared.Goal.{Goal}
-use Rattle.planner.specs.Steps.{Laid, Reaches, RowsWithin, Part}
+use Rattle.plan_whole.specs.Steps.{Laid, Reaches, RowsWithin, Part}
 
 -- rows that depart before an earlier minute stand ahead of those that do not before a later one
 cuts-in-order : (rows : List Row) (minute bound first end : ℕ) → Cut rows minute first → Cut rows bound end → minute ≤ bound → first ≤ end

@@ -18,7 +18,7 @@ use Rattle.plans.specs.Plan.{earliest}
 use Rattle.plans.proofs.EarliestSafe.{earliest-is-least, journey-after}
 use Rattle.plan_rows.specs.declared.Sailings.{Sailings}
 use Rattle.plan_rows.specs.Reading.{timetableIn, Stand}
-use Rattle.planner.specs.Steps.{Reaches}
+use Rattle.plan_whole.specs.Steps.{Reaches}
 
 module _ (file : List ℕ) (s : Sailings) (stand : Stand file s) where
   ride-lands : (r : Ride) → IsRide (timetableIn file s) r → latest r < 65536

@@ -1,10 +1,10 @@
--- `planner::bound_of` meets its contract, and no number in it wraps. Assumes nothing.
+-- `plan_whole::bound_of` meets its contract, and no number in it wraps. Assumes nothing.
 use Prim.Native.Nat.{_-_}
 use native.Mathlib.Omega.{arith}
-use Rattle.planner.proofs.Bounds.{no-bound, real-bound, quarters-fit}
+use Rattle.plan_whole.proofs.Bounds.{no-bound, real-bound, quarters-fit}
 use borrow.Author.Needs.{needs}
-use Rattle.planner.proofs.bound_of.Statement.{statement}
-use Rattle.planner.proofs.bound_of.Tie as tie
+use Rattle.plan_whole.proofs.bound_of.Statement.{statement}
+use Rattle.plan_whole.proofs.bound_of.Tie as tie
 
 returns : tie.Need-returns
 returns c = no-bound (c .before .before .args .q) (c .before .before .args .end) (omega arith)

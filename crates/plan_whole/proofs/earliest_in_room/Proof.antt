@@ -1,11 +1,11 @@
--- `planner::earliest_in_room` meets its contract: the tables and rows of a sound file are laid out, then E is found. Assumes nothing.
+-- `plan_whole::earliest_in_room` meets its contract: the tables and rows of a sound file are laid out, then E is found. Assumes nothing.
 use mathlib.Core.Path.{refl, sym, ap, _∙_}
 use native.Mathlib.Omega.{arith}
 use Rattle.plan_cells.specs.Cells.{cellOf}
-use Rattle.planner.proofs.Laying.{rows-stand, tables-stand, lays, earliest-there}
+use Rattle.plan_whole.proofs.Laying.{rows-stand, tables-stand, lays, earliest-there}
 use borrow.Author.Needs.{needs}
-use Rattle.planner.proofs.earliest_in_room.Statement.{statement}
-use Rattle.planner.proofs.earliest_in_room.Tie as tie
+use Rattle.plan_whole.proofs.earliest_in_room.Statement.{statement}
+use Rattle.plan_whole.proofs.earliest_in_room.Tie as tie
 
 -- the entry, from where the rows are laid out
 abbrev begun : tie.After-rows-before → tie.Start

@@ -1,10 +1,10 @@
--- `planner::rows_within` meets its contract: all rows, or those before the bound. Assumes nothing.
+-- `plan_whole::rows_within` meets its contract: all rows, or those before the bound. Assumes nothing.
 use mathlib.Core.Path.{_≡_, subst}
 use native.Mathlib.Omega.{arith}
 use Rattle.plan_rows.specs.Reading.{rowsIn, Cut}
 use borrow.Author.Needs.{needs}
-use Rattle.planner.proofs.rows_within.Statement.{statement}
-use Rattle.planner.proofs.rows_within.Tie as tie
+use Rattle.plan_whole.proofs.rows_within.Statement.{statement}
+use Rattle.plan_whole.proofs.rows_within.Tie as tie
 
 returns : tie.Need-returns
 returns c = search needs

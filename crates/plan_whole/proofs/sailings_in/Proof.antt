@@ -1,10 +1,10 @@
--- `planner::sailings_in` meets its contract: the head that the check read. Assumes nothing.
+-- `plan_whole::sailings_in` meets its contract: the head that the check read. Assumes nothing.
 use mathlib.Core.Path.{ap}
 use Rattle.file_layout.specs.Decode.{headOf, trailerAt}
 use Rattle.plan_rows.specs.Sections.{sailingsOf}
 use borrow.Author.Needs.{needs}
-use Rattle.planner.proofs.sailings_in.Statement.{statement}
-use Rattle.planner.proofs.sailings_in.Tie as tie
+use Rattle.plan_whole.proofs.sailings_in.Statement.{statement}
+use Rattle.plan_whole.proofs.sailings_in.Tie as tie
 
 sub-head-at : tie.Need-sub-head-at
 sub-head-at c = search needs

@@ -15,8 +15,8 @@ use Rattle.plan_rows.specs.Reading.{rowsIn, tablesIn, timetableIn, Stand, Block
 use Rattle.plan_rows.specs.Sections.{sailingsOf}
 use Rattle.plan_rows.proofs.Standing.{stands, blocks-stand, timely, same-earliest, same-plan}
 use Rattle.plan_earliest.specs.Query.{queryOf}
-use Rattle.planner.proofs.Bounds.{earliest-fits}
-use Rattle.planner.specs.Steps.{Asked, Laid, planIn}
+use Rattle.plan_whole.proofs.Bounds.{earliest-fits}
+use Rattle.plan_whole.specs.Steps.{Asked, Laid, planIn}
 
 -- a query by its numbers
 pub as-asked : (q : Query) (source target minute : ℕ) → source ≡ q .source → target ≡ q .target → minute ≡ q .minute

@@ -1,4 +1,4 @@
--- `planner::plan_in_room` meets its contract: what is laid out of a sound file, E, the bound, then the plan within it. Assumes nothing.
+-- `plan_whole::plan_in_room` meets its contract: what is laid out of a sound file, E, the bound, then the plan within it. Assumes nothing.
 use Prim.Native.Nat.{ℕ, _≤_, _<_}
 use mathlib.Core.Option.{Option, some}
 use mathlib.Core.Path.{_≡_, refl, sym, ap, subst, _∙_}
@@ -8,14 +8,14 @@ use Rattle.file_layout.specs.Decode.{headOf, decode}
 use Rattle.plans.specs.Plan.{Plan, planned, earliest}
 use Rattle.plan_cells.specs.Cells.{used, missing}
 use Rattle.plan_rows.specs.Reading.{timetableIn}
-use Rattle.planner.specs.Steps.{Laid, Reaches, planIn, Answers, KeptBehind}
-use Rattle.planner.proofs.Rules.{code-most}
-use Rattle.planner.proofs.Bounds.{earliest-fits, bound-reaches}
-use Rattle.planner.proofs.Answered.{no-arrival-cell, arrival-cell, no-plan-answers, no-plan-of, kept-later, kept-both}
-use Rattle.planner.proofs.Laying.{rows-stand, tables-stand, lays, plan-there, plan-by-arrival, rows-there}
+use Rattle.plan_whole.specs.Steps.{Laid, Reaches, planIn, KeptBehind}
+use Rattle.plan_whole.specs.Answers.{Answers}
+use Rattle.plan_whole.proofs.Bounds.{earliest-fits, bound-reaches}
+use Rattle.plan_whole.proofs.Answered.{no-arrival-cell, arrival-cell, no-plan-answers, no-plan-of, kept-later, kept-both}
+use Rattle.plan_whole.proofs.Laying.{rows-stand, tables-stand, lays, plan-there, plan-by-arrival, rows-there}
 use borrow.Author.Needs.{needs}
-use Rattle.planner.proofs.plan_in_room.Statement.{statement}
-use Rattle.planner.proofs.plan_in_room.Tie as tie
+use Rattle.plan_whole.proofs.plan_in_room.Statement.{statement}
+use Rattle.plan_whole.proofs.plan_in_room.Tie as tie
 
 -- places on the way: the entry; where the rows are laid out; where E is known
 abbrev begun : tie.After-rows-before → tie.Start
@@ -107,7 +107,7 @@ bound-of-requires : tie.Need-bound-of-requires
 bound-of-requires c κs =
     let found = arrived (c .before .before .before) (λ e. let z : ⊥ = omega arith in z) in
     let fits = arrival-fits (laid-out c) (c .before .before .before .reach .result) found in
-    (fits .0, fits .1, code-most (begun (laid-out c) .args .q) (begun (laid-out c) .pre .1))
+    (fits .0, fits .1, begun (laid-out c) .pre .1)
 
 slice-aggregate-plan-within : tie.Need-slice-aggregate-plan-within
 slice-aggregate-plan-within c = search needs

@@ -26,7 +26,7 @@ use Rattle.plan_landing.specs.Landing.{atStop, entryOf, EntryFits}
 use Rattle.plan_landing.proofs.AtStop.{first-open-at-stop, first-open-at, first-open-none, at-stop-from, at-stop-member}
 use Rattle.plan_landing.proofs.Stack.{stack-size, entry-at}
 use Rattle.plan_scan.specs.Scanned.{ScanHeld}
-use Rattle.planner.specs.Steps.{Laid, planIn}
+use Rattle.plan_whole.specs.Steps.{Laid, planIn}
 
 -- chosen rides are no more than the rows
 others-few : (r : Ride) (vs : List Valued) → length (others r vs) ≤ length vs

@@ -1,14 +1,14 @@
--- `planner::reach` meets its contract: the scan forward of the rows from T on. Assumes nothing.
+-- `plan_whole::reach` meets its contract: the scan forward of the rows from T on. Assumes nothing.
 use mathlib.Core.Path.{sym, ap, subst, _∙_}
 use native.Mathlib.Omega.{arith}
 use Rattle.plans.specs.declared.Query.{Query}
 use Rattle.plans.specs.Plan.{earliest}
 use Rattle.plan_cells.specs.Cells.{cellOf}
 use Rattle.plan_rows.specs.Reading.{rowsIn, timetableIn, Cut}
-use Rattle.planner.proofs.Laying.{as-asked}
+use Rattle.plan_whole.proofs.Laying.{as-asked}
 use borrow.Author.Needs.{needs}
-use Rattle.planner.proofs.reach.Statement.{statement}
-use Rattle.planner.proofs.reach.Tie as tie
+use Rattle.plan_whole.proofs.reach.Statement.{statement}
+use Rattle.plan_whole.proofs.reach.Tie as tie
 
 -- the entry, from where the query is read
 abbrev begun : tie.After-number3 → tie.Start

@@ -1,13 +1,12 @@
 -- What the steps of planning ask of each other: a sound file, what is laid out of it in the lent cells, and the plan within a bound.
 use Prim.Native.Nat.{ℕ, _≤_, _<_}
-use mathlib.Core.List.{List, []}
+use mathlib.Core.List.{List}
 use mathlib.Core.Logic.{_≢_}
 use mathlib.Core.Option.{Option}
 use mathlib.Core.Path.{_≡_}
 use lib.ListN.{length, drop}
 use Rattle.timetable.specs.declared.Row.{Row}
 use Rattle.file_layout.specs.declared.Format.{Format}
-use Rattle.file_layout.specs.Decode.{decode}
 use Rattle.file_layout.proofs.Sound.{SoundFile}
 use Rattle.plans.specs.declared.Query.{Query}
 use Rattle.plans.specs.Sound.{Timely}
@@ -19,15 +18,6 @@ use Rattle.plan_rows.specs.Reading.{rowsIn, tablesIn, timetableIn, Stand, Cut, 
 use Rattle.plan_rows.specs.Sections.{Plannable}
 use Rattle.plan_rows.proofs.Cuts.{Idle}
 use Rattle.plan_landing.specs.declared.Goal.{Goal}
-use Rattle.planner.specs.declared.Planned.{Planned}
-use Rattle.planner.specs.Outcome.{planAnswered}
-
--- a sound file, with the numbers that the check answers
-pub record FoundSound (f : Format) (file : List ℕ) (stops rows : ℕ) : Type 0 where
-  pub plannable : Plannable f
-  pub sound : SoundFile f file
-  pub stops-are : stops ≡ decode f file .stops
-  pub rows-are : rows ≡ length (decode f file .rows)
 
 -- a sound file, and a query of its stops and minutes
 pub record Asked (f : Format) (file : List ℕ) (q : Query) : Type 0 where
@@ -70,11 +60,6 @@ pub record Part (file : List ℕ) (s : Sailings) (q : Query) (goal : Goal) (firs
 abbrev pub planIn : List ℕ → Sailings → Query → ℕ → Option Plan
 planIn file s q bound =
     planWithin (timetableIn file s) q bound (firstOpen (chosenFor (timetableIn file s) (q .target) bound) (q .source) (q .minute))
-
--- the answer that a plan or its absence gives, and the plan slice afterwards
-pub record Answers (o : Option Plan) (r : Planned) (plan plan' : List ℕ) : Type 0 where
-  pub answer : r ≡ planAnswered o [] plan .answer
-  pub written : plan' ≡ planAnswered o [] plan .plan
 
 -- cells from `from` on are as they were
 pub record KeptBehind (from : ℕ) (work work' : List ℕ) : Type 0 where

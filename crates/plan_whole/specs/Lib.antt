@@ -1,0 +1,3 @@
+-- What the steps of planning ask of each other, and what they answer.
+pub mod Steps
+pub mod Answers

@@ -1,0 +1,191 @@
+// Document 01, "Expected arrival in ticks": planning in a sound file with room for it, all steps together.
+ghost use mathlib.Core.Path.{_≡_};
+ghost use Prim.Native.Nat.{_+_, _*_, _≤_, _<_};
+ghost use lib.ListN.{length};
+ghost use Rattle.file_layout.specs.Decode.{headOf, decode};
+ghost use Rattle.file_layout.proofs.Sound.{SoundFile};
+ghost use Rattle.plans.specs.Journeys.{boundOf};
+ghost use Rattle.plans.specs.Plan.{planned, earliest as earliestIn};
+ghost use Rattle.plan_cells.specs.Cells.{used, cellOf};
+ghost use Rattle.plan_rows.specs.Reading.{rowsIn, timetableIn, Stand};
+ghost use Rattle.plan_rows.specs.Sections.{sailingsOf, Plannable};
+ghost use Rattle.plan_scan.specs.Scanned.{scanIn, ScanHeld};
+ghost use Rattle.plan_whole.specs.Answers.{Answers};
+ghost use Rattle.plan_whole.specs.Steps.{Asked, Laid, Reaches, RowsWithin, Part, planIn, KeptBehind};
+ghost use Rattle.plan_whole.specs.declared.Planned.the-variants.{Refused as NoPlan};
+use file_layout::Format;
+use file_layout::head_at;
+use numbers::cell;
+use numbers::number;
+use plan_cells::NONE;
+use plan_cells::PAIRS;
+use plan_cells::SIZES;
+use plan_cells::STOPS;
+use plan_earliest::earliest_arrival;
+use plan_extract::write_plan;
+use plan_landing::Goal;
+use plan_landing::row_of;
+use plan_rows::Sailings;
+use plan_rows::rows_before;
+use plan_scan::scan_back;
+use plan_shares::read_tables;
+use plans::Query;
+
+// A plan's ride count, expected ticks, latest minute and bound (0 for none), or a refusal.
+pub enum Planned {
+    Plan {
+        rides: u32,
+        expected: u32,
+        latest: u32,
+        bound: u32,
+    },
+    Refused {
+        number: u32,
+        place: u32,
+    },
+}
+
+// The plan or 8, with room for it.
+pub fn plan_in_room(file: &[u8], f: Format, q: Query, work: &mut [u32], plan: &mut [u32]) -> Planned
+    requires { ⌜ Asked f (now file) q × (q .code ≤ 16) × (used (headOf f (now file) .rows) ≤ length (now work))
+        × (3 * headOf f (now file) .rows ≤ length (now plan)) ⌝ }
+    ensures { λ r. ⌜ Answers (planned (decode f (now (file .entry))) q) r (now (plan .entry)) (now (plan .exit))
+        × KeptBehind (used (headOf f (now (file .entry)) .rows)) (now (work .entry)) (now (work .exit)) ⌝ }
+{
+    let mut tables = [0u32; 4096];
+    let s = sailings_in(file, f);
+    read_tables(file, s, &mut tables);
+    let first = rows_before(file, s, number(q.minute));
+    let end = reach(file, s, &tables, q, first, work);
+    if end == NONE {
+        return no_plan(8);
+    }
+    let bound = bound_of(q, end);
+    plan_within(file, s, &tables, q, bound, first, work, plan)
+}
+
+// Where a sound file's sections stand.
+fn sailings_in(file: &[u8], f: Format) -> Sailings
+    requires { ⌜ Plannable f × SoundFile f (now file) ⌝ }
+    ensures { λ r. ⌜ r ≡ sailingsOf f (headOf f (now (file .entry))) ⌝ }
+{
+    let head = head_at(file, file.len() - f.trailer);
+    Sailings {
+        rows: head.rows,
+        rowstart: head.rowstart,
+        width: f.width,
+        classes: head.classes,
+        tablestart: head.tablestart,
+    }
+}
+
+// The earliest safe arrival E, or NONE.
+fn reach(file: &[u8], s: Sailings, tables: &[u32], q: Query, first: usize, work: &mut [u32]) -> u32
+    requires { ⌜ Laid (now file) s (now tables) q first × (2400 ≤ length (now work)) ⌝ }
+    ensures { λ r. ⌜ (r ≡ cellOf (earliestIn (timetableIn (now (file .entry)) s) q)) × KeptBehind 2400 (now (work .entry)) (now (work .exit)) ⌝ }
+{
+    let source = number(q.source);
+    let target = number(q.target);
+    let minute = number(q.minute);
+    earliest_arrival(file, s, tables, source, target, minute, first, work)
+}
+
+// T + q(E - T)/4 rounded down; 0 stands for no bound.
+fn bound_of(q: Query, end: u32) -> u32
+    requires { ⌜ (q .minute ≤ end) × (end < 65536) × (q .code ≤ 16) ⌝ }
+    ensures { λ r. ⌜ r ≡ boundOf q end ⌝ }
+{
+    if q.code == 0 {
+        return 0;
+    }
+    q.minute + q.code * (end - q.minute) / 4
+}
+
+// The plan within a bound that does not lie before T, or 8.
+fn plan_within(
+    file: &[u8],
+    s: Sailings,
+    tables: &[u32],
+    q: Query,
+    bound: u32,
+    first: usize,
+    work: &mut [u32],
+    plan: &mut [u32],
+) -> Planned
+    requires { ⌜ Laid (now file) s (now tables) q first × Reaches (q .minute) bound
+        × (used (s .rows) ≤ length (now work)) × (3 * s .rows ≤ length (now plan)) ⌝ }
+    ensures { λ r. ⌜ Answers (planIn (now (file .entry)) s q bound) r (now (plan .entry)) (now (plan .exit))
+        × KeptBehind (used (s .rows)) (now (work .entry)) (now (work .exit)) ⌝ }
+{
+    let end = rows_within(file, s, bound);
+    let goal = Goal {
+        target: number(q.target),
+        bound: number(bound),
+    };
+    scan_back(file, s, tables, goal, first, end, work);
+    plan_scanned(file, s, tables, q, goal, first, end, work, plan)
+}
+
+// The rows that a plan within the bound can board: a row that departs at or after a real bound lands
+// behind it.
+fn rows_within(file: &[u8], s: Sailings, bound: u32) -> usize
+    requires { ⌜ Stand (now file) s ⌝ }
+    ensures { λ r. ⌜ RowsWithin (rowsIn (now (file .entry)) s) bound r ⌝ }
+{
+    if bound == 0 {
+        return s.rows;
+    }
+    rows_before(file, s, number(bound))
+}
+
+// The plan that the scan's cells lead to, or 8.
+fn plan_scanned(
+    file: &[u8],
+    s: Sailings,
+    tables: &[u32],
+    q: Query,
+    goal: Goal,
+    first: usize,
+    end: usize,
+    work: &mut [u32],
+    plan: &mut [u32],
+) -> Planned
+    requires { ⌜ Laid (now file) s (now tables) q first × Part (now file) s q goal first end × (used (s .rows) ≤ length (now work))
+        × (3 * s .rows ≤ length (now plan)) × ScanHeld (now work) (s .rows) first end (scanIn (now file) s goal first end) ⌝ }
+    ensures { λ r. ⌜ Answers (planIn (now (file .entry)) s q (goal .bound)) r (now (plan .entry)) (now (plan .exit))
+        × KeptBehind (used (s .rows)) (now (work .entry)) (now (work .exit)) ⌝ }
+{
+    let source = number(q.source);
+    let size = number(work[SIZES + source]);
+    if size == 0 {
+        return no_plan(8);
+    }
+    let top = PAIRS + 2 * (number(work[STOPS + source]) + size - 1);
+    let head = row_of(work[top]);
+    let expected = work[top + 1];
+    let written = write_plan(file, s, tables, goal, first, head, end, work, plan);
+    Planned::Plan {
+        rides: cell(written.rides),
+        expected,
+        latest: written.latest,
+        bound: cell(goal.bound),
+    }
+}
+
+fn no_plan(number: u32) -> Planned
+    ensures { λ r. ⌜ r ≡ NoPlan number 0 ⌝ }
+{
+    Planned::Refused { number, place: 0 }
+}
+
+// E or NONE, with room to find it.
+pub fn earliest_in_room(file: &[u8], f: Format, q: Query, work: &mut [u32]) -> u32
+    requires { ⌜ Asked f (now file) q × (used (headOf f (now file) .rows) ≤ length (now work)) ⌝ }
+    ensures { λ r. ⌜ (r ≡ cellOf (earliestIn (decode f (now (file .entry))) q)) × KeptBehind 2400 (now (work .entry)) (now (work .exit)) ⌝ }
+{
+    let mut tables = [0u32; 4096];
+    let s = sailings_in(file, f);
+    read_tables(file, s, &mut tables);
+    let first = rows_before(file, s, number(q.minute));
+    reach(file, s, &tables, q, first, work)
+}
