@@ -8,7 +8,7 @@ use Rattle.file_layout.specs.Decode.{decode}
 use Rattle.file_layout.specs.Format.{versionOne}
 use Rattle.file_encoding.specs.Encode.{encode}
 use Rattle.house.specs.House.{cumulative}
-use Rattle.plans.specs.declared.Query.{Query}
+use Rattle.query.specs.declared.Query.{Query}
 use Rattle.plans.specs.Chosen.{Weighed, scanned, offInTicks, worthOf}
 use Rattle.plans.specs.Plan.{chosenFor, earliest}
 use Rattle.plans.specs.Examples.{Case, query, planOf, row, onTime, upToTen, timetable, wWith, w, wTwice, oneTrip, seldomLate, wPlan}

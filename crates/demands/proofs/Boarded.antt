@@ -6,7 +6,7 @@ use mathlib.Core.Path.{_≡_, refl, sym, ap, subst}
 use native.Mathlib.Omega.{arith}
 use Rattle.laws.proofs.Options.{absent, same-thing}
 use Rattle.timetable.specs.Timetable.{Timetable}
-use Rattle.plans.specs.declared.Query.{Query}
+use Rattle.query.specs.declared.Query.{Query}
 use Rattle.plans.specs.Rides.{Ride}
 use Rattle.plans.specs.Worth.{Valued, firstOpen}
 use Rattle.plans.specs.Journeys.{boundOf}

@@ -8,7 +8,7 @@ use mathlib.Core.Option.{none, some}
 use mathlib.Core.Path.{_≡_}
 use Rattle.timetable.specs.Timetable.{Timetable, rowOf}
 use Rattle.plans.specs.Sound.{Timely}
-use Rattle.plans.specs.declared.Query.{Query}
+use Rattle.query.specs.declared.Query.{Query}
 use Rattle.plans.specs.Rides.{Ride, latest, opens}
 use Rattle.plans.specs.Journeys.{Journey, IsEarliest, boundOf}
 use Rattle.plans.specs.Worth.{Valued, valued, firstOpen}

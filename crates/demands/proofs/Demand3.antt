@@ -6,7 +6,7 @@ use mathlib.Core.Path.{_≡_, refl, sym, subst}
 use lib.ListN.{length}
 use Rattle.timetable.specs.Timetable.{Timetable}
 use Rattle.timetable.specs.Classes.{sum, whole}
-use Rattle.plans.specs.declared.Query.{Query}
+use Rattle.query.specs.declared.Query.{Query}
 use Rattle.plans.specs.Rides.{Ride}
 use Rattle.plans.specs.Worth.{Valued, valued}
 use Rattle.plans.specs.Plan.{Plan, latestOf, planned}

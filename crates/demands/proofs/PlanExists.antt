@@ -14,7 +14,7 @@ use Rattle.laws.proofs.Tests.{ifb, cond-false, T-true}
 use Rattle.laws.proofs.Alternatives.{or-right}
 use Rattle.timetable.specs.Timetable.{Timetable}
 use Rattle.plans.specs.Sound.{Timely}
-use Rattle.plans.specs.declared.Query.{Query}
+use Rattle.query.specs.declared.Query.{Query}
 use Rattle.plans.specs.Rides.{Ride, IsRide, latest, boards}
 use Rattle.plans.specs.Journeys.{Onward, leaves, changes, Journey, boundOf, within}
 use Rattle.plans.specs.Worth.{Valued, firstOpen, arrivalWorth, changeWorth}

@@ -7,7 +7,7 @@ use mathlib.Core.Path.{_≡_, refl, sym, _∙_, ap, ap₂, fun-ext}
 use lib.Dec.{eqb}
 use Rattle.laws.proofs.Tests.{ifb}
 use Rattle.timetable.specs.Classes.{whole}
-use Rattle.plans.specs.declared.Query.{Query}
+use Rattle.query.specs.declared.Query.{Query}
 use Rattle.plans.specs.Rides.{Ride, boards}
 use Rattle.plans.specs.Worth.{Valued, up, weigh, firstOpen, caught, worthOr, arrivalWorth, changeWorth, landWorth, valued}
 use Rattle.plans.specs.Chosen.{worthOf}

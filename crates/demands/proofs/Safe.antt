@@ -9,7 +9,7 @@ use borrow.Author.Tests.{eqb-true, eqb-false}
 use lib.Dec.{T, eqb}
 use Rattle.laws.proofs.Tests.{ifb, T-true}
 use Rattle.timetable.specs.Timetable.{Timetable}
-use Rattle.plans.specs.declared.Query.{Query}
+use Rattle.query.specs.declared.Query.{Query}
 use Rattle.plans.specs.Rides.{Ride, IsRide, latest, boards}
 use Rattle.demands.specs.SafePlan.{SafePlan, Rising}
 use Rattle.plans.specs.Sound.{Timely}

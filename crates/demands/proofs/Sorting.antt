@@ -10,7 +10,7 @@ use borrow.Author.Tests.{eqb-true, eqb-false, ltb-true, ltb-false}
 use Rattle.laws.proofs.Tests.{ifb}
 use Rattle.laws.proofs.Members.{head-or-later}
 use Rattle.timetable.specs.Timetable.{Timetable, rowOf}
-use Rattle.plans.specs.declared.Query.{Query}
+use Rattle.query.specs.declared.Query.{Query}
 use Rattle.plans.specs.Rides.{Ride}
 use Rattle.demands.specs.SafePlan.{SafePlan, Rising}
 use Rattle.demands.specs.SafePlan as safe

@@ -13,7 +13,7 @@ use Rattle.laws.proofs.Tests.{ifb, T-true, cond-true, cond-false}
 use Rattle.laws.proofs.Options.{absent, same-thing}
 use Rattle.timetable.specs.Timetable.{Timetable}
 use Rattle.timetable.specs.Classes.{whole}
-use Rattle.plans.specs.declared.Query.{Query}
+use Rattle.query.specs.declared.Query.{Query}
 use Rattle.plans.specs.Rides.{Ride, latest, boards}
 use Rattle.plans.specs.Worth.{ticks, Valued, valued, firstOpen, caught, worthOr, landWorth}
 use Rattle.plans.specs.Chosen.{worthOf}

@@ -6,7 +6,7 @@ use mathlib.Core.Option.{some}
 use mathlib.Core.Path.{_≡_}
 use lib.ListN.{length}
 use Rattle.timetable.specs.Classes.{whole}
-use Rattle.plans.specs.declared.Query.{Query}
+use Rattle.query.specs.declared.Query.{Query}
 use Rattle.plans.specs.Rides.{Ride}
 use Rattle.demands.specs.Walk.{Sailed, Standing, firstSailed, steps, start, walked, choices, weightedArrivals, longestWay}
 

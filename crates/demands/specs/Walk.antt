@@ -8,7 +8,7 @@ use mathlib.Core.Path.{_≡_}
 use lib.Dec.{eqb}
 use lib.ListN.{getD, length}
 use Rattle.timetable.specs.Classes.{sum}
-use Rattle.plans.specs.declared.Query.{Query}
+use Rattle.query.specs.declared.Query.{Query}
 use Rattle.plans.specs.Rides.{Ride, boards}
 use Rattle.plans.specs.Worth.{ticks}
 

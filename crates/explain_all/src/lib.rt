@@ -16,7 +16,7 @@ use numbers::number;
 use numbers::u16_at;
 use plan_whole::Planned;
 use planner::plan;
-use plans::Query;
+use query::Query;
 
 // Says why the two files are refused and what to look at, or S, n, K and the plan.
 pub fn explain(sailings: &[u8], query: &[u8]) {

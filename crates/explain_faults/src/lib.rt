@@ -2,13 +2,13 @@
 mod broken;
 mod classes;
 mod guide;
-mod query;
+mod journey;
 mod rows;
 mod sizes;
 
 pub use guide::print_plan;
-pub use query::print_no_journey;
-pub use query::print_query_fault;
+pub use journey::print_no_journey;
+pub use journey::print_query_fault;
 
 // The reason for a refusal of the check, by its number and place.
 pub fn print_file_fault(file: &[u8], number: usize, place: usize) {

@@ -11,7 +11,8 @@ use lib.ListN.{getD, set, replicate}
 use Rattle.timetable.specs.declared.Row.{Row}
 use Rattle.timetable.specs.declared.Ranges.{Ranges}
 use Rattle.timetable.specs.Verdict.{Verdict, fine, fault}
-use Rattle.timetable.specs.Rows.{trips, ownRule, lastOfTrip, follows, rowsVerdict}
+use Rattle.timetable.specs.Rows.{ownRule, lastOfTrip, follows, rowsVerdict}
+use Rattle.timetable.specs.Limits.{mostTrips}
 use Rattle.timetable.proofs.RowsSound.{own-gives}
 use Rattle.file_layout.specs.Decode.{rowAt, rowsFrom}
 use Rattle.file_check.specs.Behind.{rowsBehind}
@@ -38,7 +39,7 @@ row-inside width count i h =
     omega (arith, one-more width i (suc i) refl, mul-le-mul-left width more)
 
 module _ (g : Ranges) (width : ℕ) (s : List ℕ) (start count : ℕ) where
-  pub reading-none : (seen : List ℕ) → seen ≡ replicate trips 0 → Reading g width s start count seen 0 start 0
+  pub reading-none : (seen : List ℕ) → seen ≡ replicate mostTrips 0 → Reading g width s start count seen 0 start 0
   unfolding rowsBehind departureBefore
   reading-none seen e =
       record {
@@ -56,7 +57,7 @@ module _ (g : Ranges) (width : ℕ) (s : List ℕ) (start count : ℕ) where
         known .same-verdict ∙ all-kept g width s (rowsBehind width s start i) i at (count - i) (let z : count - i ≡ 0 = omega arith in z)
 
     -- a hint lies within the rows
-    pub hint-inside : (trip : ℕ) → trip < trips → start + width * getD seen trip 0 ≤ start + width * count
+    pub hint-inside : (trip : ℕ) → trip < mostTrips → start + width * getD seen trip 0 ≤ start + width * count
     hint-inside trip h =
         let hint = known .trips-seen .hints trip h in
         let within : getD seen trip 0 ≤ count = omega (arith, hint .within, known .inside) in
@@ -75,7 +76,7 @@ module _ (g : Ranges) (width : ℕ) (s : List ℕ) (start count : ℕ) where
           leb departure (row .departure)
           && follows (lastOfTrip (row .trip) (rowsBehind width s start (getD seen (row .trip) 0))) row
 
-      order-asked : row .trip < trips
+      order-asked : row .trip < mostTrips
           → order ≡ (leb (departureBefore back) (rowAt s at .departure) && follows (lastOfTrip (rowAt s at .trip) back) (rowAt s at))
       order-asked h =
           ap (λ o. leb departure (row .departure) && follows o row) (known .trips-seen .hints (row .trip) h .same-found)

@@ -8,7 +8,8 @@ use lib.ListN.{length, getD, set, replicate, length-set, length-replicate, getD-
 use lib.Seq.{getD-set-same, getD-set-other}
 use borrow.Author.Tests.{eqb-true, eqb-false}
 use Rattle.laws.proofs.Tests.{ifb}
-use Rattle.timetable.specs.Rows.{trips, lastOfTrip}
+use Rattle.timetable.specs.Rows.{lastOfTrip}
+use Rattle.timetable.specs.Limits.{mostTrips}
 use Rattle.file_layout.specs.Decode.{rowAt}
 use Rattle.file_check.specs.Behind.{rowsBehind}
 use Rattle.file_check.proofs.Back.{found-further}
@@ -20,26 +21,26 @@ pub record Hint (width : ℕ) (s : List ℕ) (start count trip hint : ℕ) : Typ
 
 -- the table has a hint for every trip
 pub record Seen (width : ℕ) (s : List ℕ) (start count : ℕ) (seen : List ℕ) : Type 0 where
-  pub full : length seen ≡ trips
-  pub hints : (trip : ℕ) → trip < trips → Hint width s start count trip (getD seen trip 0)
+  pub full : length seen ≡ mostTrips
+  pub hints : (trip : ℕ) → trip < mostTrips → Hint width s start count trip (getD seen trip 0)
 
 module _ (width : ℕ) (s : List ℕ) (start : ℕ) where
   own-hint : (count trip : ℕ) → Hint width s start count trip count
   own-hint count trip = record { within = omega arith; same-found = refl }
 
   -- ahead of the first row no trip is seen
-  pub seen-none : (seen : List ℕ) → seen ≡ replicate trips 0 → Seen width s start 0 seen
+  pub seen-none : (seen : List ℕ) → seen ≡ replicate mostTrips 0 → Seen width s start 0 seen
   seen-none seen e =
       subst⁻¹ (Seen width s start 0) e
       (record {
-        full = length-replicate {A = ℕ} trips 0;
-        hints = λ trip h. subst⁻¹ (Hint width s start 0 trip) (getD-replicate trips trip 0 0 h) (own-hint 0 trip);
+        full = length-replicate {A = ℕ} mostTrips 0;
+        hints = λ trip h. subst⁻¹ (Hint width s start 0 trip) (getD-replicate mostTrips trip 0 0 h) (own-hint 0 trip);
       })
 
   -- the row behind the first `count` becomes its trip's hint, and no other trip's
   module _ (count next at : ℕ) (seen : List ℕ) (one : suc count ≡ next) (place : at ≡ start + width * count)
-      (known : Seen width s start count seen) (inside : rowAt s at .trip < trips) where
-    kept-hint : (trip : ℕ) → trip < trips → (rowAt s at .trip ≡ trip → ⊥) → Hint width s start next trip (getD seen trip 0)
+      (known : Seen width s start count seen) (inside : rowAt s at .trip < mostTrips) where
+    kept-hint : (trip : ℕ) → trip < mostTrips → (rowAt s at .trip ≡ trip → ⊥) → Hint width s start next trip (getD seen trip 0)
     kept-hint trip h other =
         let hint = known .hints trip h in
         record {
@@ -47,7 +48,7 @@ module _ (width : ℕ) (s : List ℕ) (start : ℕ) where
           same-found = hint .same-found ∙ sym (found-further width s start count next at one place trip other);
         }
 
-    next-hint : (trip : ℕ) → trip < trips → Hint width s start next trip (getD (set seen (rowAt s at .trip) next) trip 0)
+    next-hint : (trip : ℕ) → trip < mostTrips → Hint width s start next trip (getD (set seen (rowAt s at .trip) next) trip 0)
     next-hint trip h =
         let row-trip : ℕ = rowAt s at .trip in
         ifb (λ b. Hint width s start next trip (getD (set seen row-trip next) trip 0)) (eqb trip row-trip)

@@ -4,7 +4,7 @@ use mathlib.Core.List.{List, [], _∷_}
 use mathlib.Core.Option.{Option, none, some}
 use Rattle.timetable.specs.declared.Row.{Row}
 use Rattle.file_layout.specs.declared.Head.{Head}
-use Rattle.file_layout.specs.Format.{mostRows}
+use Rattle.timetable.specs.Limits.{mostRows}
 use Rattle.file_layout.specs.Decode.{rowAt}
 use Rattle.file_check.specs.declared.Found.{Found}
 use Rattle.file_check.specs.declared.Found.the-variants.{At, Nothing}

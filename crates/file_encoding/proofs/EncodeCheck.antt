@@ -17,7 +17,7 @@ use Rattle.timetable.specs.Rows.{rowsVerdict}
 use Rattle.file_layout.specs.declared.Format.{Format}
 use Rattle.file_layout.specs.declared.Head.{Head}
 use Rattle.file_layout.specs.declared.Checked.the-variants.{Sound}
-use Rattle.file_layout.specs.Format.{fewestStops, mostStops, mostRows, fewestClasses, mostClasses}
+use Rattle.timetable.specs.Limits.{fewestStops, mostStops, mostRows, fewestClasses, mostClasses}
 use Rattle.numbers.specs.Numbers.{u16At}
 use Rattle.file_layout.specs.Decode.{trailerAt, headOf, tableAt, blockEnd, tablesEnd}
 use Rattle.file_layout.specs.Check.{lengthRule, headRule, classVerdict, classesVerdict, sectionsJoin, joined, headVerdict, rangesOf, fileVerdict, answered, checkedAs}

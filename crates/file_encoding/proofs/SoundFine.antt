@@ -16,7 +16,7 @@ use Rattle.timetable.proofs.Verdicts.{both-fine, holding-fine}
 use Rattle.timetable.proofs.RowsFine.{rows-fine}
 use Rattle.file_layout.specs.declared.Format.{Format}
 use Rattle.file_layout.specs.declared.Head.{Head}
-use Rattle.file_layout.specs.Format.{fewestStops, mostStops, mostRows, fewestClasses, mostClasses}
+use Rattle.timetable.specs.Limits.{fewestStops, mostStops, mostRows, fewestClasses, mostClasses}
 use Rattle.numbers.specs.Numbers.{u16At}
 use Rattle.file_layout.specs.Decode.{trailerAt, headOf, tableAt, blockEnd, tablesEnd, decode}
 use Rattle.file_layout.specs.Check.{lengthRule, headRule, classVerdict, classesVerdict, sectionsJoin, joined, headVerdict, rangesOf, fileVerdict}

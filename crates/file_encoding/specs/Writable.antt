@@ -8,7 +8,7 @@ use Rattle.timetable.specs.Timetable.{Timetable, longest, rowOf, sharesOf}
 use Rattle.timetable.specs.Classes.{sharesRule}
 use Rattle.file_layout.specs.declared.Format.{Format}
 use Rattle.file_layout.specs.declared.Head.{Head}
-use Rattle.file_layout.specs.Format.{fewestStops, mostStops, mostRows, fewestClasses, mostClasses}
+use Rattle.timetable.specs.Limits.{fewestStops, mostStops, mostRows, fewestClasses, mostClasses}
 use Rattle.file_layout.specs.Small.{SmallRow}
 
 -- a class has a share at least, and its maximum delay and its shares are u16

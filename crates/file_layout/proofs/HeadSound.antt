@@ -13,7 +13,7 @@ use Rattle.timetable.specs.Verdict.{fine, orElse, unless}
 use Rattle.timetable.proofs.Verdicts.{first-fine, second-fine, rule-holds}
 use Rattle.file_layout.specs.declared.Format.{Format}
 use Rattle.file_layout.specs.declared.Head.{Head}
-use Rattle.file_layout.specs.Format.{fewestStops, mostStops, mostRows, fewestClasses, mostClasses}
+use Rattle.timetable.specs.Limits.{fewestStops, mostStops, mostRows, fewestClasses, mostClasses}
 use Rattle.file_layout.specs.Decode.{trailerAt, headOf, tableAt, tablesFrom, tablesEnd, decode}
 use Rattle.file_layout.specs.Check.{lengthRule, headRule, classesVerdict, sectionsJoin, joined, headVerdict}
 use Rattle.file_layout.proofs.Blocks.{blockAt, ClassSound, classes-give, table-of-block, tables-length, tables-forward}

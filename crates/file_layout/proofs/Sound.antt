@@ -15,7 +15,8 @@ use Rattle.timetable.proofs.RowsSound.{RowsSound, rows-give}
 use Rattle.file_layout.specs.declared.Format.{Format}
 use Rattle.file_layout.specs.declared.Head.{Head}
 use Rattle.file_layout.specs.declared.Checked.the-variants.{Sound, Refused}
-use Rattle.file_layout.specs.Format.{Readable, mostRows, versionOne}
+use Rattle.file_layout.specs.Format.{Readable, versionOne}
+use Rattle.timetable.specs.Limits.{mostRows}
 use Rattle.file_layout.specs.Decode.{trailerAt, headOf, rowAt, tableAt, rowsFrom, decode}
 use Rattle.file_layout.specs.Check.{headVerdict, fileVerdict, rangesOf, answered, checkedAs, checked}
 use Rattle.file_layout.proofs.Blocks.{blockAt, ClassSound}

@@ -13,7 +13,8 @@ use Rattle.file_layout.specs.declared.Format.{Format}
 use Rattle.file_layout.specs.declared.Head.{Head}
 use Rattle.file_layout.specs.declared.Checked.{Checked}
 use Rattle.file_layout.specs.declared.Checked.the-variants.{Sound, Refused}
-use Rattle.file_layout.specs.Format.{fewestStops, mostStops, mostRows, fewestClasses, mostClasses, versionOne}
+use Rattle.file_layout.specs.Format.{versionOne}
+use Rattle.timetable.specs.Limits.{fewestStops, mostStops, mostRows, fewestClasses, mostClasses}
 use Rattle.numbers.specs.Numbers.{u16At}
 use Rattle.file_layout.specs.Decode.{trailerAt, headOf, tableAt, blockEnd, tablesEnd, decode}
 

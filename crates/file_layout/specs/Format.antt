@@ -1,22 +1,6 @@
--- Document 01, "The sailing file": the ranges of its table, and version 1 of the file.
-use Prim.Native.Nat.{ℕ, _≤_, _<_}
+-- Document 01, "The sailing file": version 1 of the file.
+use Prim.Native.Nat.{_≤_, _<_}
 use Rattle.file_layout.specs.declared.Format.{Format}
-
--- S is 2 to 200; n is 0 to 2,000; K is 1 to 16
-abbrev pub fewestStops : ℕ
-fewestStops = 2
-
-abbrev pub mostStops : ℕ
-mostStops = 200
-
-abbrev pub mostRows : ℕ
-mostRows = 2000
-
-abbrev pub fewestClasses : ℕ
-fewestClasses = 1
-
-abbrev pub mostClasses : ℕ
-mostClasses = 16
 
 -- a row has six u16, the trailer has 16 bytes; lengths are 20 to 27,920, minutes 0 to 10,079, maximum delays 0 to 120
 abbrev pub versionOne : Format

@@ -4,7 +4,7 @@ use mathlib.Core.Logic.{_≢_}
 use mathlib.Core.Path.{_≡_, refl, sym, subst}
 use Rattle.laws.proofs.Tests.{T-true, true-T}
 use Rattle.timetable.specs.Timetable.{Timetable}
-use Rattle.plans.specs.declared.Query.{Query}
+use Rattle.query.specs.declared.Query.{Query}
 use Rattle.plans.specs.Rides.{Ride, latest}
 use Rattle.plans.specs.Journeys.{Onward, leaves, changes, Journey}
 use Rattle.plans.proofs.Open.{boards-stop, boards-minute, can-board}

@@ -13,7 +13,7 @@ use borrow.Author.Tests.{eqb-true, eqb-false, leb-true, leb-false}
 use Rattle.laws.proofs.Tests.{ifb}
 use Rattle.laws.proofs.Options.{present-or-absent}
 use Rattle.timetable.specs.Timetable.{Timetable, rowOf}
-use Rattle.plans.specs.declared.Query.{Query}
+use Rattle.query.specs.declared.Query.{Query}
 use Rattle.plans.specs.Plan.{earliest}
 use Rattle.plans.proofs.EarliestSafe.{earliest-is-least, no-earliest}
 use Rattle.plan_cells.specs.Cells.{missing, cellOf}

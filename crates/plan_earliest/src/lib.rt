@@ -4,7 +4,7 @@ ghost use mathlib.Core.Logic.{_≢_};
 ghost use Prim.Native.Nat.{ℕ, _+_, _≤_, _<_};
 ghost use lib.ListN.{length, drop};
 ghost use Rattle.plans.specs.Plan.{earliest};
-ghost use Rattle.plans.specs.declared.Query.{Query};
+ghost use Rattle.query.specs.declared.Query.{Query};
 ghost use Rattle.plan_cells.specs.Cells.{cellOf};
 ghost use Rattle.plan_rows.specs.Reading.{rowsIn, tablesIn, timetableIn, Stand, Cut, TablesHeld};
 ghost use Rattle.plan_earliest.specs.Query.{queryOf};

@@ -12,7 +12,7 @@ use Rattle.plans.specs.Worth.{Valued}
 use Rattle.plan_cells.specs.Cells.{pairs}
 use Rattle.plan_rows.specs.declared.Sailings.{Sailings}
 use Rattle.plan_rows.specs.Reading.{rowsIn, tablesIn, Stand, TablesHeld}
-use Rattle.plan_landing.specs.declared.Goal.{Goal}
+use Rattle.plans.specs.declared.Goal.{Goal}
 use Rattle.plan_scan.specs.Scanned.{scanIn, PairHolds, ScanHeld}
 use Rattle.plan_extract.proofs.Timed.{known}
 

@@ -23,7 +23,7 @@ use Rattle.plans.proofs.OwnWorth.{OwnWorth}
 use Rattle.plans.proofs.ChosenWorth.{chosen-own}
 use Rattle.plan_rows.specs.declared.Sailings.{Sailings}
 use Rattle.plan_rows.specs.Reading.{rowsIn, tablesIn, Stand}
-use Rattle.plan_landing.specs.declared.Goal.{Goal}
+use Rattle.plans.specs.declared.Goal.{Goal}
 use Rattle.plan_scan.specs.Scanned.{scanIn, bestIn}
 
 -- a row's best ride stands as far from the scan's first row as the row does

@@ -13,7 +13,7 @@ use Rattle.plans.proofs.Order.{Ordered}
 use Rattle.plan_cells.specs.Cells.{pairs, used}
 use Rattle.plan_rows.specs.declared.Sailings.{Sailings}
 use Rattle.plan_rows.specs.Reading.{rowsIn, tablesIn, Stand, TablesHeld}
-use Rattle.plan_landing.specs.declared.Goal.{Goal}
+use Rattle.plans.specs.declared.Goal.{Goal}
 use Rattle.plan_scan.specs.Scanned.{scanIn, ScanHeld}
 use Rattle.plan_extract.specs.Extracted.{FirstRide, ridesOf}
 use Rattle.plan_extract.specs.Marks.{put, Catching, AllPassed}

@@ -16,7 +16,6 @@ use plan_cells::SIZES;
 use plan_cells::STOPS;
 use plan_cells::TRIPS;
 use plan_cells::fill;
-use plan_landing::Goal;
 use plan_landing::departure_of;
 use plan_landing::first_open;
 use plan_landing::row_of;
@@ -25,6 +24,7 @@ use plan_rows::LONGEST;
 use plan_rows::Sailings;
 use plan_rows::nth_row;
 use plan_rows::opens;
+use plans::Goal;
 
 // How many rides a plan has, and the largest a + M of them.
 pub struct Written {

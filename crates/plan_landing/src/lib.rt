@@ -24,6 +24,7 @@ use plan_rows::EXPECTED;
 use plan_rows::LONGEST;
 use plan_rows::SHARES;
 use plan_rows::opens;
+use plans::Goal;
 use timetable::Row;
 
 // An entry of a stack holds 2,048 x departure + row.
@@ -31,12 +32,6 @@ pub const KEY: usize = 2048;
 
 // A share counts 4,096ths.
 const WHOLE: u64 = 4096;
-
-// The target, and the bound (0 for none).
-pub struct Goal {
-    pub target: usize,
-    pub bound: usize,
-}
 
 // What getting off is worth; NONE where it is not open.
 pub fn getting_off(row: Row, tables: &[u32], goal: Goal, work: &[u32]) -> u32

@@ -16,7 +16,7 @@ use Rattle.laws.proofs.Downward.{downward}
 use Rattle.laws.proofs.Options.{present-or-absent}
 use Rattle.laws.proofs.Tests.{either}
 use Rattle.timetable.specs.Timetable.{Timetable, rowOf, noRow}
-use Rattle.plans.specs.declared.Query.{Query}
+use Rattle.query.specs.declared.Query.{Query}
 use Rattle.plans.specs.Sound.{Timely}
 use Rattle.plans.specs.Rides.{latest}
 use Rattle.plans.specs.Journeys.{within}

@@ -13,7 +13,7 @@ use Rattle.file_layout.specs.Decode.{headOf, blockEnd, decode}
 use Rattle.file_layout.proofs.Blocks.{blockAt, table-has}
 use Rattle.file_layout.proofs.Sound.{SoundFile, version-one-readable}
 use Rattle.plans.specs.Sound.{Timely}
-use Rattle.plans.specs.declared.Query.{Query}
+use Rattle.query.specs.declared.Query.{Query}
 use Rattle.plans.specs.Journeys.{boundOf}
 use Rattle.plans.specs.Worth.{Valued, firstOpen}
 use Rattle.plans.specs.Chosen.{scan, scanned, offInTicks}

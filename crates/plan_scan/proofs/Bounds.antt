@@ -9,7 +9,7 @@ use Rattle.plans.specs.Chosen.{Scan, scan, nextOf}
 use Rattle.plan_cells.specs.Cells.{trips, missing, stackAt, stackStart}
 use Rattle.plan_rows.specs.declared.Sailings.{Sailings}
 use Rattle.plan_rows.specs.Reading.{rowsIn, tablesIn, Stand}
-use Rattle.plan_landing.specs.declared.Goal.{Goal}
+use Rattle.plans.specs.declared.Goal.{Goal}
 use Rattle.plan_landing.specs.Landing.{atStop}
 use Rattle.plan_scan.specs.Stores.{pairCell, startOf, sizeOf, worthAt}
 use Rattle.plan_scan.specs.Regions.{countAt, below}

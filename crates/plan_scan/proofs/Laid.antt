@@ -9,7 +9,7 @@ use Rattle.plan_cells.specs.Cells.{trips, stops, sizes, pairs, used, missing, f
 use Rattle.plan_cells.proofs.Filled.{length-filled, filled-ahead, filled-inside}
 use Rattle.plan_rows.specs.declared.Sailings.{Sailings}
 use Rattle.plan_rows.specs.Reading.{rowsIn, Stand}
-use Rattle.plan_landing.specs.declared.Goal.{Goal}
+use Rattle.plans.specs.declared.Goal.{Goal}
 use Rattle.plan_scan.specs.Stores.{pairCell, startOf, sizeOf}
 use Rattle.plan_scan.specs.Regions.{countAt, below, Apart, Counted, Parted}
 use Rattle.plan_scan.specs.Held.{Held, Inside}

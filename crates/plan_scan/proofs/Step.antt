@@ -15,7 +15,7 @@ use Rattle.plans.specs.Chosen.{Scan, choose, offInTicks}
 use Rattle.plan_cells.specs.Cells.{stops, sizes, used, cellOf, stackStart, stackSize}
 use Rattle.plan_rows.specs.declared.Sailings.{Sailings}
 use Rattle.plan_rows.specs.Reading.{rowsIn, tablesIn, Stand, TablesHeld, RowFits}
-use Rattle.plan_landing.specs.declared.Goal.{Goal}
+use Rattle.plans.specs.declared.Goal.{Goal}
 use Rattle.plan_landing.specs.Landing.{entryOf, atStop, Ready, rideOff}
 use Rattle.plan_scan.specs.Stores.{pairCell, startOf, sizeOf, Weighs, Chose, Weighable, Pushable}
 use Rattle.plan_scan.specs.Regions.{countAt, below}

@@ -19,7 +19,7 @@ use Rattle.plans.proofs.Order.{Ordered}
 use Rattle.plans.proofs.FirstLeast.{chosen-rising, chosen-ordered}
 use Rattle.plan_rows.specs.declared.Sailings.{Sailings}
 use Rattle.plan_rows.specs.Reading.{rowsIn, tablesIn, Stand, RowFits}
-use Rattle.plan_landing.specs.declared.Goal.{Goal}
+use Rattle.plans.specs.declared.Goal.{Goal}
 use Rattle.plan_landing.specs.Landing.{atStop, Climbing, EntryFits}
 use Rattle.plan_cells.specs.Cells.{missing}
 use Rattle.plan_scan.specs.Scanned.{scanIn}

@@ -13,7 +13,7 @@ use Rattle.plans.specs.Chosen.{offInTicks}
 use Rattle.plan_cells.specs.Cells.{used, cellOf}
 use Rattle.plan_rows.specs.declared.Sailings.{Sailings}
 use Rattle.plan_rows.specs.Reading.{rowsIn, tablesIn, Stand, TablesHeld}
-use Rattle.plan_landing.specs.declared.Goal.{Goal}
+use Rattle.plans.specs.declared.Goal.{Goal}
 use Rattle.plan_landing.specs.Landing.{Ready, SomeReady, rideOff}
 use Rattle.plan_scan.specs.Stores.{Weighs, Chose, Weighable, Pushable}
 use Rattle.plan_scan.specs.Scanned.{scanIn}

@@ -11,7 +11,7 @@ use Rattle.plans.specs.Chosen.{Scan, nextOf}
 use Rattle.plan_cells.specs.Cells.{trips, used, missing}
 use Rattle.plan_rows.specs.declared.Sailings.{Sailings}
 use Rattle.plan_rows.specs.Reading.{rowsIn}
-use Rattle.plan_landing.specs.declared.Goal.{Goal}
+use Rattle.plans.specs.declared.Goal.{Goal}
 use Rattle.plan_landing.specs.Landing.{StackHolds}
 use Rattle.plan_scan.specs.Stores.{startOf, sizeOf, worthAt}
 use Rattle.plan_scan.specs.Scanned.{scanIn, bestIn, PairHolds}

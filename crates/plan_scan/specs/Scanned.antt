@@ -10,7 +10,7 @@ use Rattle.plans.specs.Chosen.{Scan, scan, offInTicks}
 use Rattle.plan_cells.specs.Cells.{pairs, used, missing, stackStart, stackSize}
 use Rattle.plan_rows.specs.declared.Sailings.{Sailings}
 use Rattle.plan_rows.specs.Reading.{rowsIn, tablesIn}
-use Rattle.plan_landing.specs.declared.Goal.{Goal}
+use Rattle.plans.specs.declared.Goal.{Goal}
 use Rattle.plan_landing.specs.Landing.{StackHolds, Climbing}
 
 -- the scan of the rows from `first` to before `end`

@@ -19,12 +19,12 @@ use plan_cells::SIZES;
 use plan_cells::STOPS;
 use plan_cells::TRIPS;
 use plan_cells::fill;
-use plan_landing::Goal;
 use plan_landing::KEY;
 use plan_landing::departure_of;
 use plan_landing::getting_off;
 use plan_rows::Sailings;
 use plan_rows::nth_row;
+use plans::Goal;
 use timetable::Row;
 
 // The rows from `first` to before `end`, from the last to the first.

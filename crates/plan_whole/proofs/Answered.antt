@@ -8,7 +8,7 @@ use lib.ListN.{length, drop}
 use lib.Seq.{drop-drop}
 use Rattle.numbers.specs.Over.{over}
 use Rattle.timetable.specs.Timetable.{Timetable}
-use Rattle.plans.specs.declared.Query.{Query}
+use Rattle.query.specs.declared.Query.{Query}
 use Rattle.plans.specs.Plan.{Plan, planned, planBefore, earliest}
 use Rattle.plan_cells.specs.Cells.{missing, cellOf}
 use Rattle.plan_extract.specs.Extracted.{written}

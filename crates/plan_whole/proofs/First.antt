@@ -11,7 +11,7 @@ use Rattle.laws.proofs.Tests.{ifb}
 use Rattle.laws.proofs.Places.{member-at}
 use Rattle.timetable.specs.Timetable.{Timetable}
 use Rattle.timetable.specs.declared.Row.{Row}
-use Rattle.plans.specs.declared.Query.{Query}
+use Rattle.query.specs.declared.Query.{Query}
 use Rattle.plans.specs.Rides.{Ride}
 use Rattle.plans.specs.Worth.{Valued, firstOpen}
 use Rattle.plans.specs.Chosen.{GettingOff, scan, choose, others, offInTicks, bestOf}

@@ -6,7 +6,7 @@ use mathlib.Core.Option.{some}
 use mathlib.Core.Path.{_≡_, sym, ap, subst, _∙_}
 use Rattle.file_layout.specs.declared.Format.{Format}
 use Rattle.file_layout.specs.Decode.{headOf, decode}
-use Rattle.plans.specs.declared.Query.{Query}
+use Rattle.query.specs.declared.Query.{Query}
 use Rattle.plans.specs.Sound.{Timely}
 use Rattle.plans.specs.Journeys.{boundOf}
 use Rattle.plans.specs.Plan.{planned, planBefore, earliest}

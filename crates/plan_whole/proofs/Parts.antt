@@ -9,13 +9,13 @@ use borrow.Author.Tests.{eqb-true, eqb-false, ltb-true, ltb-false}
 use Rattle.laws.proofs.Tests.{ifb}
 use Rattle.timetable.specs.Timetable.{Timetable}
 use Rattle.timetable.specs.declared.Row.{Row}
-use Rattle.plans.specs.declared.Query.{Query}
+use Rattle.query.specs.declared.Query.{Query}
 use Rattle.plans.specs.Sound.{Timely}
 use Rattle.plans.specs.Chosen.{offInTicks}
 use Rattle.plan_rows.specs.declared.Sailings.{Sailings}
 use Rattle.plan_rows.specs.Reading.{rowsIn, timetableIn, Cut}
 use Rattle.plan_rows.proofs.Cuts.{Idle, idle-end, bound-idle}
-use Rattle.plan_landing.specs.declared.Goal.{Goal}
+use Rattle.plans.specs.declared.Goal.{Goal}
 use Rattle.plan_whole.specs.Steps.{Laid, Reaches, RowsWithin, Part}
 
 -- rows that depart before an earlier minute stand ahead of those that do not before a later one

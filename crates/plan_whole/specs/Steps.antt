@@ -8,7 +8,7 @@ use lib.ListN.{length, drop}
 use Rattle.timetable.specs.declared.Row.{Row}
 use Rattle.file_layout.specs.declared.Format.{Format}
 use Rattle.file_layout.proofs.Sound.{SoundFile}
-use Rattle.plans.specs.declared.Query.{Query}
+use Rattle.query.specs.declared.Query.{Query}
 use Rattle.plans.specs.Sound.{Timely}
 use Rattle.plans.specs.Worth.{firstOpen}
 use Rattle.plans.specs.Chosen.{offInTicks}
@@ -17,7 +17,7 @@ use Rattle.plan_rows.specs.declared.Sailings.{Sailings}
 use Rattle.plan_rows.specs.Reading.{rowsIn, tablesIn, timetableIn, Stand, Cut, TablesHeld}
 use Rattle.plan_rows.specs.Sections.{Plannable}
 use Rattle.plan_rows.proofs.Cuts.{Idle}
-use Rattle.plan_landing.specs.declared.Goal.{Goal}
+use Rattle.plans.specs.declared.Goal.{Goal}
 
 -- a sound file, and a query of its stops and minutes
 pub record Asked (f : Format) (file : List ℕ) (q : Query) : Type 0 where

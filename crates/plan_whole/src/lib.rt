@@ -23,13 +23,13 @@ use plan_cells::SIZES;
 use plan_cells::STOPS;
 use plan_earliest::earliest_arrival;
 use plan_extract::write_plan;
-use plan_landing::Goal;
 use plan_landing::row_of;
 use plan_rows::Sailings;
 use plan_rows::rows_before;
 use plan_scan::scan_back;
 use plan_shares::read_tables;
-use plans::Query;
+use plans::Goal;
+use query::Query;
 
 // A plan's ride count, expected ticks, latest minute and bound (0 for none), or a refusal.
 pub enum Planned {

@@ -19,7 +19,7 @@ use Rattle.file_layout.specs.Decode.{trailerAt, headAt, headOf, decode}
 use Rattle.file_layout.specs.Check.{checkedAs, checked}
 use Rattle.file_layout.proofs.Sound.{checked-gives, sound-checked}
 use Rattle.file_layout.proofs.Refusals.{refused-placed}
-use Rattle.plans.specs.declared.Query.{Query}
+use Rattle.query.specs.declared.Query.{Query}
 use Rattle.plans.specs.Plan.{Plan, planned, planBefore, earliest}
 use Rattle.plan_cells.specs.Cells.{missing, cellOf, filled}
 use Rattle.plan_extract.specs.Extracted.{written}

@@ -9,7 +9,7 @@ use lib.Dec.{leb, ltb, eqb}
 use borrow.Author.Tests.{ltb-true, leb-true, eqb-true, eqb-false, lt-ltb, le-ltb, le-leb, lt-leb, eq-eqb, ne-eqb, not-true}
 use Rattle.laws.proofs.Tests.{both-left, both-right, either}
 use Rattle.file_layout.specs.declared.Format.{Format}
-use Rattle.plans.specs.declared.Query.{Query}
+use Rattle.query.specs.declared.Query.{Query}
 use Rattle.planner.specs.Outcome.{journeyRule, codeRule}
 use Rattle.plan_whole.specs.Steps.{Asked}
 use Rattle.planner.specs.Found.{FoundSound}

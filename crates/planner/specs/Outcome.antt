@@ -12,7 +12,7 @@ use Rattle.file_layout.specs.declared.Checked.the-variants.{Sound, Refused}
 use Rattle.file_layout.specs.Check.{Answer, checkedAs}
 use Rattle.file_layout.specs.Decode.{decode}
 use Rattle.file_layout.specs.Format.{versionOne}
-use Rattle.plans.specs.declared.Query.{Query}
+use Rattle.query.specs.declared.Query.{Query}
 use Rattle.plans.specs.Plan.{Plan, planned, earliest}
 use Rattle.plan_whole.specs.Answers.{answerFor, sliceAfter}
 use Rattle.plan_whole.specs.declared.Planned.{Planned}

@@ -18,7 +18,7 @@ use plan_cells::fill;
 use plan_whole::Planned;
 use plan_whole::earliest_in_room;
 use plan_whole::plan_in_room;
-use plans::Query;
+use query::Query;
 
 // The earliest safe arrival E, or a refusal.
 pub enum Earliest {

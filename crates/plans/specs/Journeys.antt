@@ -4,7 +4,7 @@ use mathlib.Core.Bool.{Bool, cond, _||_}
 use mathlib.Core.Path.{_≡_}
 use lib.Dec.{T, leb, eqb}
 use Rattle.timetable.specs.Timetable.{Timetable}
-use Rattle.plans.specs.declared.Query.{Query}
+use Rattle.query.specs.declared.Query.{Query}
 use Rattle.plans.specs.Rides.{Ride, IsRide, latest, boards}
 
 -- a safe journey that goes on from ride r and whose last ride has a + M = end: the last one leaves at the target;

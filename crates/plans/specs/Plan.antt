@@ -5,7 +5,7 @@ use mathlib.Core.List.{List, [], _∷_, _++_}
 use mathlib.Core.Option.{Option, none, some}
 use lib.Dec.{leb, eqb}
 use Rattle.timetable.specs.Timetable.{Timetable}
-use Rattle.plans.specs.declared.Query.{Query}
+use Rattle.query.specs.declared.Query.{Query}
 use Rattle.plans.specs.Rides.{Ride, latest, boards}
 use Rattle.plans.specs.Journeys.{boundOf}
 use Rattle.plans.specs.Worth.{Valued, firstOpen, worthOr}

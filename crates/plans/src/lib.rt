@@ -1,9 +1,7 @@
-// Document 01, "Rides, safe journeys, plans": what is asked of a plan.
+// Document 01, "Rides, safe journeys, plans": what planning aims at.
 
-// Source, target, minute T and bound code q.
-pub struct Query {
-    pub source: u32,
-    pub target: u32,
-    pub minute: u32,
-    pub code: u32,
+// The target, and the bound (0 for none).
+pub struct Goal {
+    pub target: usize,
+    pub bound: usize,
 }

@@ -13,7 +13,7 @@ use Rattle.file_layout.specs.declared.Checked.the-variants.{Sound, Refused}
 use Rattle.file_layout.specs.Format.{versionOne}
 use Rattle.file_layout.specs.Decode.{decode}
 use Rattle.file_layout.specs.Check.{checked}
-use Rattle.plans.specs.declared.Query.{Query}
+use Rattle.query.specs.declared.Query.{Query}
 use Rattle.plans.specs.Sound.{Timely}
 use Rattle.plans.specs.Journeys.{Journey, IsEarliest}
 use Rattle.plans.specs.Plan.{earliest}

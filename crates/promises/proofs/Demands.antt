@@ -18,7 +18,7 @@ use Rattle.file_layout.specs.Format.{versionOne}
 use Rattle.file_layout.specs.Decode.{decode}
 use Rattle.file_layout.specs.Check.{Answer, checked}
 use Rattle.file_layout.proofs.Refusals.{refused-placed}
-use Rattle.plans.specs.declared.Query.{Query}
+use Rattle.query.specs.declared.Query.{Query}
 use Rattle.plans.specs.Sound.{Timely}
 use Rattle.plans.specs.Rides.{Ride, latest}
 use Rattle.plans.specs.Journeys.{Journey, IsEarliest, boundOf}

@@ -16,7 +16,7 @@ use Rattle.file_layout.specs.Decode.{decode}
 use Rattle.numbers.specs.Numbers.{u32Bytes}
 use Rattle.numbers.specs.Bytes.{bytesOf}
 use Rattle.numbers.specs.Over.{over}
-use Rattle.plans.specs.declared.Query.{Query}
+use Rattle.query.specs.declared.Query.{Query}
 use Rattle.plans.specs.Plan.{Plan, planned}
 use Rattle.plans.specs.Worth.{Valued}
 use Rattle.plan_extract.specs.Extracted.{written}

@@ -19,7 +19,7 @@ use Rattle.file_layout.specs.Decode.{decode}
 use Rattle.file_layout.specs.Format.{versionOne}
 use Rattle.file_layout.proofs.Sound.{checked-gives}
 use Rattle.file_layout.proofs.Refusals.{refused-placed}
-use Rattle.plans.specs.declared.Query.{Query}
+use Rattle.query.specs.declared.Query.{Query}
 use Rattle.plans.specs.Plan.{Plan, planned}
 use Rattle.plan_extract.specs.Extracted.{written}
 use Rattle.numbers.specs.Over.{over}

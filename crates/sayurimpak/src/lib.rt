@@ -7,7 +7,7 @@ ghost use Rattle.sayurimpak.specs.Given.{given, Fitting};
 use numbers::put_numbers;
 use plan_whole::Planned;
 use planner::plan;
-use plans::Query;
+use query::Query;
 
 // What the largest sound file needs: 4n + 2,500 work numbers and 3n plan numbers, n 2,000.
 const WORK: usize = 10500;

@@ -15,7 +15,7 @@ use Rattle.file_layout.specs.Check.{fileVerdict}
 use Rattle.file_layout.specs.Decode.{decode, headOf}
 use Rattle.file_layout.specs.Format.{versionOne}
 use Rattle.file_layout.proofs.Sound.{SoundFile, sound-gives, fine-answered, version-one-readable}
-use Rattle.plans.specs.declared.Query.{Query}
+use Rattle.query.specs.declared.Query.{Query}
 use Rattle.plans.specs.Sound.{Timely}
 use Rattle.plans.specs.Rides.{IsRide}
 use Rattle.plans.specs.Worth.{Valued}

@@ -16,7 +16,7 @@ use Rattle.file_layout.specs.Check.{checked, fileVerdict, answerOf}
 use Rattle.file_layout.specs.Decode.{decode}
 use Rattle.file_layout.specs.Format.{versionOne}
 use Rattle.file_layout.proofs.Sound.{sound-checked}
-use Rattle.plans.specs.declared.Query.{Query}
+use Rattle.query.specs.declared.Query.{Query}
 use Rattle.numbers.specs.Over.{over}
 use Rattle.sheet_text.specs.declared.Sheeted.{Sheeted}
 use Rattle.sheet_text.specs.declared.Sheeted.the-variants.{Text, NoRoom}

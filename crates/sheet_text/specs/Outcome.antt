@@ -5,7 +5,7 @@ use mathlib.Core.List.{List, [], _∷_}
 use lib.Dec.{leb}
 use lib.ListN.{length}
 use Rattle.file_layout.specs.Check.{Answer}
-use Rattle.file_layout.specs.Format.{mostRows}
+use Rattle.timetable.specs.Limits.{mostRows}
 use Rattle.numbers.specs.Over.{over}
 use Rattle.sheet_text.specs.declared.Sheeted.{Sheeted}
 use Rattle.sheet_text.specs.declared.Sheeted.the-variants.{Text, NoRoom}

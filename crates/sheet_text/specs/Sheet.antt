@@ -12,7 +12,7 @@ use Rattle.file_layout.specs.Check.{checked}
 use Rattle.file_layout.specs.Decode.{decode}
 use Rattle.file_layout.specs.Format.{versionOne}
 use Rattle.numbers.specs.Numbers.{u16At}
-use Rattle.plans.specs.declared.Query.{Query}
+use Rattle.query.specs.declared.Query.{Query}
 use Rattle.plans.specs.Worth.{Valued}
 use Rattle.plans.specs.Plan.{Plan, planned}
 use Rattle.planner.specs.Outcome.{journeyRule, codeRule}

@@ -26,7 +26,7 @@ use numbers::number;
 use numbers::u16_at;
 use plan_whole::Planned;
 use planner::plan;
-use plans::Query;
+use query::Query;
 use timetable::Row;
 
 // What came of a sheet: its text's length, or that the lent bytes are too few.

@@ -15,7 +15,8 @@ use Rattle.timetable.specs.declared.Row.{Row}
 use Rattle.timetable.specs.declared.Ranges.{Ranges}
 use Rattle.timetable.specs.Timetable.{rowOf}
 use Rattle.timetable.specs.Verdict.{fine, unless}
-use Rattle.timetable.specs.Rows.{trips, ownRule, departureRule, lastOfTrip, follows, tripRule, rowVerdict, rowsVerdict}
+use Rattle.timetable.specs.Rows.{ownRule, departureRule, lastOfTrip, follows, tripRule, rowVerdict, rowsVerdict}
+use Rattle.timetable.specs.Limits.{mostTrips}
 use Rattle.timetable.proofs.Verdicts.{both-fine, holding-fine}
 use Rattle.timetable.proofs.Behind.{behind, behind-next, last-here, last-further}
 use Rattle.timetable.proofs.RowsSound.{OwnSound, RowsSound, Kept}
@@ -26,7 +27,7 @@ own-rule-kept g r own =
     both (both (both (both (both (both (both (lt-ltb (r .board) (g .stops) (own .board)) (lt-ltb (r .land) (g .stops) (own .land)))
     (ap not (ne-eqb (r .board) (r .land) (own .differ)))) (lt-ltb (r .departure) (r .arrival) (own .onward)))
     (le-leb (r .departure) (g .latest) (own .departure))) (le-leb (r .arrival) (g .latest) (own .arrival)))
-    (lt-ltb (r .trip) trips (own .trip))) (lt-ltb (r .class) (g .classes) (own .class))
+    (lt-ltb (r .trip) mostTrips (own .trip))) (lt-ltb (r .class) (g .classes) (own .class))
 
 -- row i is the nearest of the trip behind row j
 record Nearest (rows : List Row) (trip j i : ℕ) : Type 0 where

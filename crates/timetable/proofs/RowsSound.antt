@@ -15,7 +15,8 @@ use Rattle.timetable.specs.declared.Row.{Row}
 use Rattle.timetable.specs.declared.Ranges.{Ranges}
 use Rattle.timetable.specs.Timetable.{rowOf}
 use Rattle.timetable.specs.Verdict.{fine, unless}
-use Rattle.timetable.specs.Rows.{trips, ownRule, departureRule, lastOfTrip, follows, tripRule, rowVerdict, rowsVerdict}
+use Rattle.timetable.specs.Rows.{ownRule, departureRule, lastOfTrip, follows, tripRule, rowVerdict, rowsVerdict}
+use Rattle.timetable.specs.Limits.{mostTrips}
 use Rattle.timetable.proofs.Verdicts.{first-fine, second-fine, rule-holds}
 use Rattle.timetable.proofs.Behind.{behind, behind-next, nearest-of-trip}
 
@@ -27,7 +28,7 @@ pub record OwnSound (g : Ranges) (r : Row) : Type 0 where
   pub onward : r .departure < r .arrival
   pub departure : r .departure ≤ g .latest
   pub arrival : r .arrival ≤ g .latest
-  pub trip : r .trip < trips
+  pub trip : r .trip < mostTrips
   pub class : r .class < g .classes
 
 -- rows that keep all rules (4 and 5)
@@ -49,9 +50,9 @@ own-gives g r e =
     let onward = differ && ltb (r .departure) (r .arrival) in
     let departure = onward && leb (r .departure) (g .latest) in
     let arrival = departure && leb (r .arrival) (g .latest) in
-    let trip = arrival && ltb (r .trip) trips in
+    let trip = arrival && ltb (r .trip) mostTrips in
     let e₆ = both-left trip (ltb (r .class) (g .classes)) e in
-    let e₅ = both-left arrival (ltb (r .trip) trips) e₆ in
+    let e₅ = both-left arrival (ltb (r .trip) mostTrips) e₆ in
     let e₄ = both-left departure (leb (r .arrival) (g .latest)) e₅ in
     let e₃ = both-left onward (leb (r .departure) (g .latest)) e₄ in
     let e₂ = both-left differ (ltb (r .departure) (r .arrival)) e₃ in
@@ -65,7 +66,7 @@ own-gives g r e =
       onward = ltb-true (r .departure) (r .arrival) (both-right differ (ltb (r .departure) (r .arrival)) e₃);
       departure = leb-true (r .departure) (g .latest) (both-right onward (leb (r .departure) (g .latest)) e₄);
       arrival = leb-true (r .arrival) (g .latest) (both-right departure (leb (r .arrival) (g .latest)) e₅);
-      trip = ltb-true (r .trip) trips (both-right arrival (ltb (r .trip) trips) e₆);
+      trip = ltb-true (r .trip) mostTrips (both-right arrival (ltb (r .trip) mostTrips) e₆);
       class = ltb-true (r .class) (g .classes) (both-right trip (ltb (r .class) (g .classes)) e);
     }
 

@@ -6,18 +6,15 @@ use mathlib.Core.Option.{Option, none, some}
 use lib.Dec.{ltb, leb, eqb}
 use Rattle.timetable.specs.declared.Row.{Row}
 use Rattle.timetable.specs.declared.Ranges.{Ranges}
+use Rattle.timetable.specs.Limits.{mostTrips}
 use Rattle.timetable.specs.Verdict.{Verdict, fine, orElse, unless}
-
--- trip is below 2,000
-abbrev pub trips : ℕ
-trips = 2000
 
 -- Stops are below S and differ; departure is less than arrival; both are minutes of the seven days; trip is below 2,000; class is below K
 unfoldable pub ownRule : Ranges → Row → Bool
 ownRule g r =
     ltb (r .board) (g .stops) && ltb (r .land) (g .stops) && not (eqb (r .board) (r .land))
     && ltb (r .departure) (r .arrival) && leb (r .departure) (g .latest) && leb (r .arrival) (g .latest)
-    && ltb (r .trip) trips && ltb (r .class) (g .classes)
+    && ltb (r .trip) mostTrips && ltb (r .class) (g .classes)
 
 -- Departures never fall from row to row; `back` is the rows behind, nearest first
 unfoldable pub departureRule : List Row → Row → Bool

@@ -14,7 +14,7 @@ use plan_whole::Planned;
 use planner::Earliest;
 use planner::earliest_safe_arrival;
 use planner::plan;
-use plans::Query;
+use query::Query;
 
 // The check: number, place, S, n, K.
 #[no_mangle]

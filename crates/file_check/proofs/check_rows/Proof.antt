@@ -5,7 +5,8 @@ use mathlib.Core.Path.{_≡_, refl, ap, sym, _∙_}
 use native.Mathlib.Omega.{arith}
 use borrow.Author.Needs.{needs}
 use borrow.Author.Tests.{not-true, not-false}
-use Rattle.timetable.specs.Rows.{trips, ownRule}
+use Rattle.timetable.specs.Rows.{ownRule}
+use Rattle.timetable.specs.Limits.{mostTrips}
 use Rattle.timetable.proofs.RowsSound.{own-gives}
 use Rattle.file_layout.specs.Check.{answered}
 use Rattle.file_check.proofs.Reading.{Reading, reading-none, reading-ends, row-inside, hint-inside, breaks-own, breaks-order, reads-on}
@@ -52,7 +53,7 @@ own-kept : (c : tie.Else1 Inv-loop μ-loop)
     → ownRule (c .before .before .before .before .before .before .args .ranges) (c .before .before .row-at .result) ≡ true
 own-kept c = sym (c .before .own-rule .ensures) ∙ not-false (c .before .own-rule .result) (c .if1 .left)
 
-trip-inside : (c : tie.Else1 Inv-loop μ-loop) → c .before .before .row-at .result .trip < trips
+trip-inside : (c : tie.Else1 Inv-loop μ-loop) → c .before .before .row-at .result .trip < mostTrips
 trip-inside c =
     own-gives (c .before .before .before .before .before .before .args .ranges) (c .before .before .row-at .result) (own-kept c) .trip
 

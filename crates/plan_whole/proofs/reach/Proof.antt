@@ -1,7 +1,7 @@
 -- `plan_whole::reach` meets its contract: the scan forward of the rows from T on. Assumes nothing.
 use mathlib.Core.Path.{sym, ap, subst, _∙_}
 use native.Mathlib.Omega.{arith}
-use Rattle.plans.specs.declared.Query.{Query}
+use Rattle.query.specs.declared.Query.{Query}
 use Rattle.plans.specs.Plan.{earliest}
 use Rattle.plan_cells.specs.Cells.{cellOf}
 use Rattle.plan_rows.specs.Reading.{rowsIn, timetableIn, Cut}

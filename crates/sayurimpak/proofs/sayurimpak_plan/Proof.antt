@@ -6,7 +6,7 @@ use native.Mathlib.Omega.{arith}
 use borrow.Author.Needs.{needs}
 use lib.ListN.{length, take, drop}
 use lib.Seq.{length-take-le, length-front}
-use Rattle.plans.specs.declared.Query.{Query}
+use Rattle.query.specs.declared.Query.{Query}
 use Rattle.planner.specs.Outcome.{PlanOutcome, planOutcome}
 use Rattle.sayurimpak.specs.Desk.{asked, deskOutcome}
 use Rattle.sayurimpak.specs.Given.{given, Fitting}

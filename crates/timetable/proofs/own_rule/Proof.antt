@@ -7,7 +7,8 @@ use borrow.Author.Tests.{lt-ltb, le-ltb, le-leb, lt-leb, eq-eqb, ne-eqb}
 use lib.Dec.{ltb}
 use Rattle.timetable.specs.declared.Row.{Row}
 use Rattle.timetable.specs.declared.Ranges.{Ranges}
-use Rattle.timetable.specs.Rows.{ownRule, trips}
+use Rattle.timetable.specs.Rows.{ownRule}
+use Rattle.timetable.specs.Limits.{mostTrips}
 use Rattle.timetable.proofs.own_rule.Statement.{statement}
 use Rattle.timetable.proofs.own_rule.Tie as tie
 
@@ -19,7 +20,7 @@ broken false = refl
 -- where the other tests hold, the rule is the last one
 last-test :
     (g : Ranges) (r : Row) → r .board < g .stops → r .land < g .stops → (r .board ≡ r .land → ⊥) → r .departure < r .arrival
-    → r .departure ≤ g .latest → r .arrival ≤ g .latest → r .trip < trips → ltb (r .class) (g .classes) ≡ ownRule g r
+    → r .departure ≤ g .latest → r .arrival ≤ g .latest → r .trip < mostTrips → ltb (r .class) (g .classes) ≡ ownRule g r
 unfolding ownRule
 last-test g r board land differ onward departs arrives trip =
     simp (lt-ltb _ _ board, lt-ltb _ _ land, ne-eqb _ _ differ, lt-ltb _ _ onward, le-leb _ _ departs, le-leb _ _ arrives, lt-ltb _ _ trip)
