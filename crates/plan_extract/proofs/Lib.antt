@@ -1,6 +1,5 @@
 -- Laws of writing the plan.
 pub mod Passing
-pub mod Laid
 pub mod Going
 pub mod Timed
 pub mod Kept

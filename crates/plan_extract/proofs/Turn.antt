@@ -15,8 +15,9 @@ use Rattle.plan_rows.specs.declared.Sailings.{Sailings}
 use Rattle.plan_rows.specs.Reading.{rowsIn, tablesIn, Stand, TablesHeld}
 use Rattle.plans.specs.declared.Goal.{Goal}
 use Rattle.plan_scan.specs.Scanned.{scanIn, ScanHeld}
+use Rattle.plan_slice.specs.Slice.{withRide}
 use Rattle.plan_extract.specs.Extracted.{FirstRide, ridesOf}
-use Rattle.plan_extract.specs.Marks.{put, Catching, AllPassed}
+use Rattle.plan_extract.specs.Marks.{Catching, AllPassed}
 use Rattle.plan_extract.proofs.Kept.{Kept, kept-held}
 use Rattle.plan_extract.proofs.Timed.{ordered, known}
 use Rattle.plan_extract.proofs.Aboard.{Aboard, aboard}
@@ -110,12 +111,12 @@ module _ {file : List ℕ} {s : Sailings} {tables : List ℕ} {goal : Goal} {fir
             (λ u m. omega (arith, known file s (t .stand) end (t .inside) goal first (t .ahead) u m .before-end, t .inside)))))
 
         -- the plan slice with its three numbers, and the latest minute so far
-        module _ (plan' : List ℕ) (laid : plan' ≡ put plan rides i (getD work (pairs + 2 * i + 1) 0) (getD work (pairs + 2 * i) 0))
+        module _ (plan' : List ℕ) (laid : plan' ≡ withRide plan rides i (getD work (pairs + 2 * i + 1) 0) (getD work (pairs + 2 * i) 0))
             (last' : ℕ) (later : last' ≡ max last (row .arrival + delay)) where
-          ride-laid : plan' ≡ put plan rides (found .0 .ride .board) (found .0 .ride .leave) (found .0 .worth)
+          ride-laid : plan' ≡ withRide plan rides (found .0 .ride .board) (found .0 .ride .leave) (found .0 .worth)
           ride-laid =
-              laid ∙ ap (λ k. put plan rides k (getD work (pairs + 2 * i + 1) 0) (getD work (pairs + 2 * i) 0)) (sym (found .2))
-              ∙ ap₂ (λ a b. put plan rides (found .0 .ride .board) a b) (on-board .leaves) (on-board .worth)
+              laid ∙ ap (λ k. withRide plan rides k (getD work (pairs + 2 * i + 1) 0) (getD work (pairs + 2 * i) 0)) (sym (found .2))
+              ∙ ap₂ (λ a b. withRide plan rides (found .0 .ride .board) a b) (on-board .leaves) (on-board .worth)
 
           room-left : 3 * suc rides ≤ length plan₀
           room-left = omega (arith, t .few, t .below, t .inside, t .room)

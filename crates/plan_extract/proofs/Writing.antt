@@ -17,11 +17,12 @@ use Rattle.plans.proofs.Open.{boards-stop, found-member, found-boards}
 use Rattle.plans.proofs.Order.{Ordered, members-apart, first-before}
 use Rattle.plans.proofs.OwnWorth.{OwnWorth}
 use Rattle.plan_landing.specs.Landing.{StackHolds, Climbing}
-use Rattle.plan_extract.specs.Extracted.{FirstRide, ridesOf, written}
+use Rattle.plan_slice.specs.Slice.{written, withRide}
+use Rattle.plan_slice.proofs.Written.{length-over, length-more, over-none, over-more}
+use Rattle.plan_extract.specs.Extracted.{FirstRide, ridesOf}
 use Rattle.numbers.specs.Over.{over}
-use Rattle.plan_extract.specs.Marks.{HeadAlone, AllPassed, put}
+use Rattle.plan_extract.specs.Marks.{HeadAlone, AllPassed}
 use Rattle.plan_extract.proofs.Going.{Going, Taken, going-start, going-pass, going-take, going-end}
-use Rattle.plan_extract.proofs.Laid.{length-over, length-more, over-none, over-more}
 use Rattle.plan_extract.proofs.Windows.{window-boards, window-until, none-more}
 use Rattle.plan_extract.proofs.Wanting.{Marking, Lands, unmarked, marking-on}
 
@@ -166,7 +167,7 @@ module _ {target n : ℕ} {whole chosen : List Valued} {plan₀ work plan : List
           },
         )
 
-    module _ (room : 3 * suc rides ≤ length plan₀) (plan' : List ℕ) (laid : plan' ≡ put plan rides (v .ride .board) (v .ride .leave) (v .worth))
+    module _ (room : 3 * suc rides ≤ length plan₀) (plan' : List ℕ) (laid : plan' ≡ withRide plan rides (v .ride .board) (v .ride .leave) (v .worth))
         (last' : ℕ) (later : last' ≡ max last (latest (v .ride))) where
       writing-with : (new : List ℕ) → Marking new n chosen (windowsOf target (v .ride) (taken .behind) ++ w .windows)
           → Writing target n whole chosen plan₀ new plan' (rides + 1) last' (i + 1)
@@ -180,7 +181,7 @@ module _ {target n : ℕ} {whole chosen : List Valued} {plan₀ work plan : List
                 (taken .going);
             marking = marks;
             plan-is =
-                laid ∙ ap (λ l. put l rides (v .ride .board) (v .ride .leave) (v .worth)) (w .plan-is)
+                laid ∙ ap (λ l. withRide l rides (v .ride .board) (v .ride .leave) (v .worth)) (w .plan-is)
                 ∙ over-more (w .past) v plan₀ rides (w .rides-is)
                 (let z : 3 * suc (length (w .past)) ≤ length plan₀ = omega (arith, w .rides-is) in z);
             rides-is = ap (λ k. k + 1) (w .rides-is) ∙ sym (length-more (w .past) v);

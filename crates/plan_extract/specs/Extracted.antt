@@ -1,9 +1,8 @@
--- Document 01, "Expected arrival in ticks": the plan in a lent slice of u32, three a ride, by boarding row rising.
+-- Document 01, "Expected arrival in ticks": the rides of a plan, from its first row on.
 use Prim.Native.Nat.{ℕ, _<_}
-use mathlib.Core.List.{List, [], _∷_, _++_}
+use mathlib.Core.List.{List}
 use mathlib.Core.Option.{some}
 use mathlib.Core.Path.{_≡_}
-use lib.ListN.{length, drop}
 use Rattle.plans.specs.Worth.{Valued, firstOpen}
 use Rattle.plans.specs.Plan.{upTo, extract}
 
@@ -19,8 +18,3 @@ pub record FirstRide (chosen : List Valued) (head : ℕ) : Type 0 where
 -- that ride, and what it leads to
 abbrev pub ridesOf : (target : ℕ) {chosen : List Valued} {head : ℕ} → FirstRide chosen head → List Valued
 ridesOf target {chosen} f = extract target (upTo (f .stop) (f .minute) (some (f .ride))) chosen
-
--- three numbers a ride: boarding row, leaving row, worth
-unfoldable pub written : List Valued → List ℕ
-written [] = []
-written (v ∷ rides) = v .ride .board ∷ v .ride .leave ∷ v .worth ∷ written rides

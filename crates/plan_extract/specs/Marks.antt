@@ -3,7 +3,7 @@ use Prim.Native.Nat.{ℕ, _+_, _*_, _%_, _≤_, _<_}
 use mathlib.Core.List.{List}
 use mathlib.Core.Logic.{_⊎_}
 use mathlib.Core.Path.{_≡_}
-use lib.ListN.{length, getD, set}
+use lib.ListN.{length, getD}
 use Rattle.plan_cells.specs.Cells.{stackStart, stackSize}
 use Rattle.plan_landing.specs.Landing.{departureAt, Falling}
 
@@ -41,7 +41,3 @@ AllPassed old new land arrival landing = Passed old new (stackStart old land) (s
 pub record HeadAlone (work : List ℕ) (n head : ℕ) : Type 0 where
   pub marked : getD work head 0 ≡ 1
   pub only : (i : ℕ) → i < n → getD work i 0 ≡ 1 → i ≡ head
-
--- three numbers of the plan: ride number `ride`
-abbrev pub put : List ℕ → (ride board leave worth : ℕ) → List ℕ
-put plan ride board leave worth = set (set (set plan (3 * ride) board) (3 * ride + 1) leave) (3 * ride + 2) worth

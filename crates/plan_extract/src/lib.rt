@@ -6,9 +6,10 @@ ghost use Rattle.plans.specs.Plan.{latestOf};
 ghost use Rattle.plan_cells.specs.Cells.{used, pairs};
 ghost use Rattle.plan_rows.specs.Reading.{tablesIn, Stand, TablesHeld};
 ghost use Rattle.plan_scan.specs.Scanned.{scanIn, ScanHeld};
-ghost use Rattle.plan_extract.specs.Extracted.{FirstRide, ridesOf, written};
+ghost use Rattle.plan_extract.specs.Extracted.{FirstRide, ridesOf};
+ghost use Rattle.plan_slice.specs.Slice.{written, withRide};
 ghost use Rattle.numbers.specs.Over.{over};
-ghost use Rattle.plan_extract.specs.Marks.{Catching, AllPassed, HeadAlone, put};
+ghost use Rattle.plan_extract.specs.Marks.{Catching, AllPassed, HeadAlone};
 use numbers::cell;
 use numbers::number;
 use plan_cells::PAIRS;
@@ -24,6 +25,7 @@ use plan_rows::LONGEST;
 use plan_rows::Sailings;
 use plan_rows::nth_row;
 use plan_rows::opens;
+use plan_slice::write_ride;
 use plans::Goal;
 
 // How many rides a plan has, and the largest a + M of them.
@@ -88,7 +90,7 @@ fn write_wanted(
         let board = i;
         i += 1;
         if work[TRIPS + board] == 1 {
-            let leave = write_ride(board, rides, work, plan);
+            let leave = write_row(board, rides, work, plan);
             let row = nth_row(file, s, leave);
             let landing = row.arrival + number(tables[BLOCK * row.class + LONGEST]);
             rides += 1;
@@ -114,18 +116,15 @@ fn later(a: usize, b: usize) -> usize
     a
 }
 
-// Boarding row, leaving row and worth, as ride number `ride`; the leaving row.
-fn write_ride(board: usize, ride: usize, work: &[u32], plan: &mut [u32]) -> usize
+// The ride of row `board` by the row's pair of cells, as ride number `ride`; its leaving row.
+fn write_row(board: usize, ride: usize, work: &[u32], plan: &mut [u32]) -> usize
     requires { ⌜ (board < 4294967296) × (pairs + 2 * board + 1 < length (now work)) × (3 * ride + 2 < length (now plan)) ⌝ }
     ensures { λ r. ⌜ (r ≡ getD (now (work .entry)) (pairs + 2 * board + 1) 0)
-        × (now (plan .exit) ≡ put (now (plan .entry)) ride board (getD (now (work .entry)) (pairs + 2 * board + 1) 0) (getD (now (work .entry)) (pairs + 2 * board) 0)) ⌝ }
+        × (now (plan .exit) ≡ withRide (now (plan .entry)) ride board (getD (now (work .entry)) (pairs + 2 * board + 1) 0) (getD (now (work .entry)) (pairs + 2 * board) 0)) ⌝ }
 {
     let pair = PAIRS + 2 * board;
-    let at = 3 * ride;
     let leave = work[pair + 1];
-    plan[at] = cell(board);
-    plan[at + 1] = leave;
-    plan[at + 2] = work[pair];
+    write_ride(plan, ride, cell(board), leave, work[pair]);
     number(leave)
 }
 

@@ -11,7 +11,7 @@ use Rattle.timetable.specs.Timetable.{Timetable}
 use Rattle.query.specs.declared.Query.{Query}
 use Rattle.plans.specs.Plan.{Plan, planned, planBefore, earliest}
 use Rattle.plan_cells.specs.Cells.{missing, cellOf}
-use Rattle.plan_extract.specs.Extracted.{written}
+use Rattle.plan_slice.specs.Slice.{written}
 use Rattle.plan_whole.specs.declared.Planned.{Planned}
 use Rattle.plan_whole.specs.declared.Planned.the-variants.{Plan as AsPlan, Refused as NoPlan}
 use Rattle.plan_whole.specs.Answers.{answerFor, sliceAfter, Answers}

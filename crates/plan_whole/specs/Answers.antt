@@ -6,7 +6,7 @@ use mathlib.Core.Path.{_≡_}
 use lib.ListN.{length}
 use Rattle.numbers.specs.Over.{over}
 use Rattle.plans.specs.Plan.{Plan}
-use Rattle.plan_extract.specs.Extracted.{written}
+use Rattle.plan_slice.specs.Slice.{written}
 use Rattle.plan_whole.specs.declared.Planned.{Planned}
 use Rattle.plan_whole.specs.declared.Planned.the-variants.{Plan as AsPlan, Refused}
 

@@ -22,7 +22,7 @@ use Rattle.file_layout.proofs.Refusals.{refused-placed}
 use Rattle.query.specs.declared.Query.{Query}
 use Rattle.plans.specs.Plan.{Plan, planned, planBefore, earliest}
 use Rattle.plan_cells.specs.Cells.{missing, cellOf, filled}
-use Rattle.plan_extract.specs.Extracted.{written}
+use Rattle.plan_slice.specs.Slice.{written}
 use Rattle.numbers.specs.Over.{over}
 use Rattle.plan_rows.proofs.Standing.{version-one-plannable}
 use Rattle.plan_whole.specs.declared.Planned.{Planned}

@@ -33,7 +33,7 @@ use Rattle.demands.proofs.PlanIsSafe.{ridesOf}
 use Rattle.demands.proofs.Demand2 as demand2
 use Rattle.demands.proofs.Demand3 as demand3
 use Rattle.plan_rows.proofs.Standing.{timely}
-use Rattle.plan_extract.specs.Extracted.{written}
+use Rattle.plan_slice.specs.Slice.{written}
 use Rattle.numbers.specs.Over.{over}
 use Rattle.plan_whole.specs.declared.Planned.the-variants.{Plan as AsPlan, Refused as NoPlan}
 use Rattle.plan_whole.specs.Answers.{answerFor, sliceAfter}

@@ -20,7 +20,7 @@ use Rattle.plans.specs.Chosen.{whenSafe, offInTicks, worthOf, offInMinutes, nex
 use Rattle.plans.specs.Plan.{earliest, chosenFor, inWindow, wanted, upTo, windowsOf, extract, ridesFrom, latestOf, planWithin, planBefore, planned}
 use Rattle.plans.specs.Examples as examples
 use Rattle.plans.specs.Examples.{query}
-use Rattle.plan_extract.specs.Extracted.{written}
+use Rattle.plan_slice.specs.Slice.{written}
 use Rattle.numbers.specs.Over.{over}
 use Rattle.plan_whole.specs.declared.Planned.{Planned}
 use Rattle.plan_whole.specs.declared.Planned.the-variants.{Plan as AsPlan, Refused as NoPlan}

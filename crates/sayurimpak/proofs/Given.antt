@@ -19,7 +19,7 @@ use Rattle.numbers.specs.Over.{over}
 use Rattle.query.specs.declared.Query.{Query}
 use Rattle.plans.specs.Plan.{Plan, planned}
 use Rattle.plans.specs.Worth.{Valued}
-use Rattle.plan_extract.specs.Extracted.{written}
+use Rattle.plan_slice.specs.Slice.{written}
 use Rattle.numbers.specs.Over.{over}
 use Rattle.plan_whole.specs.Answers.{answerFor, sliceAfter}
 use Rattle.planner.specs.Outcome.{PlanOutcome, workRoom, planRoom, refusedPlan, planAnswered, planSound, planChecked, journeyRule, codeRule, cleared}

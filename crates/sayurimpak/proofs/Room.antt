@@ -21,7 +21,7 @@ use Rattle.file_layout.proofs.Sound.{checked-gives}
 use Rattle.file_layout.proofs.Refusals.{refused-placed}
 use Rattle.query.specs.declared.Query.{Query}
 use Rattle.plans.specs.Plan.{Plan, planned}
-use Rattle.plan_extract.specs.Extracted.{written}
+use Rattle.plan_slice.specs.Slice.{written}
 use Rattle.numbers.specs.Over.{over}
 use Rattle.plan_whole.specs.Answers.{answerFor, sliceAfter}
 use Rattle.planner.specs.Outcome.{

@@ -22,7 +22,7 @@ use Rattle.plans.specs.Worth.{Valued}
 use Rattle.plans.specs.Plan.{Plan, planned}
 use Rattle.plans.proofs.Made.{plan-made}
 use Rattle.plans.proofs.PlanRides.{plan-member, for-ride}
-use Rattle.plan_extract.specs.Extracted.{written}
+use Rattle.plan_slice.specs.Slice.{written}
 use Rattle.numbers.specs.Over.{over}
 use Rattle.plan_whole.specs.declared.Planned.the-variants.{Plan as AsPlan, Refused as NoPlan}
 use Rattle.plan_whole.specs.Answers.{answerFor, sliceAfter}

@@ -8,7 +8,7 @@ use Rattle.timetable.specs.Timetable.{Timetable, rowOf}
 use Rattle.timetable.specs.declared.Row.{Row}
 use Rattle.plans.specs.Rides.{Ride, IsRide}
 use Rattle.plans.specs.Worth.{Valued}
-use Rattle.plan_extract.specs.Extracted.{written}
+use Rattle.plan_slice.specs.Slice.{written}
 use Rattle.sheet_text.specs.Sheet.{lineText, rideText, ridesText}
 use Rattle.sheet_text.specs.Lines.{boardIn, leaveIn, worthIn, lineIn, linesIn, RidesIn}
 

@@ -103,8 +103,8 @@ turn c =
       mark = ap (λ k. getD (l .work) k 0) (sym (zero-add (l .i))) ∙ c .if1 .taken;
     }
 
-write-ride-requires : tie.Need-write-ride-requires Inv-loop μ-loop
-write-ride-requires c κs =
+write-row-requires : tie.Need-write-row-requires Inv-loop μ-loop
+write-row-requires c κs =
     let a = c .before .before .before .before .before .before .before .before .before .before in
     let l = c .before .before .before .before .before .loop in
     let few : l .rides < a .args .s .rows = omega arith in
@@ -113,7 +113,7 @@ write-ride-requires c κs =
 nth-row-requires : tie.Need-nth-row-requires Inv-loop μ-loop
 nth-row-requires c κs =
     let m = c .before .before .before .before .before in
-    (entered m .pre .0, leave-inside (turn m) (c .before .before .write-ride .result) (c .before .before .write-ride .ensures .0))
+    (entered m .pre .0, leave-inside (turn m) (c .before .before .write-row .result) (c .before .before .write-row .ensures .0))
 
 mul-number : tie.Need-mul-number Inv-loop μ-loop
 mul-number c = omega arith
@@ -127,7 +127,7 @@ mul-number-2 c = omega arith
 shared-slice-read-number : tie.Need-shared-slice-read-number Inv-loop μ-loop
 shared-slice-read-number c =
     let m = c .before .before .before .before .before .before .before .before in
-    let w = c .before .before .before .before .before .write-ride in
+    let w = c .before .before .before .before .before .write-row in
     let n = c .before .before .nth-row in
     omega (arith, entered m .pre .1 .room, class-inside (turn m) (w .result) (w .ensures .0) (n .result) (n .ensures .0))
 
@@ -138,7 +138,7 @@ number-requires c κs = tt
 lands-soon : (c : tie.After-number Inv-loop μ-loop) → c .before .before .before .nth-row .result .arrival + c .number .result < 65536
 lands-soon c =
     let m = c .before .before .before .before .before .before .before .before .before in
-    let w = c .before .before .before .before .before .before .write-ride in
+    let w = c .before .before .before .before .before .before .write-row in
     let n = c .before .before .before .nth-row in
     landing-fits (turn m) (w .result) (w .ensures .0) (n .result) (n .ensures .0) (c .number .result) (c .number .ensures .0)
 
@@ -163,7 +163,7 @@ stack-met : (c : tie.After-later Inv-loop μ-loop) → leaving c .land ≢ enter
     → Catching (boarded c .before .before .before .loop .work) (leaving c .land) (leaving c .arrival)
     (leaving c .arrival + c .before .before .number .result)
 stack-met c =
-    let w = c .before .before .before .before .before .before .before .before .write-ride in
+    let w = c .before .before .before .before .before .before .before .before .write-row in
     let n = c .before .before .before .before .before .nth-row in
     let d = c .before .before .number in
     met (turn (boarded c)) (w .result) (w .ensures .0) (n .result) (n .ensures .0) (d .result) (d .ensures .0)
@@ -181,7 +181,7 @@ loop-again c =
     let r = c .before .before .before .before .before .before .before in
     let m = boarded r in
     let l = m .before .before .before .loop in
-    let w = r .before .before .before .before .before .before .before .before .write-ride in
+    let w = r .before .before .before .before .before .before .before .before .write-row in
     let n = r .before .before .before .before .before .nth-row in
     let d = r .before .before .number in
     let away = c .before .before .before .before .if2 .taken in
@@ -202,7 +202,7 @@ loop-again-2 c =
     let r = c .before .before .before in
     let m = boarded r in
     let l = m .before .before .before .loop in
-    let w = r .before .before .before .before .before .before .before .before .write-ride in
+    let w = r .before .before .before .before .before .before .before .before .write-row in
     let n = r .before .before .before .before .before .nth-row in
     let d = r .before .before .number in (
       omega (arith, turn m .below),
@@ -256,7 +256,7 @@ write-wanted-spec =
     add-if1
     mul-if1
     slice-read-if1
-    write-ride-requires
+    write-row-requires
     nth-row-requires
     mul-number
     add-number

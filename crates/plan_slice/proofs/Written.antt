@@ -1,4 +1,4 @@
--- The plan slice with the rides written so far, and one ride more. Assumes nothing.
+-- The plan slice with the rides written so far, and one ride more; how many numbers they are. Assumes nothing.
 use Prim.Native.Nat.{ℕ, suc, _+_, _*_, _≤_}
 use mathlib.Core.List.{List, [], _∷_, _++_}
 use mathlib.Core.Path.{_≡_, refl, sym, ap, _∙_}
@@ -6,9 +6,8 @@ use native.Mathlib.Omega.{arith}
 use lib.ListN.{length, drop, set, length-append, length-drop}
 use lib.Seq.{sets-eq, take-at, drop-append-add, drop-drop}
 use Rattle.plans.specs.Worth.{Valued}
-use Rattle.plan_extract.specs.Extracted.{written}
 use Rattle.numbers.specs.Over.{over}
-use Rattle.plan_extract.specs.Marks.{put}
+use Rattle.plan_slice.specs.Slice.{written, withRide}
 
 abbrev numbers : Valued → List ℕ
 numbers v = v .ride .board ∷ v .ride .leave ∷ v .worth ∷ []
@@ -38,7 +37,7 @@ over-none plan = refl
 
 -- one ride more
 pub over-more : (past : List Valued) (v : Valued) (plan : List ℕ) (rides : ℕ) → rides ≡ length past → 3 * suc (length past) ≤ length plan
-    → put (over (written past) plan) rides (v .ride .board) (v .ride .leave) (v .worth) ≡ over (written (past ++ v ∷ [])) plan
+    → withRide (over (written past) plan) rides (v .ride .board) (v .ride .leave) (v .worth) ≡ over (written (past ++ v ∷ [])) plan
 over-more past v plan rides count room =
     let front : length (written past) ≡ 3 * rides = length-written past ∙ ap (λ k. 3 * k) (sym count) in
     let rest = drop (length (written past)) plan in
@@ -46,7 +45,7 @@ over-more past v plan rides count room =
     let long : length whole ≡ length plan = length-over past plan (omega arith) in
     let one : suc (3 * rides) ≡ 3 * rides + 1 = omega arith in
     let two : suc (suc (3 * rides)) ≡ 3 * rides + 2 = omega arith in
-    ap (λ k. put-at whole (3 * rides) k (3 * rides + 2)) (sym one) ∙ ap (λ k. put-at whole (3 * rides) (suc (3 * rides)) k) (sym two)
+    ap (λ k. at-places whole (3 * rides) k (3 * rides + 2)) (sym one) ∙ ap (λ k. at-places whole (3 * rides) (suc (3 * rides)) k) (sym two)
     ∙ sets-eq (numbers v) whole (3 * rides) (omega arith)
     ∙ ap (λ l. l ++ numbers v ++ drop (3 * rides + 3) whole) (take-at (written past) rest (3 * rides) front)
     ∙ ap (λ l. written past ++ numbers v ++ l)
@@ -54,5 +53,5 @@ over-more past v plan rides count room =
     ∙ ap (λ k. drop k plan) (sym (length-append (written past) (numbers v))))
     ∙ ap (λ l. over l plan) (sym (written-more past v))
   where
-    put-at : List ℕ → ℕ → ℕ → ℕ → List ℕ
-    put-at l i j k = set (set (set l i (v .ride .board)) j (v .ride .leave)) k (v .worth)
+    at-places : List ℕ → ℕ → ℕ → ℕ → List ℕ
+    at-places l i j k = set (set (set l i (v .ride .board)) j (v .ride .leave)) k (v .worth)
