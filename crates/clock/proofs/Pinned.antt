@@ -2,8 +2,9 @@
 use Prim.Native.Nat.{ℕ}
 use mathlib.Core.Path.{_≡_, refl}
 use mathlib.Core.List.{List, [], _∷_}
+use Rattle.text.specs.Decimal.{digitsOnto, decimal}
 use Rattle.clock.specs.Clock.{dayOf, dayStart, sinceMidnight, hourOf, minuteOfHour, roundedUp}
-use Rattle.clock.specs.Text.{digitsOnto, decimal, faceText, timeText}
+use Rattle.clock.specs.Text.{faceText, timeText}
 
 -- minute 0 opens day 1: d1 00:00
 pub opens : timeText 0 ≡ 100 ∷ 49 ∷ 32 ∷ 48 ∷ 48 ∷ 58 ∷ 48 ∷ 48 ∷ []

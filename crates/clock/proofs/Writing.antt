@@ -1,35 +1,15 @@
 -- Writing a day's digits from the last to the first, ahead of a text that stands at the end of the bytes. Assumes nothing.
 use Prim.Native.Nat.{ℕ, zero, suc, pred, _-_, _/_, _%_, _<_, _≤_}
 use mathlib.Core.Path.{_≡_, refl, ap, sym, subst⁻¹, _∙_}
-use mathlib.Core.Bool.{cond}
 use mathlib.Core.List.{List, [], _∷_, _++_}
-use lib.Dec.{eqb}
 use native.Mathlib.Omega.{arith}
 use lib.ListN.{length, drop, set, replicate, length-append, length-replicate, length-set}
 use lib.Seq.{drop-at}
-use borrow.Author.Tests.{ne-eqb, eq-eqb}
-use Rattle.laws.proofs.Tests.{cond-true, cond-false}
+use Rattle.text.specs.Decimal.{digitOf, decimal}
+use Rattle.text.proofs.Decimals.{decimal-on, decimal-nought}
 use Rattle.clock.specs.declared.TimeText.{TimeText}
 use Rattle.clock.specs.Clock.{dayOf}
-use Rattle.clock.specs.Text.{digitOf, blank, letterD, digitsOnto, decimal, faceText, timeText, widest, printed, Printed}
-
--- steps past the last digit change nothing
-digits-enough : (most fewer n : ℕ) (rest : List ℕ) → n ≤ most → n ≤ fewer → digitsOnto most n rest ≡ digitsOnto fewer n rest
-unfolding digitsOnto
-digits-enough zero zero n rest h k = refl
-digits-enough zero (suc fewer) n rest h k = sym (cond-true _ _ (eq-eqb n 0 (omega arith)))
-digits-enough (suc most) zero n rest h k = cond-true _ _ (eq-eqb n 0 (omega arith))
-digits-enough (suc most) (suc fewer) n rest h k =
-    ap (λ (more : List ℕ). cond (eqb n 0) rest more)
-    (digits-enough most fewer (n / 10) (digitOf (n % 10) ∷ rest) (omega arith) (omega arith))
-
--- one digit at a time, the last first
-pub decimal-on : (n : ℕ) (rest : List ℕ) → 0 < n → decimal n rest ≡ decimal (n / 10) (digitOf (n % 10) ∷ rest)
-unfolding decimal digitsOnto
-decimal-on zero rest some = absurd (let z : ⊥ = omega arith in z)
-decimal-on (suc n) rest some =
-    cond-false _ _ (ne-eqb (suc n) 0 (λ none. omega (arith, none)))
-    ∙ digits-enough n (suc n / 10) (suc n / 10) (digitOf (suc n % 10) ∷ rest) (omega arith) (omega arith)
+use Rattle.clock.specs.Text.{blank, letterD, faceText, timeText, widest, printed, Printed}
 
 -- what a number leaves when its last places are dropped
 abbrev pub dropped : (places n : ℕ) → ℕ
@@ -94,11 +74,11 @@ ends-printed minute k bytes stands wide =
 -- with no digit left, the bytes from the last written on are the day and the face
 text-ends : {day left : ℕ} {face rest : List ℕ} → decimal left rest ≡ decimal day face → left ≤ 0
     → (minute : ℕ) → day ≡ dayOf minute → face ≡ faceText minute → letterD ∷ rest ≡ timeText minute
-unfolding timeText decimal digitsOnto
+unfolding timeText
 text-ends {day} {left} {face} {rest} text none minute same-day same-face =
     let last : left ≡ 0 = omega arith in
     ap (λ (l : List ℕ). letterD ∷ l)
-    (ap (λ (n : ℕ). decimal n rest) (sym last) ∙ text
+    (sym (ap (λ (n : ℕ). decimal n rest) last ∙ decimal-nought rest) ∙ text
     ∙ ap (λ (n : ℕ). decimal n face) same-day ∙ ap (decimal (dayOf minute)) same-face)
 
 -- no digit left, the letter goes ahead of them

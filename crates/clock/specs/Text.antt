@@ -1,16 +1,11 @@
 -- Document 01, "The sheet": times print as day, hours, minutes, the last two in two digits, as `d1 10:00`.
-use Prim.Native.Nat.{ℕ, zero, suc, _+_, _-_, _/_, _%_, _<_}
+use Prim.Native.Nat.{ℕ, _-_, _/_, _%_, _<_}
 use mathlib.Core.Path.{_≡_}
-use mathlib.Core.Bool.{cond}
 use mathlib.Core.List.{List, [], _∷_, _++_}
-use lib.Dec.{eqb}
 use lib.ListN.{length, replicate}
+use Rattle.text.specs.Decimal.{digitOf, decimal}
 use Rattle.clock.specs.declared.TimeText.{TimeText}
 use Rattle.clock.specs.Clock.{dayOf, hourOf, minuteOfHour}
-
--- a digit's character
-abbrev pub digitOf : ℕ → ℕ
-digitOf n = 48 + n
 
 abbrev pub blank : ℕ
 blank = 32
@@ -20,15 +15,6 @@ colon = 58
 
 abbrev pub letterD : ℕ
 letterD = 100
-
--- a number above 0 in decimal digits, ahead of `rest`; it has no more digits than its own value
-unfoldable pub digitsOnto : (most n : ℕ) → List ℕ → List ℕ
-digitsOnto zero n rest = rest
-digitsOnto (suc most) n rest =
-    let more = digitsOnto most (n / 10) (digitOf (n % 10) ∷ rest) in cond (eqb n 0) rest more
-
-unfoldable pub decimal : ℕ → List ℕ → List ℕ
-decimal n rest = digitsOnto n n rest
 
 -- a blank, hours, a colon and minutes, in two digits each
 unfoldable pub faceText : ℕ → List ℕ

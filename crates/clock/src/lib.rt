@@ -1,10 +1,10 @@
 // Document 01, "The sheet": a clock minute, and how it prints.
 ghost use mathlib.Core.Path.{_≡_};
 ghost use mathlib.Core.List.{_++_};
-ghost use Prim.Native.Nat.{_<_};
 ghost use lib.ListN.{replicate};
 ghost use Rattle.clock.specs.Clock.{dayOf, dayStart, hourOf, minuteOfHour, roundedUp, sinceMidnight};
-ghost use Rattle.clock.specs.Text.{blank, digitOf, faceText, Printed};
+ghost use Rattle.clock.specs.Text.{blank, faceText, Printed};
+use text::digit;
 
 // Minutes from local midnight opening day 1.
 pub struct Minute {
@@ -110,12 +110,4 @@ impl Minute {
         bytes[13] = digit(minute % 10);
         bytes
     }
-}
-
-// The character of a digit.
-fn digit(number: u32) -> u8
-    requires { ⌜ number < 10 ⌝ }
-    ensures { λ r. ⌜ r ≡ digitOf number ⌝ }
-{
-    (48 + number) as u8
 }

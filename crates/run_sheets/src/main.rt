@@ -43,9 +43,9 @@ fn print_sheet(place: usize, sailings: &[u8], query: &[u8]) {
     io::write_all(STDOUT_FILENO, b"\n");
     let mut out = sheet_room();
     let sheeted = sheet_text::sheet(sailings, query, &mut out);
-    if let Sheeted::Text { length } = sheeted {
-        if length <= SHEET_ROOM {
-            io::write_all(STDOUT_FILENO, &out[..length]);
+    if let Sheeted::Text { end } = sheeted {
+        if end <= SHEET_ROOM {
+            io::write_all(STDOUT_FILENO, &out[..end]);
         }
     }
 }

@@ -35,9 +35,9 @@ fn read_file(path: &[u8], room: &mut [u8]) -> usize
 fn print_sheet(sailings: &[u8], query: &[u8]) {
     let mut out = sheet_room();
     let sheeted = sheet_text::sheet(sailings, query, &mut out);
-    if let Sheeted::Text { length } = sheeted {
-        if length <= SHEET_ROOM {
-            io::write_all(STDOUT_FILENO, &out[..length]);
+    if let Sheeted::Text { end } = sheeted {
+        if end <= SHEET_ROOM {
+            io::write_all(STDOUT_FILENO, &out[..end]);
         }
     }
 }

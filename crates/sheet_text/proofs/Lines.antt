@@ -6,10 +6,10 @@ use native.Mathlib.Numerals.{add-one}
 use native.Mathlib.Omega.{arith}
 use Rattle.timetable.specs.Timetable.{rowOf}
 use Rattle.timetable.specs.declared.Row.{Row}
-use Rattle.sheet_text.specs.Put.{Put}
+use Rattle.text.specs.Put.{Put}
 use Rattle.sheet_text.specs.Sheet.{lineText}
 use Rattle.sheet_text.specs.Lines.{boardIn, leaveIn, worthIn, lineIn, linesIn}
-use Rattle.sheet_text.proofs.Putting.{Left, left-on, left-none, put-as}
+use Rattle.text.proofs.Putting.{Left, left-on, left-none, put-as}
 
 -- the line of a ride whose rows were read
 pub line-read : (rows : List Row) (plan : List ℕ) (i : ℕ) {board leave : Row} {from to : ℕ}

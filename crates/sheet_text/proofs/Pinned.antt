@@ -11,11 +11,12 @@ use Rattle.plans.specs.Worth.{weigh, firstOpen, worthOr, caught, arrivalWorth, 
 use Rattle.plans.specs.Chosen.{whenSafe, offInTicks, worthOf, offInMinutes, nextOf, getOff, stayOn, least, firstAt, leads, others, choose, bestOf, scan, scanned}
 use Rattle.plans.specs.Plan.{earliest, chosenFor, inWindow, wanted, upTo, windowsOf, extract, ridesFrom, latestOf, planWithin, planBefore, planned}
 use Rattle.plans.specs.Examples.{Case, Hold}
-use Rattle.cases.specs.Cases.{wBytes}
+use Rattle.file_encoding.proofs.CaseW.{caseW}
 use Rattle.planner.specs.Outcome.{journeyRule, codeRule}
 use Rattle.clock.specs.Clock.{dayOf, dayStart, sinceMidnight, hourOf, minuteOfHour, roundedUp}
-use Rattle.clock.specs.Text.{digitsOnto, decimal, faceText, timeText}
-use Rattle.sheet_text.specs.Sheet.{numberText, refusedText, callText, lineText, rideText, ridesText, firstText, planText, queryOf, plannedText, askedText, soundText, checkedText, sheetText}
+use Rattle.text.specs.Decimal.{digitsOnto, decimal, numberText}
+use Rattle.clock.specs.Text.{faceText, timeText}
+use Rattle.sheet_text.specs.Sheet.{refusedText, callText, lineText, rideText, ridesText, firstText, planText, queryOf, plannedText, askedText, soundText, checkedText, sheetText}
 
 -- case W's query: 0 2 590 0
 abbrev queryW : List ℕ
@@ -32,19 +33,19 @@ linesW =
 
 abbrev printedCases : List Case
 printedCases =
-    record { answered = sheetText wBytes queryW; expected = linesW }
+    record { answered = sheetText caseW queryW; expected = linesW }
     -- from a stop to itself: 6
-    ∷ record { answered = sheetText wBytes (0 ∷ 0 ∷ 0 ∷ 0 ∷ 78 ∷ 2 ∷ 0 ∷ 0 ∷ []); expected = refusedText 6 }
+    ∷ record { answered = sheetText caseW (0 ∷ 0 ∷ 0 ∷ 0 ∷ 78 ∷ 2 ∷ 0 ∷ 0 ∷ []); expected = refusedText 6 }
     -- a query of seven bytes: 6
-    ∷ record { answered = sheetText wBytes (0 ∷ 0 ∷ 2 ∷ 0 ∷ 78 ∷ 2 ∷ 0 ∷ []); expected = refusedText 6 }
+    ∷ record { answered = sheetText caseW (0 ∷ 0 ∷ 2 ∷ 0 ∷ 78 ∷ 2 ∷ 0 ∷ []); expected = refusedText 6 }
     -- no files: 1
     ∷ record { answered = sheetText [] []; expected = refusedText 1 }
     -- T 601: 8
-    ∷ record { answered = sheetText wBytes (0 ∷ 0 ∷ 2 ∷ 0 ∷ 89 ∷ 2 ∷ 0 ∷ 0 ∷ []); expected = refusedText 8 }
+    ∷ record { answered = sheetText caseW (0 ∷ 0 ∷ 2 ∷ 0 ∷ 89 ∷ 2 ∷ 0 ∷ 0 ∷ []); expected = refusedText 8 }
     ∷ []
 
 pub cases-print : Hold printedCases
-unfolding sheetText checkedText soundText askedText plannedText planText firstText ridesText rideText lineText callText refusedText numberText queryOf journeyRule codeRule timeText faceText decimal digitsOnto dayOf dayStart sinceMidnight hourOf minuteOfHour roundedUp wBytes u16At u32At checked checkedAs fileVerdict headVerdict lengthRule headRule classVerdict classesVerdict joined sectionsJoin rangesOf answered decode headOf headAt trailerAt rowsFrom rowAt tablesFrom tableAt sharesFrom blockEnd tablesEnd ownRule departureRule lastOfTrip follows tripRule rowVerdict rowsVerdict sum sharesRule planned planBefore earliest weigh firstOpen worthOr caught arrivalWorth changeWorth whenSafe offInTicks worthOf offInMinutes nextOf getOff stayOn least firstAt leads others choose bestOf scan scanned chosenFor inWindow wanted upTo windowsOf extract ridesFrom latestOf planWithin
+unfolding sheetText checkedText soundText askedText plannedText planText firstText ridesText rideText lineText callText refusedText numberText queryOf journeyRule codeRule timeText faceText decimal digitsOnto dayOf dayStart sinceMidnight hourOf minuteOfHour roundedUp u16At u32At checked checkedAs fileVerdict headVerdict lengthRule headRule classVerdict classesVerdict joined sectionsJoin rangesOf answered decode headOf headAt trailerAt rowsFrom rowAt tablesFrom tableAt sharesFrom blockEnd tablesEnd ownRule departureRule lastOfTrip follows tripRule rowVerdict rowsVerdict sum sharesRule planned planBefore earliest weigh firstOpen worthOr caught arrivalWorth changeWorth whenSafe offInTicks worthOf offInMinutes nextOf getOff stayOn least firstAt leads others choose bestOf scan scanned chosenFor inWindow wanted upTo windowsOf extract ridesFrom latestOf planWithin
 cases-print = (refl, (refl, (refl, (refl, (refl, tt)))))
 
 -- `refused 4`
@@ -52,16 +53,3 @@ pub refusal-prints : refusedText 4 ≡
     114 ∷ 101 ∷ 102 ∷ 117 ∷ 115 ∷ 101 ∷ 100 ∷ 32 ∷ 52 ∷ 10 ∷ []
 unfolding refusedText numberText decimal digitsOnto
 refusal-prints = refl
-
--- 0, 10 and 2000 in digits
-pub nought : numberText 0 ≡ 48 ∷ []
-unfolding numberText decimal digitsOnto
-nought = refl
-
-pub ten : numberText 10 ≡ 49 ∷ 48 ∷ []
-unfolding numberText decimal digitsOnto
-ten = refl
-
-pub two-thousand : numberText 2000 ≡ 50 ∷ 48 ∷ 48 ∷ 48 ∷ []
-unfolding numberText decimal digitsOnto
-two-thousand = refl

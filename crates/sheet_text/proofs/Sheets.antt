@@ -20,9 +20,10 @@ use Rattle.query.specs.declared.Query.{Query}
 use Rattle.numbers.specs.Over.{over}
 use Rattle.sheet_text.specs.declared.Sheeted.{Sheeted}
 use Rattle.sheet_text.specs.declared.Sheeted.the-variants.{Text, NoRoom}
-use Rattle.sheet_text.specs.Put.{Put}
+use Rattle.text.specs.Put.{Put}
 use Rattle.sheet_text.specs.Sheet.{queryOf, refusedText, askedText, soundText, checkedText, sheetText}
-use Rattle.sheet_text.specs.Outcome.{sheetRoom, SheetOutcome, written, sheetOutcome}
+use Rattle.sheet_text.specs.Outcome.{SheetOutcome, written, sheetOutcome}
+use Rattle.sheet_text.specs.Room.{sheetRoom}
 
 pub sound-is-fine : (sailings : List ℕ) {stops rows classes : ℕ} → checked sailings ≡ Sound stops rows classes
     → fileVerdict versionOne sailings ≡ fine

@@ -1,5 +1,5 @@
--- The sheet as a text, and a text written into lent bytes.
+-- The sheet as a text, the room it can need, and what the call for it leaves.
 pub mod Sheet
-pub mod Put
+pub mod Room
 pub mod Lines
 pub mod Outcome

@@ -1,5 +1,5 @@
 -- Document 01, "The sheet": the text that is printed for a file of sailings and a query, as a list of ASCII codes.
-use Prim.Native.Nat.{ℕ, _/_, _%_}
+use Prim.Native.Nat.{ℕ}
 use mathlib.Core.Bool.{cond, _&&_}
 use mathlib.Core.List.{List, [], _∷_, _++_}
 use mathlib.Core.Option.{Option, none, some}
@@ -16,24 +16,29 @@ use Rattle.query.specs.declared.Query.{Query}
 use Rattle.plans.specs.Worth.{Valued}
 use Rattle.plans.specs.Plan.{Plan, planned}
 use Rattle.planner.specs.Outcome.{journeyRule, codeRule}
+use Rattle.text.specs.Decimal.{numberText}
 use Rattle.clock.specs.Clock.{roundedUp}
-use Rattle.clock.specs.Text.{blank, digitOf, decimal, timeText}
+use Rattle.clock.specs.Text.{blank, timeText}
 
 -- every line ends so
 abbrev pub newline : ℕ
 newline = 10
 
--- a number in decimal digits: the last one always stands, so that 0 is a text too
-unfoldable pub numberText : ℕ → List ℕ
-numberText n = decimal (n / 10) (digitOf (n % 10) ∷ [])
-
 -- an expected arrival is rounded up to a minute
 abbrev pub expectedText : ℕ → List ℕ
 expectedText ticks = timeText (roundedUp ticks)
 
+-- the letters of `refused`
+abbrev pub refusedWord : List ℕ
+refusedWord = 114 ∷ 101 ∷ 102 ∷ 117 ∷ 115 ∷ 101 ∷ 100 ∷ []
+
+-- the letters of `plan`
+abbrev pub planWord : List ℕ
+planWord = 112 ∷ 108 ∷ 97 ∷ 110 ∷ []
+
 -- `refused 4`
 unfoldable pub refusedText : ℕ → List ℕ
-refusedText number = 114 ∷ 101 ∷ 102 ∷ 117 ∷ 115 ∷ 101 ∷ 100 ∷ blank ∷ (numberText number ++ (newline ∷ []))
+refusedText number = refusedWord ++ (blank ∷ (numberText number ++ (newline ∷ [])))
 
 -- a stop and a time there
 unfoldable pub callText : (stop minute : ℕ) → List ℕ
@@ -54,8 +59,8 @@ ridesText (v ∷ rides) = rideText v ++ ridesText rides
 -- First line: rides, expected, latest
 unfoldable pub firstText : (rides expected last : ℕ) → List ℕ
 firstText rides expected last =
-    112 ∷ 108 ∷ 97 ∷ 110 ∷ blank
-    ∷ (numberText rides ++ (blank ∷ (expectedText expected ++ (blank ∷ (timeText last ++ (newline ∷ []))))))
+    planWord
+    ++ (blank ∷ (numberText rides ++ (blank ∷ (expectedText expected ++ (blank ∷ (timeText last ++ (newline ∷ [])))))))
 
 unfoldable pub planText : Plan → List ℕ
 planText p = firstText (length (p .rides)) (p .expected) (p .last) ++ ridesText (p .rides)

@@ -1,8 +1,8 @@
 // Document 01, "The sheet": the text for a file of sailings and a query, written into lent bytes.
-ghost use mathlib.Core.List.{[], _∷_, _++_};
+ghost use mathlib.Core.List.{_++_};
 ghost use mathlib.Core.Path.{_≡_};
-ghost use Prim.Native.Nat.{_+_, _-_, _*_, _≤_, _<_};
-ghost use lib.ListN.{length, drop};
+ghost use Prim.Native.Nat.{_+_, _*_, _≤_, _<_};
+ghost use lib.ListN.{length};
 ghost use Rattle.timetable.specs.Timetable.{rowOf};
 ghost use Rattle.timetable.specs.Verdict.{fine};
 ghost use Rattle.file_layout.specs.Check.{answerOf, fileVerdict};
@@ -10,11 +10,12 @@ ghost use Rattle.file_layout.specs.Decode.{decode, headOf};
 ghost use Rattle.file_layout.specs.Format.{versionOne};
 ghost use Rattle.file_layout.specs.Small.{SmallRow};
 ghost use Rattle.file_layout.proofs.Sound.{SoundFile};
-ghost use Rattle.clock.specs.Text.{digitOf, timeText, widest};
-ghost use Rattle.sheet_text.specs.Sheet.{askedText, callText, expectedText, firstText, lineText, numberText, queryOf, refusedText};
-ghost use Rattle.sheet_text.specs.Put.{Digits, Put, firstWidth, lineWidth, numberWidth};
+ghost use Rattle.clock.specs.Text.{timeText, widest};
+ghost use Rattle.sheet_text.specs.Sheet.{askedText, callText, expectedText, firstText, lineText, queryOf, refusedText};
+ghost use Rattle.text.specs.Put.{Put, numberWidth};
+ghost use Rattle.sheet_text.specs.Room.{firstWidth, lineWidth, sheetRoom};
 ghost use Rattle.sheet_text.specs.Lines.{RidesIn, linesIn};
-ghost use Rattle.sheet_text.specs.Outcome.{sheetOutcome, sheetRoom};
+ghost use Rattle.sheet_text.specs.Outcome.{sheetOutcome};
 use clock::Minute;
 use file_check::check;
 use file_layout::Checked;
@@ -27,82 +28,19 @@ use numbers::u16_at;
 use plan_whole::Planned;
 use planner::plan;
 use query::Query;
+use text::put_byte;
+use text::put_number;
+use text::put_text;
 use timetable::Row;
 
-// What came of a sheet: its text's length, or that the lent bytes are too few.
+// What came of a sheet: where its text ends, or that the lent bytes are too few.
 pub enum Sheeted {
-    Text { length: usize },
+    Text { end: usize },
     NoRoom,
 }
 
 // Enough for a first line and 2,000 rides.
 pub const SHEET_ROOM: usize = 174056;
-
-// The digits of a number: they stand from `start` to the end of the bytes.
-struct NumberText {
-    bytes: [u8; 20],
-    start: usize,
-}
-
-// The character of a digit.
-fn digit(number: usize) -> u8
-    requires { ⌜ number < 10 ⌝ }
-    ensures { λ r. ⌜ r ≡ digitOf number ⌝ }
-{
-    (48 + number) as u8
-}
-
-// A number in decimal, no zero ahead of it.
-fn number_text(n: usize) -> NumberText
-    ensures { λ r. ⌜ Digits n r ⌝ }
-{
-    let mut bytes = [b'0'; 20];
-    let mut at: usize = 19;
-    bytes[at] = digit(n % 10);
-    let mut left = n / 10;
-    while left > 0 {
-        at -= 1;
-        bytes[at] = digit(left % 10);
-        left /= 10;
-    }
-    NumberText { bytes, start: at }
-}
-
-// One character at `at`; where the next one goes.
-fn put_byte(out: &mut [u8], at: usize, byte: u8) -> usize
-    requires { ⌜ at < length (now out) ⌝ }
-    ensures { λ r. ⌜ Put (now (out .entry)) at (byte ∷ []) (now (out .exit)) r × (r ≡ at + 1) ⌝ }
-{
-    out[at] = byte;
-    at + 1
-}
-
-// The text from `from` on, written from `at` on; where the next one goes.
-fn put_text(out: &mut [u8], at: usize, text: &[u8], from: usize) -> usize
-    requires { ⌜ (from ≤ length (now text)) × (at + (length (now text) - from) ≤ length (now out)) ⌝ }
-    ensures { λ r. ⌜ Put (now (out .entry)) at
-        (drop from (now (text .entry)))
-        (now (out .exit)) r × (r ≡ at + (length (now (text .entry)) - from)) ⌝ }
-{
-    let mut next = at;
-    let mut i = from;
-    while i < text.len() {
-        out[next] = text[i];
-        next += 1;
-        i += 1;
-    }
-    next
-}
-
-fn put_number(out: &mut [u8], at: usize, n: usize) -> usize
-    requires { ⌜ at + numberWidth ≤ length (now out) ⌝ }
-    ensures { λ r. ⌜ Put (now (out .entry)) at (numberText n) (now (out .exit)) r × (r ≤ at + numberWidth) ⌝ }
-{
-    let text = number_text(n);
-    let bytes = text.bytes;
-    let start = text.start;
-    put_text(out, at, &bytes, start)
-}
 
 fn put_time(out: &mut [u8], at: usize, time: Minute) -> usize
     requires { ⌜ at + widest ≤ length (now out) ⌝ }
@@ -298,13 +236,13 @@ pub fn sheet(sailings: &[u8], query: &[u8], out: &mut [u8]) -> Sheeted
         classes: _,
     } = checked
     else {
-        let length = put_refused(out, refusal_of(checked));
-        return Sheeted::Text { length };
+        let end = put_refused(out, refusal_of(checked));
+        return Sheeted::Text { end };
     };
     if query.len() != 8 {
-        let length = put_refused(out, 6);
-        return Sheeted::Text { length };
+        let end = put_refused(out, 6);
+        return Sheeted::Text { end };
     }
-    let length = put_planned(sailings, query_in(query), out);
-    Sheeted::Text { length }
+    let end = put_planned(sailings, query_in(query), out);
+    Sheeted::Text { end }
 }

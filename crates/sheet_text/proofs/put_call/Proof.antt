@@ -3,7 +3,7 @@ use mathlib.Core.Path.{ap}
 use native.Mathlib.Omega.{arith}
 use Rattle.clock.specs.Text.{timeText}
 use Rattle.sheet_text.specs.Sheet.{callText}
-use Rattle.sheet_text.proofs.Putting.{put-more, put-as}
+use Rattle.text.proofs.Putting.{put-more, put-as}
 use borrow.Author.Needs.{needs}
 use Rattle.sheet_text.proofs.put_call.Statement.{statement}
 use Rattle.sheet_text.proofs.put_call.Tie as tie

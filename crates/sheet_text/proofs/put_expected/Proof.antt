@@ -2,7 +2,7 @@
 use mathlib.Core.Path.{ap}
 use native.Mathlib.Omega.{arith}
 use Rattle.clock.specs.Text.{timeText}
-use Rattle.sheet_text.proofs.Putting.{put-as}
+use Rattle.text.proofs.Putting.{put-as}
 use borrow.Author.Needs.{needs}
 use Rattle.sheet_text.proofs.put_expected.Statement.{statement}
 use Rattle.sheet_text.proofs.put_expected.Tie as tie

@@ -1,7 +1,7 @@
 -- `sheet_text::put_line` meets its contract: its texts one behind the other. Assumes nothing.
 use native.Mathlib.Omega.{arith}
 use Rattle.sheet_text.specs.Sheet.{lineText}
-use Rattle.sheet_text.proofs.Putting.{put-more}
+use Rattle.text.proofs.Putting.{put-more}
 use borrow.Author.Needs.{needs}
 use Rattle.sheet_text.proofs.put_line.Statement.{statement}
 use Rattle.sheet_text.proofs.put_line.Tie as tie

@@ -1,7 +1,7 @@
 -- `sheet_text::put_plan` meets its contract: the first line, then the rides' lines. Assumes nothing.
 use native.Mathlib.Omega.{arith}
 use borrow.Author.Needs.{needs}
-use Rattle.sheet_text.proofs.Putting.{put-more, put-length}
+use Rattle.text.proofs.Putting.{put-more, put-length}
 use Rattle.sheet_text.proofs.put_plan.Statement.{statement}
 use Rattle.sheet_text.proofs.put_plan.Tie as tie
 

@@ -8,7 +8,7 @@ use Rattle.file_layout.specs.Decode.{decode, headOf}
 use Rattle.file_layout.specs.Format.{versionOne}
 use Rattle.sheet_text.specs.Sheet.{firstText, refusedText}
 use Rattle.sheet_text.specs.Lines.{linesIn, RidesIn}
-use Rattle.sheet_text.proofs.Putting.{put-as}
+use Rattle.text.proofs.Putting.{put-as}
 use Rattle.sheet_text.proofs.Asked.{refusal-text, plan-inside, plan-lines}
 use borrow.Author.Needs.{needs}
 use Rattle.sheet_text.proofs.put_planned.Statement.{statement}

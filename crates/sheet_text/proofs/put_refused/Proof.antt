@@ -1,7 +1,7 @@
 -- `sheet_text::put_refused` meets its contract: its texts one behind the other. Assumes nothing.
 use native.Mathlib.Omega.{arith}
 use Rattle.sheet_text.specs.Sheet.{refusedText}
-use Rattle.sheet_text.proofs.Putting.{put-more}
+use Rattle.text.proofs.Putting.{put-more}
 use borrow.Author.Needs.{needs}
 use Rattle.sheet_text.proofs.put_refused.Statement.{statement}
 use Rattle.sheet_text.proofs.put_refused.Tie as tie

@@ -8,9 +8,9 @@ use lib.ListN.{length}
 use Rattle.timetable.specs.declared.Row.{Row}
 use Rattle.file_layout.specs.Decode.{decode}
 use Rattle.file_layout.specs.Format.{versionOne}
-use Rattle.sheet_text.specs.Put.{lineWidth}
+use Rattle.sheet_text.specs.Room.{lineWidth}
 use Rattle.sheet_text.specs.Lines.{linesIn}
-use Rattle.sheet_text.proofs.Putting.{Left, left-all, put-length}
+use Rattle.text.proofs.Putting.{Left, left-all, put-length}
 use Rattle.sheet_text.proofs.Lines.{line-read, lines-on, lines-end}
 use Rattle.sheet_text.proofs.put_rides.Statement.{statement}
 use Rattle.sheet_text.proofs.put_rides.Tie as tie

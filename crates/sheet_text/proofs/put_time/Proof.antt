@@ -1,6 +1,6 @@
 -- `sheet_text::put_time` meets its contract. Assumes nothing.
 use native.Mathlib.Omega.{arith}
-use Rattle.sheet_text.proofs.Putting.{put-as}
+use Rattle.text.proofs.Putting.{put-as}
 use Rattle.sheet_text.proofs.Times.{printed-text}
 use borrow.Author.Needs.{needs}
 use Rattle.sheet_text.proofs.put_time.Statement.{statement}

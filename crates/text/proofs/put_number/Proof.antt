@@ -1,9 +1,9 @@
--- `sheet_text::put_number` meets its contract. Assumes nothing.
+-- `text::put_number` meets its contract. Assumes nothing.
 use native.Mathlib.Omega.{arith}
-use Rattle.sheet_text.proofs.Putting.{put-as}
+use Rattle.text.proofs.Putting.{put-as}
 use borrow.Author.Needs.{needs}
-use Rattle.sheet_text.proofs.put_number.Statement.{statement}
-use Rattle.sheet_text.proofs.put_number.Tie as tie
+use Rattle.text.proofs.put_number.Statement.{statement}
+use Rattle.text.proofs.put_number.Tie as tie
 
 number-text-requires : tie.Need-number-text-requires
 number-text-requires c κs = search needs

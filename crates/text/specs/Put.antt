@@ -1,12 +1,11 @@
--- A text written into lent bytes: where it stands, where the next one goes, and how wide the sheet's texts get.
-use Prim.Native.Nat.{ℕ, _+_, _*_, _≤_}
+-- A text written into lent bytes: where it stands, and where the next one goes.
+use Prim.Native.Nat.{ℕ, _+_, _≤_}
 use mathlib.Core.List.{List}
 use mathlib.Core.Path.{_≡_}
 use lib.ListN.{length, drop}
 use lib.Seq.{sets}
-use Rattle.clock.specs.Text.{widest}
-use Rattle.sheet_text.specs.declared.NumberText.{NumberText}
-use Rattle.sheet_text.specs.Sheet.{numberText}
+use Rattle.text.specs.declared.NumberText.{NumberText}
+use Rattle.text.specs.Decimal.{numberText}
 
 -- the text went over the bytes from `at` on, and ends where `next` says
 pub record Put (out : List ℕ) (at : ℕ) (text after : List ℕ) (next : ℕ) : Type 0 where
@@ -16,14 +15,6 @@ pub record Put (out : List ℕ) (at : ℕ) (text after : List ℕ) (next : ℕ) 
 -- the characters of a number of 64 bits, at most
 abbrev pub numberWidth : ℕ
 numberWidth = 20
-
--- two stops, three times, four blanks and the line's end
-abbrev pub lineWidth : ℕ
-lineWidth = 2 * numberWidth + 3 * widest + 5
-
--- `plan`, a number, two times, three blanks and the line's end
-abbrev pub firstWidth : ℕ
-firstWidth = 4 + numberWidth + 2 * widest + 4
 
 -- the digits stand from `start` to the end of the bytes
 pub record Digits (n : ℕ) (text : NumberText) : Type 0 where

@@ -1,17 +1,20 @@
--- `sheet_text::number_text` meets its contract: the digits from the last to the first. Assumes nothing.
+-- `text::number_text` meets its contract: the digits from the last to the first. Assumes nothing.
 use native.Mathlib.Omega.{arith}
 use borrow.Author.Needs.{needs}
 use mathlib.Core.Path.{refl}
 use lib.ListN.{replicate}
-use Rattle.sheet_text.proofs.Digits.{Counted, counted-start, counted-on, counted-room, counted-end}
-use Rattle.sheet_text.proofs.number_text.Statement.{statement}
-use Rattle.sheet_text.proofs.number_text.Tie as tie
+use Rattle.text.proofs.Digits.{Counted, counted-start, counted-on, counted-room, counted-end}
+use Rattle.text.proofs.number_text.Statement.{statement}
+use Rattle.text.proofs.number_text.Tie as tie
 
 abbrev Inv-loop : tie.InvT-loop
 Inv-loop n bytes₀ at₀ left₀ bytes at left = Counted n bytes at left
 
 abbrev μ-loop : tie.MeasureT-loop
 μ-loop n bytes₀ at₀ left₀ bytes at left = left
+
+cast-digit : tie.Need-cast-digit Inv-loop μ-loop
+cast-digit c = omega arith
 
 digit-requires : tie.Need-digit-requires Inv-loop μ-loop
 digit-requires c κs = omega arith
@@ -24,6 +27,9 @@ loop-holds c = rw (c .digit .ensures) (counted-start (c .before .args .n) (repli
 
 sub-at : tie.Need-sub-at Inv-loop μ-loop
 sub-at c = counted-room (c .before .loop .inv) (omega arith)
+
+cast-digit-2 : tie.Need-cast-digit-2 Inv-loop μ-loop
+cast-digit-2 c = omega arith
 
 digit-requires-2 : tie.Need-digit-requires-2 Inv-loop μ-loop
 digit-requires-2 c κs = omega arith
@@ -46,10 +52,12 @@ number-text-spec =
     (tie.spec
     Inv-loop
     μ-loop
+    cast-digit
     digit-requires
     array-write-bytes
     loop-holds
     sub-at
+    cast-digit-2
     digit-requires-2
     array-write-bytes-2
     loop-less

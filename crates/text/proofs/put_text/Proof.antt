@@ -1,11 +1,11 @@
--- `sheet_text::put_text` meets its contract: what is still to be written makes the whole text. Assumes nothing.
+-- `text::put_text` meets its contract: what is still to be written makes the whole text. Assumes nothing.
 use Prim.Native.Nat.{_+_, _-_, _≤_, _<_}
 use mathlib.Core.Path.{_≡_}
 use native.Mathlib.Omega.{arith}
 use lib.ListN.{length, drop, length-set}
-use Rattle.sheet_text.proofs.Putting.{Left, left-all, text-on, text-end}
-use Rattle.sheet_text.proofs.put_text.Statement.{statement}
-use Rattle.sheet_text.proofs.put_text.Tie as tie
+use Rattle.text.proofs.Putting.{Left, left-all, text-on, text-end}
+use Rattle.text.proofs.put_text.Statement.{statement}
+use Rattle.text.proofs.put_text.Tie as tie
 
 abbrev Inv-loop : tie.InvT-loop
 Inv-loop out₀ at text from next₀ i₀ out next i =

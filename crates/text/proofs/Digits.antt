@@ -6,11 +6,10 @@ use native.Mathlib.Omega.{arith}
 use native.Mathlib.Nat.{pow-suc}
 use lib.ListN.{length, drop, set, length-set}
 use lib.Seq.{drop-cons, drop-length, drop-set-lt, getD-set-same}
-use Rattle.clock.specs.Text.{digitOf, decimal, digitsOnto}
-use Rattle.clock.proofs.Writing.{decimal-on, dropped}
-use Rattle.sheet_text.specs.declared.NumberText.{NumberText}
-use Rattle.sheet_text.specs.Sheet.{numberText}
-use Rattle.sheet_text.specs.Put.{Digits, numberWidth}
+use Rattle.text.specs.Decimal.{digitOf, decimal, numberText}
+use Rattle.text.proofs.Decimals.{decimal-on, decimal-nought}
+use Rattle.text.specs.declared.NumberText.{NumberText}
+use Rattle.text.specs.Put.{Digits, numberWidth}
 
 -- the digits of n from place `at` on, those of `left` still to write, and there is room for them
 pub record Counted (n : ℕ) (bytes : List ℕ) (at left : ℕ) : Type 0 where
@@ -63,11 +62,10 @@ counted-on {n} {bytes} (suc k) {left} w some =
 
 pub counted-end : {n : ℕ} {bytes : List ℕ} {at left : ℕ} → Counted n bytes at left → left ≤ 0
     → Digits n (record { bytes = bytes; start = at })
-unfolding decimal digitsOnto
 counted-end {n} {bytes} {at} {left} w none =
     let last : left ≡ 0 = omega arith in
     record {
-      says = ap (λ k. decimal k (drop at bytes)) (sym last) ∙ w .text;
+      says = sym (ap (λ k. decimal k (drop at bytes)) last ∙ decimal-nought (drop at bytes)) ∙ w .text;
       wide = w .wide;
       inside = omega (arith, w .inside);
     }

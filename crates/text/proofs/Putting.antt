@@ -7,7 +7,7 @@ use native.Mathlib.Numerals.{add-one}
 use native.Mathlib.Omega.{arith}
 use lib.ListN.{length, drop, getD, set, length-append}
 use lib.Seq.{sets, drop-cons, drop-length, length-sets}
-use Rattle.sheet_text.specs.Put.{Put}
+use Rattle.text.specs.Put.{Put}
 
 sets-append : (a b out : List ℕ) (at : ℕ) → sets out at (a ++ b) ≡ sets (sets out at a) (at + length a) b
 sets-append [] b out at = ap (λ k. sets out k b) (sym (add-zero at))
