@@ -9,31 +9,7 @@ beside each file by hand; the answers of a small check that follows document 01'
 import struct
 import sys
 
-ON_TIME = [4096]
-UP_TO_TEN = [2048, 0, 0, 0, 0, 1024, 0, 0, 0, 0, 1024]
-W_ROWS = [(0, 1, 600, 630, 0, 1), (1, 2, 632, 660, 1, 0), (1, 2, 636, 700, 2, 0), (1, 2, 650, 690, 3, 0)]
-
-
-def rows_bytes(rows):
-    return b"".join(struct.pack("<6H", *row) for row in rows)
-
-
-def table_bytes(shares, longest=None):
-    return struct.pack("<H", len(shares) - 1 if longest is None else longest) + struct.pack(f"<{len(shares)}H", *shares)
-
-
-def trailer(stops, rows, classes, row_offset, table_offset, version=1):
-    return struct.pack("<4H2I", version, stops, rows, classes, row_offset, table_offset)
-
-
-def packed(rows=W_ROWS, tables=(ON_TIME, UP_TO_TEN), stops=3, rows_first=True, version=1, count=None, classes=None):
-    sailings = rows_bytes(rows)
-    delays = b"".join(table_bytes(shares) for shares in tables)
-    count = len(rows) if count is None else count
-    classes = len(tables) if classes is None else classes
-    if rows_first:
-        return sailings + delays + trailer(stops, count, classes, 0, len(sailings), version)
-    return delays + sailings + trailer(stops, count, classes, len(delays), 0, version)
+from sailing_file import ON_TIME, UP_TO_TEN, W_ROWS, rows_bytes, sailing_file, table_bytes, tables_bytes, trailer, w_rows_with
 
 
 def number(data, at, size):
@@ -85,11 +61,7 @@ def check(data):
 
 def with_row(place, **changed):
     """W with numbers of one row changed."""
-    names = ("board", "land", "departure", "arrival", "trip", "kind")
-    rows = [list(row) for row in W_ROWS]
-    for name, value in changed.items():
-        rows[place][names.index(name)] = value
-    return packed([tuple(row) for row in rows])
+    return sailing_file(w_rows_with(place, **changed))
 
 
 def steady(count, stops=2):
@@ -99,61 +71,61 @@ def steady(count, stops=2):
 
 def cut_classes(length, table_offset, classes=2, stops=3):
     """Class blocks that end where the trailer starts, cut to `length` bytes."""
-    delays = (table_bytes(ON_TIME) + table_bytes(UP_TO_TEN))[:length]
+    delays = (tables_bytes((ON_TIME, UP_TO_TEN)))[:length]
     return delays + trailer(stops, 0, classes, 0, table_offset)
 
 
 def cases():
     sound_w = "sound 3 4 2"
     # W, rows first and tables first
-    yield packed(), sound_w
-    yield packed(rows_first=False), sound_w
+    yield sailing_file(), sound_w
+    yield sailing_file(rows_first=False), sound_w
     # file lengths 0, 15, 16, 19, 20, 27,920 and 27,921
     yield b"", "refused 1 0"
     yield b"\0" * 15, "refused 1 0"
     yield trailer(2, 0, 1, 0, 0), "refused 1 0"
     yield b"\0" * 3 + trailer(2, 0, 1, 0, 0), "refused 1 0"
-    yield packed([], [ON_TIME], stops=2), "sound 2 0 1"
+    yield sailing_file([], [ON_TIME], stops=2), "sound 2 0 1"
     full = [[1] * 120 + [3976]] * 16
-    most = packed(steady(2000), full, stops=2)
+    most = sailing_file(steady(2000), full, stops=2)
     assert len(most) == 27920
     yield most, "sound 2 2000 16"
-    yield packed(steady(2000), full, stops=2, rows_first=False), "sound 2 2000 16"
+    yield sailing_file(steady(2000), full, stops=2, rows_first=False), "sound 2 2000 16"
     yield b"\0" + most, "refused 1 0"
     yield most[:-17] + b"\0\0" + most[-16:], "refused 1 0"
     # version 0, 1, 2
-    yield packed(version=0), "refused 1 0"
-    yield packed(version=2), "refused 1 0"
-    yield packed(version=257), "refused 1 0"
+    yield sailing_file(version=0), "refused 1 0"
+    yield sailing_file(version=2), "refused 1 0"
+    yield sailing_file(version=257), "refused 1 0"
     # S 1, 2, 200, 201
-    yield packed([], [ON_TIME], stops=1), "refused 1 0"
-    yield packed([], [ON_TIME], stops=0), "refused 1 0"
-    yield packed([], [ON_TIME], stops=200), "sound 200 0 1"
-    yield packed([], [ON_TIME], stops=201), "refused 1 0"
+    yield sailing_file([], [ON_TIME], stops=1), "refused 1 0"
+    yield sailing_file([], [ON_TIME], stops=0), "refused 1 0"
+    yield sailing_file([], [ON_TIME], stops=200), "sound 200 0 1"
+    yield sailing_file([], [ON_TIME], stops=201), "refused 1 0"
     # n 0 in both joinings, 2,000, 2,001
     yield table_bytes(ON_TIME) + trailer(2, 0, 1, 0, 0), "sound 2 0 1"
     yield table_bytes(ON_TIME) + trailer(2, 0, 1, 4, 0), "sound 2 0 1"
-    yield packed(steady(2000), [ON_TIME], stops=2), "sound 2 2000 1"
-    yield packed(steady(2001), [ON_TIME], stops=2), "refused 1 0"
+    yield sailing_file(steady(2000), [ON_TIME], stops=2), "sound 2 2000 1"
+    yield sailing_file(steady(2001), [ON_TIME], stops=2), "refused 1 0"
     # K 0, 1, 16, 17
-    yield packed([], [ON_TIME], stops=2, classes=0), "refused 1 0"
-    yield packed([], [ON_TIME] * 16, stops=2), "sound 2 0 16"
-    yield packed([], [ON_TIME] * 17, stops=2), "refused 1 0"
+    yield sailing_file([], [ON_TIME], stops=2, classes=0), "refused 1 0"
+    yield sailing_file([], [ON_TIME] * 16, stops=2), "sound 2 0 16"
+    yield sailing_file([], [ON_TIME] * 17, stops=2), "refused 1 0"
     # M 0, 120, 121
-    yield packed([], [[0] * 120 + [4096]], stops=2), "sound 2 0 1"
-    yield packed([], [[0] * 121 + [4096]], stops=2), "refused 3 0"
-    yield packed([], [ON_TIME, [0] * 121 + [4096]], stops=2), "refused 3 1"
+    yield sailing_file([], [[0] * 120 + [4096]], stops=2), "sound 2 0 1"
+    yield sailing_file([], [[0] * 121 + [4096]], stops=2), "refused 3 0"
+    yield sailing_file([], [ON_TIME, [0] * 121 + [4096]], stops=2), "refused 3 1"
     yield table_bytes(ON_TIME, 65535) + trailer(2, 0, 1, 0, 0), "refused 3 0"
     # sums 4,095, 4,096, 4,097; a sum that is right only in 16 bits; last share 0
-    yield packed([], [[4095]], stops=2), "refused 3 0"
-    yield packed([], [[4097]], stops=2), "refused 3 0"
-    yield packed([], [[1, 4095]], stops=2), "sound 2 0 1"
-    yield packed([], [[1, 4094]], stops=2), "refused 3 0"
-    yield packed([], [[2, 4095]], stops=2), "refused 3 0"
-    yield packed([], [[65535, 4097]], stops=2), "refused 3 0"
-    yield packed([], [[4096, 0]], stops=2), "refused 3 0"
-    yield packed([], [[0, 4096]], stops=2), "sound 2 0 1"
-    yield packed([], [ON_TIME, ON_TIME, [4096, 0]], stops=2), "refused 3 2"
+    yield sailing_file([], [[4095]], stops=2), "refused 3 0"
+    yield sailing_file([], [[4097]], stops=2), "refused 3 0"
+    yield sailing_file([], [[1, 4095]], stops=2), "sound 2 0 1"
+    yield sailing_file([], [[1, 4094]], stops=2), "refused 3 0"
+    yield sailing_file([], [[2, 4095]], stops=2), "refused 3 0"
+    yield sailing_file([], [[65535, 4097]], stops=2), "refused 3 0"
+    yield sailing_file([], [[4096, 0]], stops=2), "refused 3 0"
+    yield sailing_file([], [[0, 4096]], stops=2), "sound 2 0 1"
+    yield sailing_file([], [ON_TIME, ON_TIME, [4096, 0]], stops=2), "refused 3 2"
     # each rule of a row about itself, broken alone, at both sides
     yield with_row(0, board=3), "refused 4 0"
     yield with_row(3, land=3), "refused 4 3"
@@ -172,19 +144,19 @@ def cases():
     yield with_row(2, departure=632), sound_w
     yield with_row(2, departure=631), "refused 5 2"
     # trips: lands where the next row boards, no later than it departs
-    yield packed([(0, 1, 600, 620, 0, 1), (1, 2, 625, 660, 0, 1)]), "sound 3 2 2"
-    yield packed([(0, 1, 600, 620, 0, 1), (1, 2, 620, 660, 0, 1)]), "sound 3 2 2"
-    yield packed([(0, 1, 600, 620, 0, 1), (1, 2, 619, 660, 0, 1)]), "refused 5 1"
-    yield packed([(0, 1, 600, 620, 0, 1), (0, 2, 625, 660, 0, 1)]), "refused 5 1"
+    yield sailing_file([(0, 1, 600, 620, 0, 1), (1, 2, 625, 660, 0, 1)]), "sound 3 2 2"
+    yield sailing_file([(0, 1, 600, 620, 0, 1), (1, 2, 620, 660, 0, 1)]), "sound 3 2 2"
+    yield sailing_file([(0, 1, 600, 620, 0, 1), (1, 2, 619, 660, 0, 1)]), "refused 5 1"
+    yield sailing_file([(0, 1, 600, 620, 0, 1), (0, 2, 625, 660, 0, 1)]), "refused 5 1"
     # the nearest earlier row of the trip decides, not a further one
     hop = (0, 1, 600, 610, 7, 0)
     back = (1, 0, 610, 620, 7, 0)
-    yield packed([hop, back, (0, 1, 620, 630, 7, 0)]), "sound 3 3 2"
-    yield packed([hop, back, (1, 2, 620, 630, 7, 0)]), "refused 5 2"
-    yield packed([hop, (1, 2, 605, 606, 8, 0), back]), "sound 3 3 2"
-    yield packed([hop, (1, 2, 605, 606, 8, 0), (2, 0, 610, 620, 7, 0)]), "refused 5 2"
+    yield sailing_file([hop, back, (0, 1, 620, 630, 7, 0)]), "sound 3 3 2"
+    yield sailing_file([hop, back, (1, 2, 620, 630, 7, 0)]), "refused 5 2"
+    yield sailing_file([hop, (1, 2, 605, 606, 8, 0), back]), "sound 3 3 2"
+    yield sailing_file([hop, (1, 2, 605, 606, 8, 0), (2, 0, 610, 620, 7, 0)]), "refused 5 2"
     # offsets that overlap, leave a gap, run past the end, or are near 2^32
-    body = rows_bytes(W_ROWS) + table_bytes(ON_TIME) + table_bytes(UP_TO_TEN)
+    body = rows_bytes(W_ROWS) + tables_bytes((ON_TIME, UP_TO_TEN))
     yield body + trailer(3, 4, 2, 0, 47), "refused 3 0"
     yield body + trailer(3, 4, 2, 12, 48), "refused 2 0"
     yield body + trailer(3, 3, 2, 0, 48), "refused 2 0"
@@ -197,7 +169,7 @@ def cases():
     yield body + trailer(3, 4, 2, 0, 2**32 - 2), "refused 2 0"
     yield body + trailer(3, 4, 2, 2**32 - 48, 48), "refused 2 0"
     yield body + trailer(3, 4, 2, 2**32 - 1, 48), "refused 2 0"
-    other = table_bytes(ON_TIME) + table_bytes(UP_TO_TEN) + rows_bytes(W_ROWS)
+    other = tables_bytes((ON_TIME, UP_TO_TEN)) + rows_bytes(W_ROWS)
     yield other + trailer(3, 4, 2, 28, 0), sound_w
     yield other + trailer(3, 4, 2, 27, 0), "refused 2 0"
     yield other + trailer(3, 4, 2, 40, 0), "refused 2 0"
@@ -210,8 +182,8 @@ def cases():
         if length >= at:
             yield cut_classes(length, at), "refused 2 0" if (length - at) < 24 else "sound 3 0 2"
     # refusals that compete: the order is 1; 2, 3, 2, 3 class by class; joining 2; row by row, 4 before 5
-    yield packed([], [[4095]], stops=1), "refused 1 0"
-    yield packed([(0, 0, 5, 5, 0, 0)], [[4095]], stops=3), "refused 3 0"
+    yield sailing_file([], [[4095]], stops=1), "refused 1 0"
+    yield sailing_file([(0, 0, 5, 5, 0, 0)], [[4095]], stops=3), "refused 3 0"
     yield body + trailer(3, 4, 3, 0, 48), "refused 2 0"
     bad_then_cut = table_bytes([4095]) + table_bytes(UP_TO_TEN)[:3]
     yield bad_then_cut + trailer(3, 0, 2, 0, 0), "refused 3 0"
@@ -219,17 +191,17 @@ def cases():
     yield table_bytes([4096], 120) + trailer(3, 0, 1, 0, 0), "refused 2 0"
     yield rows_bytes([(0, 0, 5, 5, 0, 0)]) + table_bytes([4095]) + trailer(3, 1, 1, 1, 12), "refused 3 0"
     yield rows_bytes([(0, 0, 5, 5, 0, 0)]) + table_bytes(ON_TIME) + trailer(3, 1, 1, 1, 12), "refused 2 0"
-    yield packed([(0, 1, 600, 630, 0, 0), (1, 1, 599, 590, 0, 0)], [ON_TIME]), "refused 4 1"
-    yield packed([(0, 1, 600, 630, 0, 0), (1, 2, 599, 640, 1, 0), (0, 0, 1, 1, 0, 0)], [ON_TIME]), "refused 5 1"
-    yield packed([(0, 0, 600, 630, 0, 0), (1, 2, 599, 640, 1, 0)], [ON_TIME]), "refused 4 0"
+    yield sailing_file([(0, 1, 600, 630, 0, 0), (1, 1, 599, 590, 0, 0)], [ON_TIME]), "refused 4 1"
+    yield sailing_file([(0, 1, 600, 630, 0, 0), (1, 2, 599, 640, 1, 0), (0, 0, 1, 1, 0, 0)], [ON_TIME]), "refused 5 1"
+    yield sailing_file([(0, 0, 600, 630, 0, 0), (1, 2, 599, 640, 1, 0)], [ON_TIME]), "refused 4 0"
     # the last of 2,000 rows
     late = steady(2000)
     late[1999] = (0, 0, 1999, 2000, 1999, 0)
-    yield packed(late, [ON_TIME], stops=2), "refused 4 1999"
+    yield sailing_file(late, [ON_TIME], stops=2), "refused 4 1999"
     late[1999] = (0, 1, 1997, 2000, 1999, 0)
-    yield packed(late, [ON_TIME], stops=2), "refused 5 1999"
+    yield sailing_file(late, [ON_TIME], stops=2), "refused 5 1999"
     late[1999] = (0, 1, 1999, 2000, 0, 0)
-    yield packed(late, [ON_TIME], stops=2), "refused 5 1999"
+    yield sailing_file(late, [ON_TIME], stops=2), "refused 5 1999"
 
 
 def main():

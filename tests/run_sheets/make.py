@@ -10,11 +10,10 @@ out by its own rule.
 import struct
 import sys
 
-ON_TIME = [4096]
-UP_TO_TEN = [2048, 0, 0, 0, 0, 1024, 0, 0, 0, 0, 1024]
+from sailing_file import ON_TIME, W_ROWS, query_bytes, sailing_file, time, w_rows_with
+
 ALWAYS_LATE = [0] * 120 + [4096]
 SELDOM_LATE = [4095, 1]
-W_ROWS = [(0, 1, 600, 630, 0, 1), (1, 2, 632, 660, 1, 0), (1, 2, 636, 700, 2, 0), (1, 2, 650, 690, 3, 0)]
 W_SHEET = """plan 3 d1 11:15 d1 11:30
 0 d1 10:00 1 d1 10:30 d1 11:15
 1 d1 10:32 2 d1 11:00 d1 11:00
@@ -22,29 +21,8 @@ W_SHEET = """plan 3 d1 11:15 d1 11:30
 """
 
 
-def table(shares):
-    return struct.pack(f"<{len(shares) + 1}H", len(shares) - 1, *shares)
-
-
-def sailings(rows=W_ROWS, tables=(ON_TIME, UP_TO_TEN), stops=3, tables_first=False):
-    rows_bytes = b"".join(struct.pack("<6H", *row) for row in rows)
-    tables_bytes = b"".join(table(shares) for shares in tables)
-    numbers = (1, stops, len(rows), len(tables))
-    if tables_first:
-        return tables_bytes + rows_bytes + struct.pack("<4H2I", *numbers, len(tables_bytes), 0)
-    return rows_bytes + tables_bytes + struct.pack("<4H2I", *numbers, 0, len(rows_bytes))
-
-
-def query(source, target, minute, code):
-    return struct.pack("<4H", source, target, minute, code)
-
-
 def refused(number):
     return f"refused {number}\n"
-
-
-def time(minute):
-    return f"d{minute // 1440 + 1} {minute % 1440 // 60:02}:{minute % 60:02}"
 
 
 def long_plan():
@@ -69,32 +47,23 @@ def long_plan():
     for start, end, departs, arrives in boats:
         lines.append(f"{start} {time(departs)} {end} {time(arrives)} {time(-(-worth[start, departs] // 256))}")
     late = [4095] + [0] * 119 + [1]
-    return sailings(rows, (ON_TIME, late), 4), query(0, 3, 0, 0), "\n".join(lines) + "\n"
+    return sailing_file(rows, (ON_TIME, late), 4), query_bytes(0, 3, 0, 0), "\n".join(lines) + "\n"
 
 
-def with_row(place, **changes):
-    names = ("board", "land", "departure", "arrival", "trip", "class_")
-    rows = list(W_ROWS)
-    row = dict(zip(names, rows[place]))
-    row.update(changes)
-    rows[place] = tuple(row[name] for name in names)
-    return rows
-
-
-W = sailings()
-ASK = query(0, 2, 590, 0)
+W = sailing_file()
+ASK = query_bytes()
 CASES = [
     # W as document 01 prints it; within a bound of 4 and of 5 quarters; tables ahead of rows; asked at 600 and at 601
     (W, ASK, W_SHEET),
-    (W, query(0, 2, 590, 4), W_SHEET),
-    (W, query(0, 2, 590, 5), W_SHEET),
-    (sailings(tables_first=True), ASK, W_SHEET),
-    (W, query(0, 2, 600, 0), W_SHEET),
-    (W, query(0, 2, 601, 0), refused(8)),
+    (W, query_bytes(0, 2, 590, 4), W_SHEET),
+    (W, query_bytes(0, 2, 590, 5), W_SHEET),
+    (sailing_file(rows_first=False), ASK, W_SHEET),
+    (W, query_bytes(0, 2, 600, 0), W_SHEET),
+    (W, query_bytes(0, 2, 601, 0), refused(8)),
     # row 3 departing at 640 and at 639; a second row like row 3
-    (sailings(with_row(3, departure=640)), ASK, W_SHEET.replace("10:50", "10:40")),
-    (sailings(with_row(3, departure=639)), ASK, refused(8)),
-    (sailings(W_ROWS + [(1, 2, 650, 690, 4, 0)]), ASK, W_SHEET),
+    (sailing_file(w_rows_with(3, departure=640)), ASK, W_SHEET.replace("10:50", "10:40")),
+    (sailing_file(w_rows_with(3, departure=639)), ASK, refused(8)),
+    (sailing_file(W_ROWS + [(1, 2, 650, 690, 4, 0)]), ASK, W_SHEET),
     # no files; no query; a file of 19 bytes and one of 27,921 that ends like a sound one
     (b"", b"", refused(1)),
     (b"", ASK, refused(1)),
@@ -104,58 +73,58 @@ CASES = [
     # tables past the trailer's start, or a gap ahead of it; a sum of 4,095, and M 121; equal stops, and class 2; departures that fall
     (W[:-4] + struct.pack("<I", len(W) - 16), ASK, refused(2)),
     (W[:-16] + bytes(2) + W[-16:], ASK, refused(2)),
-    (sailings(tables=(ON_TIME, [4095])), ASK, refused(3)),
-    (sailings(tables=(ON_TIME, [0] * 121 + [4096])), ASK, refused(3)),
-    (sailings(with_row(2, board=2)), ASK, refused(4)),
-    (sailings(with_row(0, class_=2)), ASK, refused(4)),
-    (sailings(with_row(3, departure=635)), ASK, refused(5)),
+    (sailing_file(tables=(ON_TIME, [4095])), ASK, refused(3)),
+    (sailing_file(tables=(ON_TIME, [0] * 121 + [4096])), ASK, refused(3)),
+    (sailing_file(w_rows_with(2, board=2)), ASK, refused(4)),
+    (sailing_file(w_rows_with(0, kind=2)), ASK, refused(4)),
+    (sailing_file(w_rows_with(3, departure=635)), ASK, refused(5)),
     # a trip that boards where it did not land; a row's own fault behind it does not count, ahead of it does
-    (sailings(with_row(2, trip=1)), ASK, refused(5)),
-    (sailings(with_row(0, land=0)[:2] + with_row(2, trip=1)[2:]), ASK, refused(4)),
+    (sailing_file(w_rows_with(2, trip=1)), ASK, refused(5)),
+    (sailing_file(w_rows_with(0, land=0)[:2] + w_rows_with(2, trip=1)[2:]), ASK, refused(4)),
     # queries: one stop, stops not below 3, T 10,080, codes 3 and 17, 7 and 9 and 16 bytes; the file's own refusal first
-    (W, query(2, 2, 590, 0), refused(6)),
-    (W, query(3, 2, 590, 0), refused(6)),
-    (W, query(0, 3, 590, 0), refused(6)),
-    (W, query(0, 2, 10080, 0), refused(6)),
-    (W, query(0, 2, 590, 3), refused(6)),
-    (W, query(0, 2, 590, 17), refused(6)),
+    (W, query_bytes(2, 2, 590, 0), refused(6)),
+    (W, query_bytes(3, 2, 590, 0), refused(6)),
+    (W, query_bytes(0, 3, 590, 0), refused(6)),
+    (W, query_bytes(0, 2, 10080, 0), refused(6)),
+    (W, query_bytes(0, 2, 590, 3), refused(6)),
+    (W, query_bytes(0, 2, 590, 17), refused(6)),
     (W, ASK[:7], refused(6)),
     (W, ASK + b"\0", refused(6)),
     (W, ASK + ASK, refused(6)),
-    (sailings(with_row(2, board=2)), b"", refused(4)),
+    (sailing_file(w_rows_with(2, board=2)), b"", refused(4)),
     # no rows: no journey, and a wrong query first
-    (sailings([]), ASK, refused(8)),
-    (sailings([]), query(0, 0, 590, 0), refused(6)),
+    (sailing_file([]), ASK, refused(8)),
+    (sailing_file([]), query_bytes(0, 0, 590, 0), refused(6)),
     # the first minute and the last: a boat in the night's first minute, and one that lands on day 8
     (
-        sailings([(0, 1, 0, 1, 0, 0)], (ON_TIME,)),
-        query(0, 1, 0, 0),
+        sailing_file([(0, 1, 0, 1, 0, 0)], (ON_TIME,)),
+        query_bytes(0, 1, 0, 0),
         "plan 1 d1 00:01 d1 00:01\n0 d1 00:00 1 d1 00:01 d1 00:01\n",
     ),
     (
-        sailings([(0, 1, 10078, 10079, 0, 0)], (ALWAYS_LATE,)),
-        query(0, 1, 10078, 0),
+        sailing_file([(0, 1, 10078, 10079, 0, 0)], (ALWAYS_LATE,)),
+        query_bytes(0, 1, 10078, 0),
         "plan 1 d8 01:59 d8 01:59\n0 d7 23:58 1 d7 23:59 d8 01:59\n",
     ),
     (
-        sailings([(0, 1, 1439, 1440, 0, 0)], (ON_TIME,)),
-        query(0, 1, 1439, 16),
+        sailing_file([(0, 1, 1439, 1440, 0, 0)], (ON_TIME,)),
+        query_bytes(0, 1, 1439, 16),
         "plan 1 d2 00:00 d2 00:00\n0 d1 23:59 1 d2 00:00 d2 00:00\n",
     ),
     # one tick above 10 minutes is 11; one ride over two rows; stops of one, two and three digits
     (
-        sailings([(0, 2, 5, 10, 0, 0)], (SELDOM_LATE,)),
-        query(0, 2, 0, 0),
+        sailing_file([(0, 2, 5, 10, 0, 0)], (SELDOM_LATE,)),
+        query_bytes(0, 2, 0, 0),
         "plan 1 d1 00:11 d1 00:11\n0 d1 00:05 2 d1 00:10 d1 00:11\n",
     ),
     (
-        sailings([(0, 1, 600, 620, 0, 1), (1, 2, 625, 660, 0, 1)]),
+        sailing_file([(0, 1, 600, 620, 0, 1), (1, 2, 625, 660, 0, 1)]),
         ASK,
         "plan 1 d1 11:04 d1 11:10\n0 d1 10:00 2 d1 11:00 d1 11:04\n",
     ),
     (
-        sailings([(199, 10, 60, 61, 1999, 0), (10, 9, 61, 62, 7, 0), (9, 100, 62, 63, 8, 0)], (ON_TIME,), 200),
-        query(199, 100, 60, 4),
+        sailing_file([(199, 10, 60, 61, 1999, 0), (10, 9, 61, 62, 7, 0), (9, 100, 62, 63, 8, 0)], (ON_TIME,), 200),
+        query_bytes(199, 100, 60, 4),
         "plan 3 d1 01:03 d1 01:03\n199 d1 01:00 10 d1 01:01 d1 01:03\n10 d1 01:01 9 d1 01:02 d1 01:03\n9 d1 01:02 100 d1 01:03 d1 01:03\n",
     ),
     long_plan(),
