@@ -1,0 +1,184 @@
+"""Runs `sheet` and `explain` on files that document 01 draws lines between, and compares all that they print.
+
+usage: programs.py FOLDER
+
+What must be printed is written beside each case, from document 01; that of the longest sheet is counted out by its own rule.
+"""
+import pathlib
+import subprocess
+import sys
+import tempfile
+
+from sailing_file import query_bytes, sailing_file, time
+
+W = sailing_file()
+ASK = query_bytes()
+W_SHEET = """plan 3 d1 11:15 d1 11:30
+0 d1 10:00 1 d1 10:30 d1 11:15
+1 d1 10:32 2 d1 11:00 d1 11:00
+1 d1 10:50 2 d1 11:30 d1 11:30
+"""
+W_WORDS = """The file is sound. Stops: 3. Rows: 4. Classes: 2.
+Rides in the plan: 3. Expected arrival: d1 11:15. Latest: d1 11:30.
+From stop 0 take the d1 10:00 (trip 0) to stop 1, due at d1 10:30.
+Landing at stop 1 by d1 10:32, take the d1 10:32 (trip 1) to stop 2, due at d1 11:00; by d1 10:50, take the d1 10:50 (trip 3) to stop 2, due at d1 11:30.
+"""
+
+MISSING, FOLDER = None, "a folder"
+LATE = 120
+SHARES = [3976] + [1] * LATE
+MEAN_TICKS = -(-sum(late * share for late, share in enumerate(SHARES)) // 16)
+SOURCE, TARGET = 199, 190
+
+
+def longest_boats():
+    """2,000 boats that are all needed, from three-digit stops, as (boarding stop, landing stop, departure, arrival).
+
+    Every boat takes a minute and is up to 120 late, so one that lands from minute a to b needs the next stop's boats of each minute
+    from a to b + 120. From 199 one boat, from 198, 197, 196 and 195 the boats of all landings; so 601 would be from 194, of which the
+    last 74 go by 193 and its 194 boats, and the others straight to 190.
+    """
+    boats = [(199, 198, 0, 1)]
+    first, last = 1, 1 + LATE
+    for stop in (198, 197, 196, 195):
+        boats += [(stop, stop - 1, minute, minute + 1) for minute in range(first, last + 1)]
+        first, last = first + 1, last + 1 + LATE
+    changing = last - 73
+    boats += [(194, TARGET if minute < changing else 193, minute, minute + 1) for minute in range(first, last + 1)]
+    boats += [(193, TARGET, minute, minute + 1) for minute in range(changing + 1, last + 1 + LATE + 1)]
+    return sorted(boats, key=lambda boat: boat[2])
+
+
+def worths(boats):
+    """Document 01's worth of each boat, by its stop and minute: each is the only one from its stop in its minute."""
+    worth = {}
+    for start, end, departs, arrives in reversed(boats):
+        if end == TARGET:
+            worth[start, departs] = 256 * arrives + MEAN_TICKS
+        else:
+            weighed = sum(share * worth[end, arrives + late] for late, share in enumerate(SHARES))
+            worth[start, departs] = -(-weighed // 4096)
+    return worth
+
+
+def longest_sheet(boats):
+    worth = worths(boats)
+    expected = {boat: time(-(-worth[boat[0], boat[2]] // 256)) for boat in boats}
+    latest = max(arrives + LATE for _, _, _, arrives in boats)
+    yield f"plan {len(boats)} {expected[boats[0]]} {time(latest)}\n"
+    for boat in boats:
+        start, end, departs, arrives = boat
+        yield f"{start} {time(departs)} {end} {time(arrives)} {expected[boat]}\n"
+
+
+def longest_words(boats):
+    worth = worths(boats)
+    latest = max(arrives + LATE for _, _, _, arrives in boats)
+    yield f"The file is sound. Stops: 200. Rows: {len(boats)}. Classes: 16.\n"
+    yield f"Rides in the plan: {len(boats)}. Expected arrival: {time(-(-worth[SOURCE, 0] // 256))}. Latest: {time(latest)}.\n"
+    take = [f" take the {time(boat[2])} (trip {trip}) to stop {boat[1]}, due at {time(boat[3])}" for trip, boat in enumerate(boats)]
+    yield f"From stop {SOURCE}{take[0]}.\n"
+    for stop in range(200):
+        choices = [f" by {time(boat[2])},{take[trip]}" for trip, boat in enumerate(boats) if trip > 0 and boat[0] == stop]
+        if choices:
+            yield f"Landing at stop {stop}{';'.join(choices)}.\n"
+
+
+def longest():
+    """The longest file, its query, and what the two programs say of it."""
+    boats = longest_boats()
+    assert len(boats) == 2000
+    file = sailing_file([(*boat, trip, 0) for trip, boat in enumerate(boats)], [SHARES] * 16, 200)
+    assert len(file) == 27920
+    sheet, words = "".join(longest_sheet(boats)), "".join(longest_words(boats))
+    assert len(sheet) == 70028
+    return file, query_bytes(SOURCE, TARGET, 0, 0), sheet, words
+
+
+def length_refused(length):
+    return f"refused 1\nThe file length is {length}, but it must be 20 to 27920.\n"
+
+
+def query_refused(length):
+    return f"The file is sound. Stops: 3. Rows: 4. Classes: 2.\nrefused 6\nThe query has {length} bytes, not 8; a missing file counts as empty.\n"
+
+
+def cases():
+    """What the case is, the files `sailings` and `query`, the sheet, and the words (None: only the first line, that of the refusal)."""
+    none = "refused 1\nThe file sailings is missing or empty.\n"
+    yield "W", W, ASK, W_SHEET, W_WORDS
+    yield "both files missing", MISSING, MISSING, "refused 1\n", none
+    yield "sailings missing", MISSING, ASK, "refused 1\n", none
+    yield "sailings empty", b"", ASK, "refused 1\n", none
+    yield "sailings a folder", FOLDER, ASK, "refused 1\n", None
+    yield "both a folder", FOLDER, FOLDER, "refused 1\n", None
+    yield "query missing", W, MISSING, "refused 6\n", query_refused(0)
+    yield "query empty", W, b"", "refused 6\n", query_refused(0)
+    yield "query a folder", W, FOLDER, "refused 6\n", None
+    # one byte ahead moves the sections away from their offsets: class 0 then has a share of 0; one behind moves the trailer
+    yield "a byte ahead of W", b"\0" + W, ASK, "refused 3\n", "refused 3\nClass 0: the shares sum to 0, not 4096.\n"
+    yield "a byte behind W", W + b"\0", ASK, "refused 1\n", None
+    yield "query of 7 bytes", W, ASK[:7], "refused 6\n", query_refused(7)
+    yield "query of 9 bytes", W, ASK + b"\0", "refused 6\n", query_refused(9)
+    yield "query of 16 bytes", W, ASK + ASK, "refused 6\n", query_refused(16)
+    yield "query of 17 bytes", W, ASK + ASK + b"\0", "refused 6\n", None
+    yield "query of 1,000 bytes", W, ASK * 125, "refused 6\n", None
+    # a wrong file before a wrong query
+    yield "both too short", W[-19:], ASK[:7], "refused 1\n", length_refused(19)
+    file, ask, sheet, words = longest()
+    yield "27,920 bytes, 2,000 rides", file, ask, sheet, words
+    yield "27,921 bytes, the first 27,920 sound", file + b"\0", ask, "refused 1\n", length_refused(27921)
+    yield "27,921 bytes, the last 27,920 sound", b"\0" + file, ask, "refused 1\n", length_refused(27921)
+    yield "28,000 bytes, the first 27,920 sound", file + bytes(80), ask, "refused 1\n", length_refused(28000)
+    yield "28,001 bytes, the first 27,920 sound", file + bytes(81), ask, "refused 1\n", None
+    yield "5,000,000 bytes, the first 27,920 sound", file + bytes(4972080), ask, "refused 1\n", None
+    yield "27,920 bytes, a query of 9", file, ask + b"\0", "refused 6\n", None
+
+
+def lay(path, content):
+    if content == FOLDER:
+        path.mkdir()
+    elif content is not MISSING:
+        path.write_bytes(content)
+
+
+def printed(program, sailings, query):
+    with tempfile.TemporaryDirectory() as folder:
+        lay(pathlib.Path(folder, "sailings"), sailings)
+        lay(pathlib.Path(folder, "query"), query)
+        ended = subprocess.run([program], cwd=folder, stdin=subprocess.DEVNULL, capture_output=True, timeout=60)
+    if ended.returncode != 0 or ended.stderr:
+        return f"ended with {ended.returncode}: {ended.stderr.decode(errors='replace')}"
+    return ended.stdout.decode(errors="replace")
+
+
+def refusal(words):
+    """The line that says `refused`, of words that end with a whole line."""
+    lines = [line for line in words.splitlines(keepends=True) if line.startswith("refused ")]
+    return lines[0] if len(lines) == 1 and words.endswith("\n") else words
+
+
+def differs(case, program, wanted, found):
+    if wanted == found:
+        return False
+    at = next((k for k, (a, b) in enumerate(zip(wanted, found)) if a != b), min(len(wanted), len(found)))
+    print(f"{program}, {case}: differs from byte {at} on of {len(wanted)}: {found[at:at + 60]!r} instead of {wanted[at:at + 60]!r}")
+    return True
+
+
+def main():
+    programs = pathlib.Path(sys.argv[1]).resolve()
+    failed = count = 0
+    for case, sailings, query, sheet, words in cases():
+        count += 1
+        failed += differs(case, "sheet", sheet, printed(programs / "sheet", sailings, query))
+        found = printed(programs / "explain", sailings, query)
+        if words is None:
+            failed += differs(case, "explain", sheet, refusal(found))
+        else:
+            failed += differs(case, "explain", words, found)
+    print(f"programs: {count} pairs of files, {failed} differences")
+    sys.exit(failed > 0)
+
+
+main()
