@@ -3,15 +3,13 @@ use Prim.Native.Nat.{ℕ}
 use mathlib.Core.List.{List, [], _∷_, _++_, map}
 use mathlib.Core.Option.{Option, none, some}
 use Rattle.timetable.specs.Timetable.{Timetable}
-use Rattle.file_layout.specs.Check.{Answer, answerOf, checked}
-use Rattle.file_layout.specs.Decode.{decode}
+use Rattle.file_layout.specs.Check.{answerOf, checked}
 use Rattle.file_layout.specs.Format.{versionOne}
 use Rattle.file_encoding.specs.Encode.{encode}
 use Rattle.house.specs.House.{cumulative}
-use Rattle.query.specs.declared.Query.{Query}
-use Rattle.plans.specs.Chosen.{Weighed, scanned, offInTicks, worthOf}
+use Rattle.plans.specs.Chosen.{inTicks, scanned, worthOf}
 use Rattle.plans.specs.Plan.{chosenFor, earliest}
-use Rattle.plans.specs.Examples.{Case, query, planOf, row, onTime, upToTen, timetable, wWith, w, wTwice, oneTrip, seldomLate, wPlan}
+use Rattle.plans.specs.Examples.{Case, query, planOf, wWith, w, wTwice, oneTrip, seldomLate, wPlan}
 
 -- the check's answer: number, place, values
 unfoldable pub checkOf : List ℕ → List ℕ
@@ -24,7 +22,7 @@ numberOf (some x) = x ∷ []
 -- the worth of each row without a bound, as a list of one number or none
 unfoldable pub worthsTo : ℕ → Timetable → List (List ℕ)
 worthsTo target t =
-    map (λ w. numberOf (worthOf (w .best))) (scanned (offInTicks target 0) target t .weighed)
+    map (λ w. numberOf (worthOf (w .best))) (scanned (inTicks (record { target = target; bound = 0 })) t .weighed)
 
 unfoldable pub joinedUp : List (List ℕ) → List ℕ
 joinedUp [] = []
@@ -32,7 +30,7 @@ joinedUp (xs ∷ xss) = xs ++ joinedUp xss
 
 -- the chosen rows without a bound
 unfoldable pub chosenTo : ℕ → Timetable → List ℕ
-chosenTo target t = map (λ v. v .ride .board) (chosenFor t target 0)
+chosenTo target t = map (λ v. v .ride .board) (chosenFor t (record { target = target; bound = 0 }))
 
 -- W as it is on disk: length 92, row offset 0, table offset 48
 unfoldable pub wBytes : List ℕ

@@ -9,7 +9,7 @@ use Rattle.timetable.specs.Timetable.{Timetable}
 use Rattle.query.specs.declared.Query.{Query}
 use Rattle.plans.specs.Rides.{Ride}
 use Rattle.plans.specs.Worth.{Valued, firstOpen}
-use Rattle.plans.specs.Journeys.{boundOf}
+use Rattle.plans.specs.Journeys.{goalOf, boundOf}
 use Rattle.plans.specs.Plan.{Plan, Window, upTo, extract, ridesFrom, chosenFor, earliest, latestOf, planWithin, planBefore, planned}
 use Rattle.plans.specs.Sound.{Timely}
 use Rattle.demands.specs.Walk.{Sailed, start, choices, Boards}
@@ -27,14 +27,14 @@ use Rattle.demands.proofs.EveryRide.{SomeShare, Entry, entries, up-to-i
 
 module _ (t : Timetable) (timely : Timely t) (q : Query) (p : Plan) (made : Made t q p) where
   chosen : List Valued
-  chosen = chosenFor t (q .target) (p .bound)
+  chosen = chosenFor t (goalOf q (p .bound))
 
   windows : List Window
   windows = upTo (q .source) (q .minute) (firstOpen chosen (q .source) (q .minute))
 
   some-share : SomeShare chosen
   unfolding chosen
-  some-share v among = omega (arith, ride-delays t timely (v .ride) (for-ride t timely (q .target) (p .bound) v among))
+  some-share v among = omega (arith, ride-delays t timely (v .ride) (for-ride t timely (goalOf q (p .bound)) v among))
 
   -- what is met from the first window is met from the source at T
   entry-meets :
@@ -52,7 +52,7 @@ module _ (t : Timetable) (timely : Timely t) (q : Query) (p : Plan) (made : Made
         arith,
         window-until (e .window) (e .first .ride) (e .in-window),
         ap (λ w. w .until) is,
-        taken-after chosen (extract (q .target) windows chosen) (for-ordered t timely (q .target) (p .bound))
+        taken-after chosen (extract (q .target) windows chosen) (for-ordered t timely (goalOf q (p .bound)))
             (λ v among. extract-member (q .target) chosen windows among) (q .source) (q .minute) (found .1) (e .delayed) s there opens,
       )))
       (subst (λ (stop : ℕ). Meets r (e .sailed) stop (e .first .ride .departs)) (ap (λ w. w .stop) is) (e .meets))
@@ -80,7 +80,7 @@ module _ (t : Timetable) (timely : Timely t) (q : Query) (p : Plan) (made : Made
     where
       e : Entry windows chosen (extract (q .target) windows chosen) (v .ride)
       e =
-          entries (q .target) chosen (for-ordered t timely (q .target) (p .bound)) some-share windows v
+          entries (q .target) chosen (for-ordered t timely (goalOf q (p .bound))) some-share windows v
           (subst (List·Memᴰ v) (made .holds) among)
 
       delayed : Delayed (ridesOf (p .rides)) (e .sailed)
@@ -98,4 +98,4 @@ plan-last t q p is-planned = before (earliest t q) is-planned
     before : (end : Option ℕ) → planBefore t q end ≡ some p → p .last ≡ latestOf (p .rides)
     before none e = absent e
     before (some end) e =
-        within (boundOf q end) (firstOpen (chosenFor t (q .target) (boundOf q end)) (q .source) (q .minute)) e
+        within (boundOf q end) (firstOpen (chosenFor t (goalOf q (boundOf q end))) (q .source) (q .minute)) e

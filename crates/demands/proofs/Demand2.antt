@@ -7,10 +7,11 @@ use mathlib.Core.Logic.{_↔_, _≢_}
 use mathlib.Core.Option.{none, some}
 use mathlib.Core.Path.{_≡_}
 use Rattle.timetable.specs.Timetable.{Timetable, rowOf}
+use Rattle.plans.specs.declared.Goal.{Goal}
 use Rattle.plans.specs.Sound.{Timely}
 use Rattle.query.specs.declared.Query.{Query}
 use Rattle.plans.specs.Rides.{Ride, latest, opens}
-use Rattle.plans.specs.Journeys.{Journey, IsEarliest, boundOf}
+use Rattle.plans.specs.Journeys.{goalOf, Journey, IsEarliest, boundOf}
 use Rattle.plans.specs.Worth.{Valued, valued, firstOpen}
 use Rattle.plans.specs.Plan.{Plan, planned, earliest, chosenFor}
 use Rattle.demands.specs.SafePlan.{SafePlan, Rising, expectedOf}
@@ -25,6 +26,29 @@ use Rattle.demands.proofs.PlanSet.{plan-set}
 use Rattle.demands.proofs.Optimal.{expected-stands, plan-least}
 use Rattle.demands.proofs.Sorting.{sorted, safe-sorted}
 use Rattle.plans.proofs.Made.{plan-made}
+
+module _ (t : Timetable) (timely : Timely t) (goal : Goal) where
+  -- a row's worth is the least over getting off and staying on; it has none if none of these is open
+  pub row-worth : (i : ℕ) → i < length (t .rows) → (w : ℕ) → HasWorth t goal i w ↔ LeastWay t goal i w
+  row-worth = worth-in-words t timely goal
+
+  pub no-row-worth : (i : ℕ) → i < length (t .rows) → (bestRide t goal i ≡ none) ↔ ((w : ℕ) → OpenWay t goal i w → ⊥)
+  no-row-worth = no-worth t timely goal
+
+  -- its ride stays aboard while the next row's worth equals the boarded row's
+  pub ride-leaves : (i : ℕ) → i < length (t .rows) → (v : Valued) → bestRide t goal i ≡ some v → StaysAboard t goal v
+  ride-leaves = stays-aboard t timely goal
+
+  -- the chosen rows are those of document 01
+  pub chosen-rows :
+      (v : Valued) → List·Memᴰ v (chosenFor t goal) ↔ (Chosen t goal (v .ride .board) × (bestRide t goal (v .ride .board) ≡ some v))
+  chosen-rows = chosen-in-words t goal timely
+
+  -- who can board a row finds a first chosen row that is worth no more
+  pub first-chosen :
+      (i w s m : ℕ) → HasWorth t goal i w → opens (rowOf (t .rows) i .board) (rowOf (t .rows) i .departure) s m ≡ true → s ≢ goal .target
+      → (v : Valued) × (firstOpen (chosenFor t goal) s m ≡ some v) × (v .worth ≤ w)
+  first-chosen = first-chosen-least t goal timely
 
 module _ (t : Timetable) (timely : Timely t) (q : Query) where
   -- the earliest safe arrival E is the least a + M of a last ride, and a safe journey reaches it
@@ -41,30 +65,6 @@ module _ (t : Timetable) (timely : Timely t) (q : Query) where
   -- a real bound does not lie before E and is never 0, which stands for none
   pub bound-stands : (e : ℕ) → earliest t q ≡ some e → 4 ≤ q .code → (e ≤ boundOf q e) × (0 < boundOf q e)
   bound-stands = bound-real t timely q
-
-  -- a row's worth is the least over getting off and staying on; it has none if none of these is open
-  pub row-worth : (bound i : ℕ) → i < length (t .rows) → (w : ℕ) → HasWorth t (q .target) bound i w ↔ LeastWay t (q .target) bound i w
-  row-worth bound = worth-in-words t timely (q .target) bound
-
-  pub no-row-worth : (bound i : ℕ) → i < length (t .rows) → (bestRide t (q .target) bound i ≡ none) ↔ ((w : ℕ) → OpenWay t (q .target) bound i w → ⊥)
-  no-row-worth bound = no-worth t timely (q .target) bound
-
-  -- its ride stays aboard while the next row's worth equals the boarded row's
-  pub ride-leaves : (bound i : ℕ) → i < length (t .rows) → (v : Valued) → bestRide t (q .target) bound i ≡ some v → StaysAboard t (q .target) bound v
-  ride-leaves bound = stays-aboard t timely (q .target) bound
-
-  -- the chosen rows are those of document 01
-  pub chosen-rows :
-      (bound : ℕ) (v : Valued) → List·Memᴰ v (chosenFor t (q .target) bound)
-      ↔ (Chosen t (q .target) bound (v .ride .board) × (bestRide t (q .target) bound (v .ride .board) ≡ some v))
-  chosen-rows bound = chosen-in-words t (q .target) bound timely
-
-  -- who can board a row finds a first chosen row that is worth no more
-  pub first-chosen :
-      (bound i w s m : ℕ) → HasWorth t (q .target) bound i w → opens (rowOf (t .rows) i .board) (rowOf (t .rows) i .departure) s m ≡ true
-      → s ≢ q .target
-      → (v : Valued) × (firstOpen (chosenFor t (q .target) bound) s m ≡ some v) × (v .worth ≤ w)
-  first-chosen bound = first-chosen-least t (q .target) bound timely
 
   module _ (p : Plan) (is-plan : planned t q ≡ some p) where
     -- its bound is that of E
@@ -86,7 +86,7 @@ module _ (t : Timetable) (timely : Timely t) (q : Query) where
     own-expected = plan-expected t timely q p (plan-made t q p is-plan)
 
     -- its rides are those of document 01 and nothing else
-    pub its-rides : (v : Valued) → List·Memᴰ v (p .rides) ↔ InPlan q (chosenFor t (q .target) (p .bound)) v
+    pub its-rides : (v : Valued) → List·Memᴰ v (p .rides) ↔ InPlan q (chosenFor t (goalOf q (p .bound))) v
     its-rides = plan-set t timely q p (plan-made t q p is-plan)
 
     -- its latest minute is the largest a + M of its rides

@@ -13,12 +13,13 @@ use Rattle.laws.proofs.Options.{absent, present-or-absent}
 use Rattle.laws.proofs.Tests.{ifb, cond-false, T-true}
 use Rattle.laws.proofs.Alternatives.{or-right}
 use Rattle.timetable.specs.Timetable.{Timetable}
+use Rattle.plans.specs.declared.Goal.{Goal}
 use Rattle.plans.specs.Sound.{Timely}
 use Rattle.query.specs.declared.Query.{Query}
 use Rattle.plans.specs.Rides.{Ride, IsRide, latest, boards}
-use Rattle.plans.specs.Journeys.{Onward, leaves, changes, Journey, boundOf, within}
+use Rattle.plans.specs.Journeys.{goalOf, Onward, leaves, changes, Journey, boundOf, within}
 use Rattle.plans.specs.Worth.{Valued, firstOpen, arrivalWorth, changeWorth}
-use Rattle.plans.specs.Chosen.{offInTicks}
+use Rattle.plans.specs.Chosen.{inTicks}
 use Rattle.plans.specs.Plan.{planned, earliest, chosenFor}
 use Rattle.plans.proofs.Open.{boards-minute}
 use Rattle.plans.proofs.AtMost.{AtMost, found-at-most}
@@ -52,56 +53,56 @@ within-bound q e after (inr quarters) = or-right (eqb (boundOf q e) 0) (leb e (b
 module _ (t : Timetable) (timely : Timely t) where
   -- the boarding row of a ride has a worth, if what is boarded after it has one
   change-exists :
-      (target bound : ℕ) (r next : Ride) → IsRide t r → IsRide t next → boards next (r .to) (latest r) ≡ true → within bound (latest r) ≡ true
-      → (w : ℕ) × AtMost (bestInTicks t target bound (next .board)) w → (w : ℕ) × AtMost (bestInTicks t target bound (r .board)) w
-  change-exists target bound r next is is' caught b further =
-      let off = offInTicks target bound in
+      (goal : Goal) (r next : Ride) → IsRide t r → IsRide t next → boards next (r .to) (latest r) ≡ true → within (goal .bound) (latest r) ≡ true
+      → (w : ℕ) × AtMost (bestInTicks t goal (next .board)) w → (w : ℕ) × AtMost (bestInTicks t goal (r .board)) w
+  change-exists goal r next is is' caught b further =
+      let aim = inTicks goal in
       let late : latest r ≤ next .departs = boards-minute next (r .to) (latest r) caught in
-      ifb (λ c. eqb (r .to) target ≡ c → Some) (eqb (r .to) target)
+      ifb (λ c. eqb (r .to) (goal .target) ≡ c → Some) (eqb (r .to) (goal .target))
       (λ q _. (
         arrivalWorth r,
-        ride-at-most off target t r is (ticks-landed target bound) (arrivalWorth r)
-            (ticks-at-target target bound r _ (eqb-true (r .to) target q) b),
+        ride-at-most aim t r is (ticks-landed goal) (arrivalWorth r)
+            (ticks-at-target goal r _ (eqb-true (r .to) (goal .target) q) b),
       ))
       (λ q _. found-at-most Some
-      (ride-first t timely off target (suc (r .leave)) next is'
+      (ride-first t timely aim (suc (r .leave)) next is'
       (boards-behind t timely r next is is' (let z : r .arrives ≤ next .departs = omega arith in z))
-      (r .to) (latest r) (further .0) caught (eqb-false (r .to) target q) (further .1))
+      (r .to) (latest r) (further .0) caught (eqb-false (r .to) (goal .target) q) (further .1))
       (λ u e _. (
-        changeWorth r (chosenFrom off target t (suc (r .leave))),
-        ride-at-most off target t r is (ticks-landed target bound) _
-            (ticks-elsewhere target bound r _ (eqb-false (r .to) target q) u e),
+        changeWorth r (chosenFrom aim t (suc (r .leave))),
+        ride-at-most aim t r is (ticks-landed goal) _
+            (ticks-elsewhere goal r _ (eqb-false (r .to) (goal .target) q) u e),
       ))) refl
     where
       Some : Type 0
-      Some = (w : ℕ) × AtMost (bestInTicks t target bound (r .board)) w
+      Some = (w : ℕ) × AtMost (bestInTicks t goal (r .board)) w
 
   -- the row where a safe journey within the bound boards has a worth
   pub ticks-exist :
-      (target bound : ℕ) {r : Ride} {end : ℕ} → Onward t target r end → within bound end ≡ true
-      → (w : ℕ) × AtMost (bestInTicks t target bound (r .board)) w
-  ticks-exist target bound (leaves {r} is e) b = (
+      (goal : Goal) {r : Ride} {end : ℕ} → Onward t (goal .target) r end → within (goal .bound) end ≡ true
+      → (w : ℕ) × AtMost (bestInTicks t goal (r .board)) w
+  ticks-exist goal (leaves {r} is e) b = (
     arrivalWorth r,
-    ride-at-most (offInTicks target bound) target t r is (ticks-landed target bound) (arrivalWorth r)
-        (ticks-at-target target bound r _ e b),
+    ride-at-most (inTicks goal) t r is (ticks-landed goal) (arrivalWorth r)
+        (ticks-at-target goal r _ e b),
   )
-  ticks-exist target bound (changes {r} {next} {end} is caught on) b =
+  ticks-exist goal (changes {r} {next} {end} is caught on) b =
       let late : latest r ≤ next .departs = boards-minute next (r .to) (latest r) (T-true caught) in
-      change-exists target bound r next is (onward-ride t target on) (T-true caught)
-      (within-earlier bound (latest r) end (let z : latest r ≤ end = omega (arith, onward-after t target timely on) in z) b)
-      (ticks-exist target bound on b)
+      change-exists goal r next is (onward-ride t (goal .target) on) (T-true caught)
+      (within-earlier (goal .bound) (latest r) end (let z : latest r ≤ end = omega (arith, onward-after t (goal .target) timely on) in z) b)
+      (ticks-exist goal on b)
 
   -- a journey within the bound finds a first chosen row
   journey-begins :
       (q : Query) (bound end : ℕ) → q .source ≢ q .target → Journey t q end → within bound end ≡ true
-      → firstOpen (chosenFor t (q .target) bound) (q .source) (q .minute) ≡ none → ⊥
+      → firstOpen (chosenFor t (goalOf q bound)) (q .source) (q .minute) ≡ none → ⊥
   journey-begins q bound end apart j b h =
-      let some' = ticks-exist (q .target) bound (j .onward) b in
+      let some' = ticks-exist (goalOf q bound) (j .onward) b in
       found-at-most ⊥
-      (ride-first t timely (offInTicks (q .target) bound) (q .target) 0 (j .first) (onward-ride t (q .target) (j .onward)) zero-le (q .source)
+      (ride-first t timely (inTicks (goalOf q bound)) 0 (j .first) (onward-ride t (q .target) (j .onward)) zero-le (q .source)
       (q .minute) (some' .0)
       (T-true (j .in-time)) apart (some' .1))
-      (λ v e _. absent {a = v} (sym h ∙ ap (λ (l : List Valued). firstOpen l (q .source) (q .minute)) (chosen-for t (q .target) bound) ∙ e))
+      (λ v e _. absent {a = v} (sym h ∙ ap (λ (l : List Valued). firstOpen l (q .source) (q .minute)) (chosen-for t (goalOf q bound)) ∙ e))
 
   pub plan-exists : (q : Query) → CodeStands (q .code) → q .source ≢ q .target → (planned t q ≡ none) ↔ ((end : ℕ) → Journey t q end → ⊥)
   plan-exists q stands apart = (

@@ -12,7 +12,7 @@ use Rattle.timetable.specs.Timetable.{Timetable}
 use Rattle.plans.specs.Sound.{Timely}
 use Rattle.query.specs.declared.Query.{Query}
 use Rattle.plans.specs.Rides.{Ride, IsRide, latest, boards}
-use Rattle.plans.specs.Journeys.{within}
+use Rattle.plans.specs.Journeys.{goalOf, within}
 use Rattle.plans.specs.Worth.{Valued, firstOpen, valued}
 use Rattle.plans.specs.Chosen.{worthOf}
 use Rattle.plans.specs.Plan.{Plan}
@@ -64,8 +64,8 @@ module _ (t : Timetable) (timely : Timely t) (q : Query) (p : Plan) (made : Made
   pub plan-expected : expectedOf q (ridesOf (p .rides)) ≡ some (p .expected)
   unfolding expectedOf
   plan-expected =
-      ap (λ (l : List Valued). worthOf (firstOpen l (q .source) (q .minute))) plan-valued ∙ ap worthOf (plan-first t timely q p made) ∙ worth-of (made .first)
-      ∙ ap some (sym (made .worth))
+      ap (λ (l : List Valued). worthOf (firstOpen l (q .source) (q .minute))) plan-valued
+      ∙ ap worthOf (plan-first t timely q p made) ∙ worth-of (made .first) ∙ ap some (sym (made .worth))
 
   -- its latest minute is the largest a + M of its rides
   pub plan-last :
@@ -89,11 +89,11 @@ module _ (t : Timetable) (timely : Timely t) (q : Query) (p : Plan) (made : Made
   plan-safe =
       record {
         are-rides = λ r m. let f = plan-ride m in subst (λ (x : Ride). IsRide t x) (sym (f .2))
-            (for-ride t timely (q .target) (p .bound) (f .0) (plan-member t timely q p made (f .0) (f .1)));
+            (for-ride t timely (goalOf q (p .bound)) (f .0) (plan-member t timely q p made (f .0) (f .1)));
         none-at-target =
             λ r m. let f = plan-ride m in
             subst (λ (x : Ride). x .from ≢ q .target) (sym (f .2))
-            (for-picked t timely (q .target) (p .bound) (f .0) (plan-member t timely q p made (f .0) (f .1)) .elsewhere);
+            (for-picked t timely (goalOf q (p .bound)) (f .0) (plan-member t timely q p made (f .0) (f .1)) .elsewhere);
         no-two =
             λ r r' m n there then. let f = plan-ride m in let g = plan-ride n in
             f .2 ∙ ap (λ (v : Valued). v .ride)
@@ -102,7 +102,7 @@ module _ (t : Timetable) (timely : Timely t) (q : Query) (p : Plan) (made : Made
         each-within =
             λ r m. let f = plan-ride m in
             true-T (subst (λ (x : Ride). within (p .bound) (latest x) ≡ true) (sym (f .2))
-            (for-within t timely (q .target) (p .bound) (f .0) (plan-member t timely q p made (f .0) (f .1))));
+            (for-within t timely (goalOf q (p .bound)) (f .0) (plan-member t timely q p made (f .0) (f .1))));
         begins = (
           made .first .ride,
           mapped (λ (v : Valued). v .ride) (found-member (p .rides) (q .source) (q .minute) (plan-first t timely q p made)),

@@ -14,6 +14,7 @@ use Rattle.laws.proofs.Tests.{ifb, both-left, both-right, either, T-true, true-
 use Rattle.laws.proofs.Alternatives.{or-left, or-right}
 use Rattle.laws.proofs.Members.{head-or-later}
 use Rattle.timetable.specs.Timetable.{Timetable}
+use Rattle.plans.specs.Journeys.{goalOf}
 use Rattle.plans.specs.Sound.{Timely}
 use Rattle.query.specs.declared.Query.{Query}
 use Rattle.plans.specs.Rides.{Ride, latest, boards}
@@ -156,17 +157,17 @@ module _ (q : Query) (chosen : List Valued) (o : Ordered chosen) (moves : (x : V
 -- so the plan's rides are those of document 01 and nothing else
 pub plan-set :
     (t : Timetable) → Timely t → (q : Query) (p : Plan) → Made t q p → (v : Valued)
-    → List·Memᴰ v (p .rides) ↔ InPlan q (chosenFor t (q .target) (p .bound)) v
+    → List·Memᴰ v (p .rides) ↔ InPlan q (chosenFor t (goalOf q (p .bound))) v
 plan-set t timely q p made v = (
   λ m. rides-in-plan q chosen order moves v (subst (λ (l : List Valued). List·Memᴰ v l) (made .holds) m),
   λ i. subst (λ (l : List Valued). List·Memᴰ v l) (sym (made .holds)) (in-plan-rides q chosen order moves v i),
 )
   where
     chosen : List Valued
-    chosen = chosenFor t (q .target) (p .bound)
+    chosen = chosenFor t (goalOf q (p .bound))
 
     order : Ordered chosen
-    order = for-ordered t timely (q .target) (p .bound)
+    order = for-ordered t timely (goalOf q (p .bound))
 
     moves : (x : Valued) → List·Memᴰ x chosen → Moves (x .ride)
-    moves x m = ride-moves t timely (x .ride) (for-ride t timely (q .target) (p .bound) x m)
+    moves x m = ride-moves t timely (x .ride) (for-ride t timely (goalOf q (p .bound)) x m)

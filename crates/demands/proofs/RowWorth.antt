@@ -12,10 +12,11 @@ use Rattle.laws.proofs.Options.{absent, present-or-absent}
 use Rattle.laws.proofs.Tests.{T-true, true-T, cond-true, cond-false}
 use Rattle.laws.proofs.Downward.{downward, from-greater}
 use Rattle.timetable.specs.Timetable.{Timetable, rowOf}
+use Rattle.plans.specs.declared.Goal.{Goal}
 use Rattle.plans.specs.Sound.{Timely}
 use Rattle.plans.specs.Rides.{rideOf, latest}
 use Rattle.plans.specs.Worth.{Valued, firstOpen, changeWorth}
-use Rattle.plans.specs.Chosen.{GettingOff, offInTicks}
+use Rattle.plans.specs.Chosen.{Aim, inTicks}
 use Rattle.plans.specs.Plan.{chosenFor}
 use Rattle.demands.specs.Words.{HasWorth, bestRide}
 use Rattle.plans.specs.Trips.{NextOfTrip}
@@ -32,102 +33,102 @@ use Rattle.plans.proofs.ChosenWorth.{landing-sees}
 use Rattle.demands.proofs.ChosenWords.{best-ride, weighs, has-worth}
 use Rattle.plans.proofs.Made.{chosen-for}
 
-module _ (off : GettingOff) (target : ℕ) (t : Timetable) where
+module _ (aim : Aim) (t : Timetable) where
   -- the trip's next row is what staying on leads to
-  next-is-best : (i j : ℕ) → NextOfTrip t i j → nextFrom off target t (suc i) (rowOf (t .rows) i .trip) ≡ bestAt off target t j
+  next-is-best : (i j : ℕ) → NextOfTrip t i j → nextFrom aim t (suc i) (rowOf (t .rows) i .trip) ≡ bestAt aim t j
   next-is-best i j next =
-      downward (λ k. suc i ≤ k → nextFrom off target t k trip ≡ bestAt off target t j) j
-      (λ _. next-row off target t j trip (next .inside) ∙ cond-true _ _ (eq-eqb (rowOf (t .rows) j .trip) trip (next .one-trip)))
-      (λ k h further a. next-row off target t k trip (let z : k < length (t .rows) = omega (arith, next .inside) in z)
+      downward (λ k. suc i ≤ k → nextFrom aim t k trip ≡ bestAt aim t j) j
+      (λ _. next-row aim t j trip (next .inside) ∙ cond-true _ _ (eq-eqb (rowOf (t .rows) j .trip) trip (next .one-trip)))
+      (λ k h further a. next-row aim t k trip (let z : k < length (t .rows) = omega (arith, next .inside) in z)
       ∙ cond-false _ _ (ne-eqb (rowOf (t .rows) k .trip) trip (next .first k a h)) ∙ further (let z : suc i ≤ suc k = omega arith in z))
       (suc i) (next .later) (let z : suc i ≤ suc i = omega arith in z)
     where
       trip : ℕ
       trip = rowOf (t .rows) i .trip
 
-module _ (t : Timetable) (timely : Timely t) (target bound : ℕ) where
+module _ (t : Timetable) (timely : Timely t) (goal : Goal) where
   -- who lands where row i does finds among all chosen rows what the scan finds behind the row
   landing-same : (i : ℕ) → i < length (t .rows) → (s m : ℕ) → rideOf t i i .arrives ≤ m
-      → firstOpen (chosenFor t target bound) s m ≡ firstOpen (chosenInTicks t target bound (suc i)) s m
+      → firstOpen (chosenFor t goal) s m ≡ firstOpen (chosenInTicks t goal (suc i)) s m
   landing-same i h s m late =
-      ap (λ (l : List Valued). firstOpen l s m) (chosen-for t target bound)
-      ∙ landing-sees t timely (offInTicks target bound) target (rideOf t i i) (row-is-ride (offInTicks target bound) target t i h) 0 zero-le s m late
+      ap (λ (l : List Valued). firstOpen l s m) (chosen-for t goal)
+      ∙ landing-sees t timely (inTicks goal) (rideOf t i i) (row-is-ride (inTicks goal) t i h) 0 zero-le s m late
 
-  change-all : (i : ℕ) → i < length (t .rows) → changeWorth (rideOf t i i) (chosenFor t target bound)
-      ≡ changeWorth (rideOf t i i) (chosenInTicks t target bound (suc i))
+  change-all : (i : ℕ) → i < length (t .rows) → changeWorth (rideOf t i i) (chosenFor t goal)
+      ≡ changeWorth (rideOf t i i) (chosenInTicks t goal (suc i))
   change-all i h =
-      change-same (rideOf t i i) _ _ (ride-delays t timely (rideOf t i i) (row-is-ride (offInTicks target bound) target t i h))
+      change-same (rideOf t i i) _ _ (ride-delays t timely (rideOf t i i) (row-is-ride (inTicks goal) t i h))
       (λ m late _. landing-same i h (rideOf t i i .to) m late)
 
   -- each open way bounds the row's worth
-  way-bounds : (i : ℕ) → i < length (t .rows) → (w : ℕ) → OpenWay t target bound i w → AtMost (bestInTicks t target bound i) w
+  way-bounds : (i : ℕ) → i < length (t .rows) → (w : ℕ) → OpenWay t goal i w → AtMost (bestInTicks t goal i) w
   unfolding offAt
-  way-bounds i h w (off-at-target e b) = row-off (offInTicks target bound) target t i _ (ticks-at-target target bound (rideOf t i i) _ e (T-true b))
+  way-bounds i h w (off-at-target e b) = row-off (inTicks goal) t i _ (ticks-at-target goal (rideOf t i i) _ e (T-true b))
   way-bounds i h w (off-elsewhere {safe = safe} away m b) =
-      let found = finds (chosenFor t target bound) (rideOf t i i .to) (latest (rideOf t i i)) m (T-true b) in
-      row-off (offInTicks target bound) target t i _
-      (ticks-elsewhere target bound (rideOf t i i) _ away (found .0) (sym (landing-same i h _ _ (omega arith)) ∙ found .1)
+      let found = finds (chosenFor t goal) (rideOf t i i .to) (latest (rideOf t i i)) m (T-true b) in
+      row-off (inTicks goal) t i _
+      (ticks-elsewhere goal (rideOf t i i) _ away (found .0) (sym (landing-same i h _ _ (omega arith)) ∙ found .1)
       ∙ ap some (sym (change-all i h)))
   way-bounds i h w (staying-on {next = next} n worth) =
-      let found = weighs t target bound next w worth in
-      stay-on (offInTicks target bound) target t i next w (let z : i ≤ next = omega (arith, n .later) in z) (n .inside) (sym (n .one-trip))
+      let found = weighs t goal next w worth in
+      stay-on (inTicks goal) t i next w (let z : i ≤ next = omega (arith, n .later) in z) (n .inside) (sym (n .one-trip))
       (is-at-most (found .best) (le-of-eq (found .worth)))
 
   -- and the worth is that of one of them
-  off-way : (i : ℕ) → i < length (t .rows) → (w : ℕ) → Off target bound (rideOf t i i) (chosenInTicks t target bound (suc i)) w
-      → OpenWay t target bound i w
+  off-way : (i : ℕ) → i < length (t .rows) → (w : ℕ) → Off goal (rideOf t i i) (chosenInTicks t goal (suc i)) w
+      → OpenWay t goal i w
   off-way i h w (arrives e b) = off-at-target e (true-T b)
   off-way i h w (goes-on {u = u} away e) =
       let all = landing-same i h (rideOf t i i .to) (latest (rideOf t i i)) (let z : rideOf t i i .arrives ≤ latest (rideOf t i i) = omega arith in z)
       ∙ e in
-      subst (λ x. OpenWay t target bound i x) (change-all i h)
+      subst (λ x. OpenWay t goal i x) (change-all i h)
       (off-elsewhere {safe = u} away (found-member _ _ _ all) (true-T (found-boards _ _ _ all)))
 
-  source-way : (i : ℕ) → i < length (t .rows) → (v : Valued) → Source (offInTicks target bound) target t i v → OpenWay t target bound i (v .worth)
+  source-way : (i : ℕ) → i < length (t .rows) → (v : Valued) → Source (inTicks goal) t i v → OpenWay t goal i (v .worth)
   unfolding offAt
-  source-way i h v (off-here {w = w} e dearer) = off-way i h w (off-is target bound _ _ w e)
-  source-way i h v (stays {u = u} {j = j} next e) = staying-on next (has-worth t target bound j (next .inside) u e)
+  source-way i h v (off-here {w = w} e dearer) = off-way i h w (off-is goal _ _ w e)
+  source-way i h v (stays {u = u} {j = j} next e) = staying-on next (has-worth t goal j (next .inside) u e)
 
-  pub worth-in-words : (i : ℕ) → i < length (t .rows) → (w : ℕ) → HasWorth t target bound i w ↔ LeastWay t target bound i w
+  pub worth-in-words : (i : ℕ) → i < length (t .rows) → (w : ℕ) → HasWorth t goal i w ↔ LeastWay t goal i w
   worth-in-words i h w = (
-    λ worth. let found = weighs t target bound i w worth in
+    λ worth. let found = weighs t goal i w worth in
         record {
-          reached = subst (λ x. OpenWay t target bound i x) (found .worth)
-              (source-way i h (found .ride) (best-source (offInTicks target bound) target t i h (found .ride) (found .best)));
+          reached = subst (λ x. OpenWay t goal i x) (found .worth)
+              (source-way i h (found .ride) (best-source (inTicks goal) t i h (found .ride) (found .best)));
           least = λ other way. subst (λ x. x ≤ other) (found .worth) (worth-at-most (way-bounds i h other way) (found .ride) (found .best));
         },
-    λ way. found-at-most (HasWorth t target bound i w) (way-bounds i h w (way .reached))
-        (λ v e under. let above : w ≤ v .worth = way .least (v .worth) (source-way i h v (best-source (offInTicks target bound) target t i h v e)) in
-        subst (λ x. HasWorth t target bound i x) (let z : v .worth ≡ w = omega arith in z) (has-worth t target bound i h v e)),
+    λ way. found-at-most (HasWorth t goal i w) (way-bounds i h w (way .reached))
+        (λ v e under. let above : w ≤ v .worth = way .least (v .worth) (source-way i h v (best-source (inTicks goal) t i h v e)) in
+        subst (λ x. HasWorth t goal i x) (let z : v .worth ≡ w = omega arith in z) (has-worth t goal i h v e)),
   )
 
   -- It has no worth if none of these is open
-  pub no-worth : (i : ℕ) → i < length (t .rows) → (bestRide t target bound i ≡ none) ↔ ((w : ℕ) → OpenWay t target bound i w → ⊥)
+  pub no-worth : (i : ℕ) → i < length (t .rows) → (bestRide t goal i ≡ none) ↔ ((w : ℕ) → OpenWay t goal i w → ⊥)
   no-worth i h = (
-    λ e w way. found-at-most ⊥ (way-bounds i h w way) (λ v q _. absent {a = v} (sym e ∙ best-ride t target bound i h ∙ q)),
-    λ shut. present-or-absent (bestRide t target bound i ≡ none) (bestRide t target bound i) (λ e. e)
+    λ e w way. found-at-most ⊥ (way-bounds i h w way) (λ v q _. absent {a = v} (sym e ∙ best-ride t goal i h ∙ q)),
+    λ shut. present-or-absent (bestRide t goal i ≡ none) (bestRide t goal i) (λ e. e)
         (λ v e. absurd (shut (v .worth)
-        (source-way i h v (best-source (offInTicks target bound) target t i h v (sym (best-ride t target bound i h) ∙ e))))),
+        (source-way i h v (best-source (inTicks goal) t i h v (sym (best-ride t goal i h) ∙ e))))),
   )
 
   aboard-by :
       (i : ℕ) → i < length (t .rows)
-      → ((j : ℕ) → i < j → j < length (t .rows) → (u : Valued) → bestInTicks t target bound j ≡ some u → StaysAboard t target bound u)
-      → (v : Valued) → bestInTicks t target bound i ≡ some v → Source (offInTicks target bound) target t i v → StaysAboard t target bound v
+      → ((j : ℕ) → i < j → j < length (t .rows) → (u : Valued) → bestInTicks t goal j ≡ some u → StaysAboard t goal u)
+      → (v : Valued) → bestInTicks t goal i ≡ some v → Source (inTicks goal) t i v → StaysAboard t goal v
   aboard-by i h later v best (off-here {w = w} e dearer) =
       record {
-        while-equal = λ j a b _. subst (λ k. HasWorth t target bound k w) (let z : i ≡ j = omega arith in z) (has-worth t target bound i h v best);
+        while-equal = λ j a b _. subst (λ k. HasWorth t goal k w) (let z : i ≡ j = omega arith in z) (has-worth t goal i h v best);
         not-longer =
-            λ next n worth. let found = weighs t target bound next w worth in
-            let c : w < found .ride .worth = dearer (found .ride) (next-is-best (offInTicks target bound) target t i next n ∙ found .best) in
+            λ next n worth. let found = weighs t goal next w worth in
+            let c : w < found .ride .worth = dearer (found .ride) (next-is-best (inTicks goal) t i next n ∙ found .best) in
             let z : ⊥ = omega (arith, found .worth) in z;
       }
   aboard-by i h later v best (stays {u = u} {j = j} next e) =
       let further = later j (next .later) (next .inside) u e in
-      let row : u .ride .board ≡ j = best-boards (offInTicks target bound) target t j (next .inside) u e .row in
+      let row : u .ride .board ≡ j = best-boards (inTicks goal) t j (next .inside) u e .row in
       record {
         while-equal =
-            λ k a b same. ⊎-elim (λ q. subst (λ x. HasWorth t target bound x (v .worth)) q (has-worth t target bound i h v best))
+            λ k a b same. ⊎-elim (λ q. subst (λ x. HasWorth t goal x (v .worth)) q (has-worth t goal i h v best))
             (λ c. further .while-equal k
             (let d : j < suc k = lt-of-not-le (λ before. next .first k c before same) in let z : u .ride .board ≤ k = omega arith in z) b
             (same ∙ sym (next .one-trip) ∙ ap (λ x. rowOf (t .rows) x .trip) (sym row))) (eq-or-lt-of-le a);
@@ -135,10 +136,10 @@ module _ (t : Timetable) (timely : Timely t) (target bound : ℕ) where
       }
 
   -- the best ride stays aboard while the worths are equal, and no longer
-  pub stays-aboard : (i : ℕ) → i < length (t .rows) → (v : Valued) → bestRide t target bound i ≡ some v → StaysAboard t target bound v
-  stays-aboard i h v e = all i h v (sym (best-ride t target bound i h) ∙ e)
+  pub stays-aboard : (i : ℕ) → i < length (t .rows) → (v : Valued) → bestRide t goal i ≡ some v → StaysAboard t goal v
+  stays-aboard i h v e = all i h v (sym (best-ride t goal i h) ∙ e)
     where
-      all : (i : ℕ) → i < length (t .rows) → (v : Valued) → bestInTicks t target bound i ≡ some v → StaysAboard t target bound v
+      all : (i : ℕ) → i < length (t .rows) → (v : Valued) → bestInTicks t goal i ≡ some v → StaysAboard t goal v
       all =
-          from-greater (λ i. (v : Valued) → bestInTicks t target bound i ≡ some v → StaysAboard t target bound v) (length (t .rows))
-          (λ i h later v e. aboard-by i h later v e (best-source (offInTicks target bound) target t i h v e))
+          from-greater (λ i. (v : Valued) → bestInTicks t goal i ≡ some v → StaysAboard t goal v) (length (t .rows))
+          (λ i h later v e. aboard-by i h later v e (best-source (inTicks goal) t i h v e))

@@ -8,29 +8,30 @@ use lib.Dec.{T}
 use lib.ListN.{getD}
 use Rattle.timetable.specs.Timetable.{Timetable, rowOf}
 use Rattle.query.specs.declared.Query.{Query}
-use Rattle.plans.specs.Rides.{Ride, latest, boards}
+use Rattle.plans.specs.declared.Goal.{Goal}
+use Rattle.plans.specs.Rides.{latest, boards}
 use Rattle.plans.specs.Worth.{Valued, firstOpen}
-use Rattle.plans.specs.Chosen.{scanned, offInTicks, worthOf}
+use Rattle.plans.specs.Chosen.{inTicks, scanned, worthOf}
 
 -- the best ride of row i, none if the row has no worth
-unfoldable pub bestRide : Timetable → (target bound i : ℕ) → Option Valued
-bestRide t target bound i = getD (scanned (offInTicks target bound) target t .weighed) i (record { trip = 0; best = none }) .best
+unfoldable pub bestRide : Timetable → Goal → (i : ℕ) → Option Valued
+bestRide t goal i = getD (scanned (inTicks goal) t .weighed) i (record { trip = 0; best = none }) .best
 
 -- Row i has this worth
-abbrev pub HasWorth : Timetable → (target bound i worth : ℕ) → Type 0
-HasWorth t target bound i worth = worthOf (bestRide t target bound i) ≡ some worth
+abbrev pub HasWorth : Timetable → Goal → (i worth : ℕ) → Type 0
+HasWorth t goal i worth = worthOf (bestRide t goal i) ≡ some worth
 
 -- A row is chosen if it has a worth below that of every later-minute row at its stop, and in its own minute the least worth, the highest row
 -- number deciding among equals. No row boarding at the target is chosen
-pub record Chosen (t : Timetable) (target bound i : ℕ) : Type 0 where
+pub record Chosen (t : Timetable) (goal : Goal) (i : ℕ) : Type 0 where
   pub worth : ℕ
-  pub has-worth : HasWorth t target bound i worth
-  pub not-at-target : rowOf (t .rows) i .board ≢ target
+  pub has-worth : HasWorth t goal i worth
+  pub not-at-target : rowOf (t .rows) i .board ≢ goal .target
   pub below-later :
-      (j other : ℕ) → HasWorth t target bound j other → rowOf (t .rows) j .board ≡ rowOf (t .rows) i .board
+      (j other : ℕ) → HasWorth t goal j other → rowOf (t .rows) j .board ≡ rowOf (t .rows) i .board
       → rowOf (t .rows) i .departure < rowOf (t .rows) j .departure → worth < other
   pub least-of-minute :
-      (j other : ℕ) → HasWorth t target bound j other → rowOf (t .rows) j .board ≡ rowOf (t .rows) i .board
+      (j other : ℕ) → HasWorth t goal j other → rowOf (t .rows) j .board ≡ rowOf (t .rows) i .board
       → rowOf (t .rows) j .departure ≡ rowOf (t .rows) i .departure → (worth ≤ other) × (worth ≡ other → j ≤ i)
 
 -- The plan holds the ride of the first chosen row at the source at or after T; and, for each ride in it not ending at the target, those of

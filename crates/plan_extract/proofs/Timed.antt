@@ -1,12 +1,11 @@
 -- The scan of a sound file's rows from `first` to before `end`: its chosen rides are rides of these rows, in order, each the best of its row.
 -- Assumes nothing.
-use Prim.Native.Nat.{ℕ, zero, suc, _+_, _-_, _≤_, _<_}
+use Prim.Native.Nat.{ℕ, _+_, _-_, _≤_, _<_}
 use mathlib.Core.List.{List, List·Memᴰ}
 use mathlib.Core.Option.{none, some}
 use mathlib.Core.Path.{_≡_, refl, sym, ap, subst, _∙_}
-use native.Mathlib.Nat.{add-zero}
 use native.Mathlib.Omega.{arith}
-use lib.ListN.{length, getD, take}
+use lib.ListN.{length, take}
 use lib.Seq.{length-take-le, getD-take}
 use Rattle.timetable.specs.Timetable.{Timetable, sharesOf, rowOf, noRow}
 use Rattle.timetable.specs.Classes.{sum, whole}
@@ -14,8 +13,8 @@ use Rattle.timetable.specs.declared.Row.{Row}
 use Rattle.plans.specs.Rides.{Ride, IsRide}
 use Rattle.plans.specs.Sound.{Timely}
 use Rattle.plans.specs.Worth.{Valued}
-use Rattle.plans.specs.Chosen.{GettingOff, Scan, Weighed, offInTicks}
-use Rattle.plans.proofs.FromRow.{scanFrom, chosenFrom, bestAt, scan-row}
+use Rattle.plans.specs.Chosen.{Aim, inTicks, Scan}
+use Rattle.plans.proofs.FromRow.{scanFrom, chosenFrom, bestAt, weighed-at}
 use Rattle.plans.proofs.BestRides.{chosen-picked, best-is-ride}
 use Rattle.plans.proofs.FirstLeast.{chosen-ordered}
 use Rattle.plans.proofs.Order.{Ordered}
@@ -25,17 +24,6 @@ use Rattle.plan_rows.specs.declared.Sailings.{Sailings}
 use Rattle.plan_rows.specs.Reading.{rowsIn, tablesIn, Stand}
 use Rattle.plans.specs.declared.Goal.{Goal}
 use Rattle.plan_scan.specs.Scanned.{scanIn, bestIn}
-
--- a row's best ride stands as far from the scan's first row as the row does
-weighed-at : (off : GettingOff) (target : ℕ) (t : Timetable) (k i : ℕ) (d : Weighed) → i + k < length (t .rows)
-    → getD (scanFrom off target t i .weighed) k d .best ≡ bestAt off target t (i + k)
-weighed-at off target t zero i d h =
-    ap (λ (s : Scan). getD (s .weighed) 0 d .best) (scan-row off target t i (let z : i < length (t .rows) = omega arith in z))
-    ∙ ap (bestAt off target t) (sym (add-zero i))
-weighed-at off target t (suc k) i d h =
-    ap (λ (s : Scan). getD (s .weighed) (suc k) d .best) (scan-row off target t i (let z : i < length (t .rows) = omega arith in z))
-    ∙ weighed-at off target t k (suc i) d (omega arith)
-    ∙ (let next : suc i + k ≡ i + suc k = omega arith in ap (bestAt off target t) next)
 
 module _ (file : List ℕ) (s : Sailings) (stand : Stand file s) (end : ℕ) (inside : end ≤ s .rows) where
   -- the rows before `end`
@@ -75,30 +63,30 @@ module _ (file : List ℕ) (s : Sailings) (stand : Stand file s) (end : ℕ) (in
     pub shares : v .ride .shares ≡ sharesOf (tablesIn file s) (rowOf (rowsIn file s) (v .ride .leave) .class)
 
   module _ (goal : Goal) (first : ℕ) (ahead : first ≤ end) where
-    abbrev off : GettingOff
-    off = offInTicks (goal .target) (goal .bound)
+    abbrev aim : Aim
+    aim = inTicks goal
 
     begins : first ≤ length (timed .rows)
     begins = omega (arith, timed-length)
 
-    scan-is : scanIn file s goal first end ≡ scanFrom off (goal .target) timed first
+    scan-is : scanIn file s goal first end ≡ scanFrom aim timed first
     unfolding scanFrom
     scan-is = refl
 
-    chosen-is : chosenFrom off (goal .target) timed first ≡ scanIn file s goal first end .chosen
+    chosen-is : chosenFrom aim timed first ≡ scanIn file s goal first end .chosen
     unfolding chosenFrom scanFrom
     chosen-is = refl
 
     pub ordered : Ordered (scanIn file s goal first end .chosen)
-    ordered = subst (λ (l : List Valued). Ordered l) chosen-is (chosen-ordered off (goal .target) timed timely first begins)
+    ordered = subst (λ (l : List Valued). Ordered l) chosen-is (chosen-ordered aim timed timely first begins)
 
     pub own-worth : OwnWorth (goal .target) (scanIn file s goal first end .chosen)
-    own-worth = subst (λ (l : List Valued). OwnWorth (goal .target) l) chosen-is (chosen-own timed timely (goal .target) (goal .bound) first begins)
+    own-worth = subst (λ (l : List Valued). OwnWorth (goal .target) l) chosen-is (chosen-own timed timely goal first begins)
 
     pub known : (v : Valued) → List·Memᴰ v (scanIn file s goal first end .chosen) → Known goal first v
     known v m =
-        let p = chosen-picked off (goal .target) timed first begins v (subst (λ (l : List Valued). List·Memᴰ v l) (sym chosen-is) m) in
-        let is : IsRide timed (v .ride) = best-is-ride off (goal .target) timed (v .ride .board) (p .inside) v (p .best) in
+        let p = chosen-picked aim timed first begins v (subst (λ (l : List Valued). List·Memᴰ v l) (sym chosen-is) m) in
+        let is : IsRide timed (v .ride) = best-is-ride aim timed (v .ride .board) (p .inside) v (p .best) in
         let far : first + (v .ride .board - first) ≡ v .ride .board = omega (arith, p .here) in
         let leaving : v .ride .leave < end = omega (arith, is .inside, timed-length) in
         let row : rowOf (timed .rows) (v .ride .leave) ≡ rowOf (rowsIn file s) (v .ride .leave) = timed-row (v .ride .leave) leaving in
@@ -107,9 +95,9 @@ module _ (file : List ℕ) (s : Sailings) (stand : Stand file s) (end : ℕ) (in
           before-end = (let z : v .ride .board < end = omega (arith, p .inside, timed-length) in z);
           best =
               ap (λ (x : Scan). bestIn x first (v .ride .board)) scan-is
-              ∙ weighed-at off (goal .target) timed (v .ride .board - first) first (record { trip = 0; best = none })
+              ∙ weighed-at aim timed (v .ride .board - first) first (record { trip = 0; best = none })
               (let z : first + (v .ride .board - first) < length (timed .rows) = omega (arith, p .inside, p .here) in z)
-              ∙ ap (bestAt off (goal .target) timed) far
+              ∙ ap (bestAt aim timed) far
               ∙ p .best;
           leaves = leaving;
           to = ap (λ (r : Ride). r .to) (is .as-timed) ∙ ap (λ (r : Row). r .land) row;

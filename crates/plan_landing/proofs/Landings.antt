@@ -15,6 +15,7 @@ use Rattle.timetable.specs.Classes.{whole}
 use Rattle.timetable.specs.Timetable.{longest}
 use Rattle.timetable.specs.declared.Row.{Row}
 use Rattle.plan_cells.specs.Cells.{cellOf, missing, stackStart, stackSize}
+use Rattle.plans.specs.declared.Goal.{Goal}
 use Rattle.plans.specs.Journeys.{within}
 use Rattle.plans.specs.Worth.{Valued, firstOpen, caught, worthOr, weigh, up, arrivalWorth, changeWorth}
 use Rattle.plans.specs.Chosen.{offInTicks, whenSafe}
@@ -151,31 +152,31 @@ module _ {row : Row} {tables work shares : List ℕ} {chosen : List Valued} (rea
       let total : weigh shares 0 (λ v. v) ≤ 1040384 = omega (arith, ready .shares-fit .shares-whole) in
       omega (arith, ready .lands, ready .block .expected-held)
 
-  module _ (target bound landing : ℕ) (lands : landing ≡ row .arrival + longest shares) where
-    pub off-late : row .land ≡ target → within bound landing ≡ false → missing ≡ cellOf (offInTicks target bound (rideOff row shares) chosen)
+  module _ (goal : Goal) (landing : ℕ) (lands : landing ≡ row .arrival + longest shares) where
+    pub off-late : row .land ≡ goal .target → within (goal .bound) landing ≡ false → missing ≡ cellOf (offInTicks goal (rideOff row shares) chosen)
     unfolding offInTicks
     off-late there late =
         sym (ap cellOf
-        (cond-true _ _ (eq-eqb (row .land) target there)
-        ∙ cond-false (some (arrivalWorth (rideOff row shares))) none (ap (within bound) (sym lands) ∙ late)))
+        (cond-true _ _ (eq-eqb (row .land) (goal .target) there)
+        ∙ cond-false (some (arrivalWorth (rideOff row shares))) none (ap (within (goal .bound)) (sym lands) ∙ late)))
 
-    pub off-there : row .land ≡ target → within bound landing ≡ true
-        → 256 * row .arrival + getD tables (256 * row .class + 1) 0 ≡ cellOf (offInTicks target bound (rideOff row shares) chosen)
+    pub off-there : row .land ≡ goal .target → within (goal .bound) landing ≡ true
+        → 256 * row .arrival + getD tables (256 * row .class + 1) 0 ≡ cellOf (offInTicks goal (rideOff row shares) chosen)
     unfolding offInTicks arrivalWorth
     off-there there soon =
         ap (λ x. 256 * row .arrival + x) (ready .block .expected-held)
         ∙ sym (ap cellOf
-        (cond-true _ _ (eq-eqb (row .land) target there)
-        ∙ cond-true (some (arrivalWorth (rideOff row shares))) none (ap (within bound) (sym lands) ∙ soon)))
+        (cond-true _ _ (eq-eqb (row .land) (goal .target) there)
+        ∙ cond-true (some (arrivalWorth (rideOff row shares))) none (ap (within (goal .bound)) (sym lands) ∙ soon)))
 
-    elsewhere : (row .land ≡ target → ⊥)
-        → offInTicks target bound (rideOff row shares) chosen
+    elsewhere : (row .land ≡ goal .target → ⊥)
+        → offInTicks goal (rideOff row shares) chosen
         ≡ whenSafe (firstOpen chosen (row .land) (row .arrival + longest shares)) (changeWorth (rideOff row shares) chosen)
     unfolding offInTicks
-    elsewhere other = cond-false _ _ (ne-eqb (row .land) target other)
+    elsewhere other = cond-false _ _ (ne-eqb (row .land) (goal .target) other)
 
-    pub off-unsafe : (row .land ≡ target → ⊥) → firstOpen chosen (row .land) landing ≡ none
-        → missing ≡ cellOf (offInTicks target bound (rideOff row shares) chosen)
+    pub off-unsafe : (row .land ≡ goal .target → ⊥) → firstOpen chosen (row .land) landing ≡ none
+        → missing ≡ cellOf (offInTicks goal (rideOff row shares) chosen)
     unfolding whenSafe
     off-unsafe other unsafe =
         sym (ap cellOf
@@ -183,10 +184,10 @@ module _ {row : Row} {tables work shares : List ℕ} {chosen : List Valued} (rea
         ∙ ap (λ m. whenSafe (firstOpen chosen (row .land) m) (changeWorth (rideOff row shares) chosen)) (sym lands)
         ∙ ap (λ o. whenSafe o (changeWorth (rideOff row shares) chosen)) unsafe))
 
-    pub off-changing : (row .land ≡ target → ⊥) → 0 < stackSize work (row .land)
+    pub off-changing : (row .land ≡ goal .target → ⊥) → 0 < stackSize work (row .land)
         → landing ≤ departureAt work (stackStart work (row .land)) 0
         → up whole (weigh shares (row .arrival) (λ minute. caught chosen (row .land) minute))
-        ≡ cellOf (offInTicks target bound (rideOff row shares) chosen)
+        ≡ cellOf (offInTicks goal (rideOff row shares) chosen)
     unfolding changeWorth
     off-changing other filled late =
         sym (ap cellOf

@@ -4,6 +4,7 @@ ghost use mathlib.Core.List.{List};
 ghost use Prim.Native.Nat.{ℕ, _+_, _*_, _/_, _%_, _<_};
 ghost use lib.ListN.{length, getD};
 ghost use Rattle.timetable.specs.Classes.{whole};
+ghost use Rattle.plans.specs.declared.Goal.{Goal};
 ghost use Rattle.plans.specs.Journeys.{within};
 ghost use Rattle.plans.specs.Worth.{Valued, up, weigh};
 ghost use Rattle.plans.specs.Chosen.{offInTicks};
@@ -37,7 +38,7 @@ const WHOLE: u64 = 4096;
 pub fn getting_off(row: Row, tables: &[u32], goal: Goal, work: &[u32]) -> u32
     requires { ⌜ SomeReady row (now tables) (now work) ⌝ }
     ensures { λ r. ⌜ ((shares : List ℕ) (chosen : List Valued) → Ready row (now (tables .entry)) (now (work .entry)) shares chosen
-        → r ≡ cellOf (offInTicks (goal .target) (goal .bound) (rideOff row shares) chosen)) ⌝ }
+        → r ≡ cellOf (offInTicks goal (rideOff row shares) chosen)) ⌝ }
 {
     let class = BLOCK * row.class;
     let landing = row.arrival + number(tables[class + LONGEST]);

@@ -17,11 +17,12 @@ use Rattle.laws.proofs.Options.{present-or-absent}
 use Rattle.laws.proofs.Tests.{either}
 use Rattle.timetable.specs.Timetable.{Timetable, rowOf, noRow}
 use Rattle.query.specs.declared.Query.{Query}
+use Rattle.plans.specs.declared.Goal.{Goal}
 use Rattle.plans.specs.Sound.{Timely}
 use Rattle.plans.specs.Rides.{latest}
-use Rattle.plans.specs.Journeys.{within}
+use Rattle.plans.specs.Journeys.{goalOf, within}
 use Rattle.plans.specs.Worth.{Valued, firstOpen}
-use Rattle.plans.specs.Chosen.{GettingOff, Scan, scan, bestOf, choose, nextOf, least, getOff, stayOn, rowRide, offInTicks}
+use Rattle.plans.specs.Chosen.{Aim, inTicks, Scan, scan, bestOf, choose, nextOf, least, getOff, stayOn, rowRide}
 use Rattle.plans.specs.Plan.{upTo, extract, ridesFrom, chosenFor}
 use Rattle.plans.proofs.FromRow.{chosenFrom, bestAt, nextFrom, chosen-row, chosen-end, next-row, next-end}
 use Rattle.plans.proofs.Choice.{choice}
@@ -33,35 +34,35 @@ use Rattle.plan_rows.specs.Reading.{Cut}
 use Rattle.plan_rows.proofs.Departed.{notLeft, choice-left, first-left, late-up-to, extract-left}
 
 -- the scan of the rows from row i to before `end`
-abbrev pub scanPart : GettingOff → ℕ → Timetable → (i end : ℕ) → Scan
-scanPart off target t i end = scan off target (t .tables) i (slice i end (t .rows))
+abbrev pub scanPart : Aim → Timetable → (i end : ℕ) → Scan
+scanPart aim t i end = scan aim (t .tables) i (slice i end (t .rows))
 
 -- rows from `end` on that are worth nothing might as well not be there
-pub record Idle (off : GettingOff) (target : ℕ) (t : Timetable) (end : ℕ) : Type 0 where
+pub record Idle (aim : Aim) (t : Timetable) (end : ℕ) : Type 0 where
   pub inside : end ≤ length (t .rows)
-  pub none-chosen : chosenFrom off target t end ≡ []
-  pub no-next : (trip : ℕ) → nextFrom off target t end trip ≡ none
+  pub none-chosen : chosenFrom aim t end ≡ []
+  pub no-next : (trip : ℕ) → nextFrom aim t end trip ≡ none
 
-module _ (off : GettingOff) (target : ℕ) (t : Timetable) where
+module _ (aim : Aim) (t : Timetable) where
   -- behind the last row
-  pub idle-end : Idle off target t (length (t .rows))
-  idle-end = record { inside = le-refl (length (t .rows)); none-chosen = chosen-end off target t; no-next = next-end off target t }
+  pub idle-end : Idle aim t (length (t .rows))
+  idle-end = record { inside = le-refl (length (t .rows)); none-chosen = chosen-end aim t; no-next = next-end aim t }
 
-  pub worthless-idle : (end : ℕ) → end ≤ length (t .rows) → ((i : ℕ) → end ≤ i → i < length (t .rows) → bestAt off target t i ≡ none)
-      → Idle off target t end
+  pub worthless-idle : (end : ℕ) → end ≤ length (t .rows) → ((i : ℕ) → end ≤ i → i < length (t .rows) → bestAt aim t i ≡ none)
+      → Idle aim t end
   unfolding choose
   worthless-idle end inside worthless =
-      downward (λ i. end ≤ i → Idle off target t i) (length (t .rows)) (λ _. idle-end)
+      downward (λ i. end ≤ i → Idle aim t i) (length (t .rows)) (λ _. idle-end)
       (λ i h further later.
       let idle = further (omega arith) in
       record {
         inside = omega arith;
         none-chosen =
-            chosen-row off target t i h ∙ ap (λ (o : Option Valued). choose target o (chosenFrom off target t (suc i))) (worthless i later h)
+            chosen-row aim t i h ∙ ap (λ (o : Option Valued). choose aim o (chosenFrom aim t (suc i))) (worthless i later h)
             ∙ idle .none-chosen;
         no-next =
             λ trip.
-            next-row off target t i trip h
+            next-row aim t i trip h
             ∙ ap₂ (λ (a b : Option Valued). cond (eqb (rowOf (t .rows) i .trip) trip) a b) (worthless i later h) (idle .no-next trip)
             ∙ either-none (eqb (rowOf (t .rows) i .trip) trip);
       }) end inside (le-refl end)
@@ -74,118 +75,118 @@ module _ (off : GettingOff) (target : ℕ) (t : Timetable) where
       either-none false = refl
 
   -- a part of the rows is scanned as all of them
-  module _ (end : ℕ) (idle : Idle off target t end) where
+  module _ (end : ℕ) (idle : Idle aim t end) where
     abbrev Same : ℕ → Type 0
     Same i =
-        (scanPart off target t i end .chosen ≡ chosenFrom off target t i)
-        × ((trip : ℕ) → nextOf (scanPart off target t i end .weighed) trip ≡ nextFrom off target t i trip)
+        (scanPart aim t i end .chosen ≡ chosenFrom aim t i)
+        × ((trip : ℕ) → nextOf (scanPart aim t i end .weighed) trip ≡ nextFrom aim t i trip)
 
     part-row : (i : ℕ) → i < end → Same (suc i) → Same i
     unfolding scan bestAt bestOf chosenFrom nextFrom nextOf
     part-row i h same =
         let within : i < length (t .rows) = omega (arith, idle .inside) in
         let r = rowOf (t .rows) i in
-        let later = scanPart off target t (suc i) end in
-        let cut : scanPart off target t i end ≡ scan off target (t .tables) i (r ∷ slice (suc i) end (t .rows)) =
-        ap (scan off target (t .tables) i) (slice-cons i end (t .rows) noRow h (idle .inside))
+        let later = scanPart aim t (suc i) end in
+        let cut : scanPart aim t i end ≡ scan aim (t .tables) i (r ∷ slice (suc i) end (t .rows)) =
+        ap (scan aim (t .tables) i) (slice-cons i end (t .rows) noRow h (idle .inside))
         in
-        let best : bestOf off (t .tables) i r later ≡ bestAt off target t i =
+        let best : bestOf aim (t .tables) i r later ≡ bestAt aim t i =
         ap₂
-        (λ (vs : List Valued) (o : Option Valued). least (getOff (rowRide (t .tables) i r) (off (rowRide (t .tables) i r) vs)) (stayOn i r o))
+        (λ (vs : List Valued) (o : Option Valued). least (getOff (rowRide (t .tables) i r) (aim .off (rowRide (t .tables) i r) vs)) (stayOn i r o))
         (same .0) (same .1 (r .trip))
         in (
-          ap (λ (sc : Scan). sc .chosen) cut ∙ ap₂ (λ (o : Option Valued) (vs : List Valued). choose target o vs) best (same .0)
-              ∙ sym (chosen-row off target t i within),
+          ap (λ (sc : Scan). sc .chosen) cut ∙ ap₂ (λ (o : Option Valued) (vs : List Valued). choose aim o vs) best (same .0)
+              ∙ sym (chosen-row aim t i within),
           λ trip.
               ap (λ (sc : Scan). nextOf (sc .weighed) trip) cut
-              ∙ ap₂ (λ (a b : Option Valued). cond (eqb (r .trip) trip) a b) best (same .1 trip) ∙ sym (next-row off target t i trip within),
+              ∙ ap₂ (λ (a b : Option Valued). cond (eqb (r .trip) trip) a b) best (same .1 trip) ∙ sym (next-row aim t i trip within),
         )
 
     part-end : Same end
     unfolding scan nextOf
     part-end =
-        let empty : scanPart off target t end end ≡ record { weighed = []; chosen = [] } =
-        ap (scan off target (t .tables) end) (slice-empty end (t .rows))
+        let empty : scanPart aim t end end ≡ record { weighed = []; chosen = [] } =
+        ap (scan aim (t .tables) end) (slice-empty end (t .rows))
         in (
           ap (λ (sc : Scan). sc .chosen) empty ∙ sym (idle .none-chosen),
           λ trip. ap (λ (sc : Scan). nextOf (sc .weighed) trip) empty ∙ sym (idle .no-next trip),
         )
 
-    pub part-chosen : (first : ℕ) → first ≤ end → scanPart off target t first end .chosen ≡ chosenFrom off target t first
+    pub part-chosen : (first : ℕ) → first ≤ end → scanPart aim t first end .chosen ≡ chosenFrom aim t first
     part-chosen first h = downward Same end part-end part-row first h .0
 
 module _ (t : Timetable) (timely : Timely t) where
   -- a row that departs at or after a real bound has no worth
-  module _ (target bound : ℕ) (real : bound ≢ 0) where
-    past-bound : (i : ℕ) → i < length (t .rows) → bound ≤ rowOf (t .rows) i .departure → bestAt (offInTicks target bound) target t i ≡ none
+  module _ (goal : Goal) (real : goal .bound ≢ 0) where
+    past-bound : (i : ℕ) → i < length (t .rows) → goal .bound ≤ rowOf (t .rows) i .departure → bestAt (inTicks goal) t i ≡ none
     past-bound i h late =
-        present-or-absent (bestAt (offInTicks target bound) target t i ≡ none) (bestAt (offInTicks target bound) target t i) (λ e. e)
-        (λ v e. absurd (too-far v e (either (eqb bound 0) (leb (latest (v .ride)) bound) (best-within t timely target bound i h v e))))
+        present-or-absent (bestAt (inTicks goal) t i ≡ none) (bestAt (inTicks goal) t i) (λ e. e)
+        (λ v e. absurd (too-far v e (either (eqb (goal .bound) 0) (leb (latest (v .ride)) (goal .bound)) (best-within t timely goal i h v e))))
       where
-        too-far : (v : Valued) → bestAt (offInTicks target bound) target t i ≡ some v
-            → (eqb bound 0 ≡ true) ⊎ (leb (latest (v .ride)) bound ≡ true) → ⊥
-        too-far v e (inl q) = real (eqb-true bound 0 q)
+        too-far : (v : Valued) → bestAt (inTicks goal) t i ≡ some v
+            → (eqb (goal .bound) 0 ≡ true) ⊎ (leb (latest (v .ride)) (goal .bound) ≡ true) → ⊥
+        too-far v e (inl q) = real (eqb-true (goal .bound) 0 q)
         too-far v e (inr q) =
             let before : v .ride .departs < v .ride .arrives =
-            departs-before t timely (v .ride) (best-is-ride (offInTicks target bound) target t i h v e)
+            departs-before t timely (v .ride) (best-is-ride (inTicks goal) t i h v e)
             in
-            let leaves : v .ride .departs ≡ rowOf (t .rows) i .departure = best-boards (offInTicks target bound) target t i h v e .minute in
-            let z : ⊥ = omega (arith, leb-true (latest (v .ride)) bound q) in z
+            let leaves : v .ride .departs ≡ rowOf (t .rows) i .departure = best-boards (inTicks goal) t i h v e .minute in
+            let z : ⊥ = omega (arith, leb-true (latest (v .ride)) (goal .bound) q) in z
 
-    pub bound-idle : (end : ℕ) → Cut (t .rows) bound end → Idle (offInTicks target bound) target t end
+    pub bound-idle : (end : ℕ) → Cut (t .rows) (goal .bound) end → Idle (inTicks goal) t end
     bound-idle end cut =
-        worthless-idle (offInTicks target bound) target t end (cut .inside) (λ i h below. past-bound i below (cut .behind i h below))
+        worthless-idle (inTicks goal) t end (cut .inside) (λ i h below. past-bound i below (cut .behind i h below))
 
   -- rows before T change nothing from T on
-  module _ (off : GettingOff) (target minute first : ℕ) (cut : Cut (t .rows) minute first) where
-    not-left : (i : ℕ) → i ≤ first → notLeft minute (chosenFrom off target t i) ≡ notLeft minute (chosenFrom off target t first)
+  module _ (aim : Aim) (minute first : ℕ) (cut : Cut (t .rows) minute first) where
+    not-left : (i : ℕ) → i ≤ first → notLeft minute (chosenFrom aim t i) ≡ notLeft minute (chosenFrom aim t first)
     not-left =
-        downward (λ i. notLeft minute (chosenFrom off target t i) ≡ notLeft minute (chosenFrom off target t first)) first refl
+        downward (λ i. notLeft minute (chosenFrom aim t i) ≡ notLeft minute (chosenFrom aim t first)) first refl
         (λ i h later.
         let inside : i < length (t .rows) = omega (arith, cut .inside) in
-        ap (notLeft minute) (chosen-row off target t i inside)
-        ∙ choice-left minute target (choice target (bestAt off target t i) (chosenFrom off target t (suc i)))
-        (λ v e. subst (λ d. d < minute) (sym (best-boards off target t i inside v e .minute)) (cut .before i h))
+        ap (notLeft minute) (chosen-row aim t i inside)
+        ∙ choice-left minute aim (choice aim (bestAt aim t i) (chosenFrom aim t (suc i)))
+        (λ v e. subst (λ d. d < minute) (sym (best-boards aim t i inside v e .minute)) (cut .before i h))
         ∙ later)
 
-    pub first-same : (stop : ℕ) → firstOpen (chosenFrom off target t 0) stop minute ≡ firstOpen (chosenFrom off target t first) stop minute
+    pub first-same : (stop : ℕ) → firstOpen (chosenFrom aim t 0) stop minute ≡ firstOpen (chosenFrom aim t first) stop minute
     first-same stop =
-        sym (first-left minute (chosenFrom off target t 0) stop minute (le-refl minute))
+        sym (first-left minute (chosenFrom aim t 0) stop minute (le-refl minute))
         ∙ ap (λ (vs : List Valued). firstOpen vs stop minute) (not-left 0 (omega arith))
-        ∙ first-left minute (chosenFrom off target t first) stop minute (le-refl minute)
+        ∙ first-left minute (chosenFrom aim t first) stop minute (le-refl minute)
 
-    lands-later : (i : ℕ) → i ≤ length (t .rows) → (v : Valued) → List·Memᴰ v (chosenFrom off target t i) → v .ride .departs < v .ride .arrives
+    lands-later : (i : ℕ) → i ≤ length (t .rows) → (v : Valued) → List·Memᴰ v (chosenFrom aim t i) → v .ride .departs < v .ride .arrives
     lands-later i h v m =
-        let picked = chosen-picked off target t i h v m in
-        departs-before t timely (v .ride) (best-is-ride off target t (v .ride .board) (picked .inside) v (picked .best))
+        let picked = chosen-picked aim t i h v m in
+        departs-before t timely (v .ride) (best-is-ride aim t (v .ride .board) (picked .inside) v (picked .best))
 
-    pub rides-same : (goal stop : ℕ) (o : Option Valued)
-        → extract goal (upTo stop minute o) (chosenFrom off target t 0) ≡ extract goal (upTo stop minute o) (chosenFrom off target t first)
-    rides-same goal stop o =
+    pub rides-same : (target stop : ℕ) (o : Option Valued)
+        → extract target (upTo stop minute o) (chosenFrom aim t 0) ≡ extract target (upTo stop minute o) (chosenFrom aim t first)
+    rides-same target stop o =
         let late = late-up-to minute stop minute o (le-refl minute) in
-        extract-left minute goal (chosenFrom off target t 0) (lands-later 0 (omega arith)) (upTo stop minute o) late
-        ∙ ap (extract goal (upTo stop minute o)) (not-left 0 (omega arith))
-        ∙ sym (extract-left minute goal (chosenFrom off target t first) (lands-later first (cut .inside)) (upTo stop minute o) late)
+        extract-left minute target (chosenFrom aim t 0) (lands-later 0 (omega arith)) (upTo stop minute o) late
+        ∙ ap (extract target (upTo stop minute o)) (not-left 0 (omega arith))
+        ∙ sym (extract-left minute target (chosenFrom aim t first) (lands-later first (cut .inside)) (upTo stop minute o) late)
 
   -- for planning: the part's chosen rows stand for all of them
-  pub part-first : (target bound stop minute first end : ℕ) → Cut (t .rows) minute first → first ≤ end → Idle (offInTicks target bound) target t end
-      → firstOpen (chosenFor t target bound) stop minute ≡ firstOpen (scanPart (offInTicks target bound) target t first end .chosen) stop minute
-  part-first target bound stop minute first end cut h idle =
-      ap (λ (vs : List Valued). firstOpen vs stop minute) (chosen-for t target bound)
-      ∙ first-same (offInTicks target bound) target minute first cut stop
-      ∙ ap (λ (vs : List Valued). firstOpen vs stop minute) (sym (part-chosen (offInTicks target bound) target t end idle first h))
+  pub part-first : (goal : Goal) (stop minute first end : ℕ) → Cut (t .rows) minute first → first ≤ end → Idle (inTicks goal) t end
+      → firstOpen (chosenFor t goal) stop minute ≡ firstOpen (scanPart (inTicks goal) t first end .chosen) stop minute
+  part-first goal stop minute first end cut h idle =
+      ap (λ (vs : List Valued). firstOpen vs stop minute) (chosen-for t goal)
+      ∙ first-same (inTicks goal) minute first cut stop
+      ∙ ap (λ (vs : List Valued). firstOpen vs stop minute) (sym (part-chosen (inTicks goal) t end idle first h))
 
   pub part-rides : (q : Query) (bound first end : ℕ) → Cut (t .rows) (q .minute) first → first ≤ end
-      → Idle (offInTicks (q .target) bound) (q .target) t end
-      → ridesFrom q (chosenFor t (q .target) bound) ≡ ridesFrom q (scanPart (offInTicks (q .target) bound) (q .target) t first end .chosen)
+      → Idle (inTicks (goalOf q bound)) t end
+      → ridesFrom q (chosenFor t (goalOf q bound)) ≡ ridesFrom q (scanPart (inTicks (goalOf q bound)) t first end .chosen)
   unfolding ridesFrom
   part-rides q bound first end cut h idle =
-      let off = offInTicks (q .target) bound in
-      let whole = chosen-for t (q .target) bound in
-      let part = part-chosen off (q .target) t end idle first h in
+      let aim = inTicks (goalOf q bound) in
+      let whole = chosen-for t (goalOf q bound) in
+      let part = part-chosen aim t end idle first h in
       ap₂ (λ (o : Option Valued) (vs : List Valued). extract (q .target) (upTo (q .source) (q .minute) o) vs)
-      (part-first (q .target) bound (q .source) (q .minute) first end cut h idle) whole
-      ∙ rides-same off (q .target) (q .minute) first cut (q .target) (q .source)
-      (firstOpen (scanPart off (q .target) t first end .chosen) (q .source) (q .minute))
-      ∙ ap (extract (q .target) (upTo (q .source) (q .minute) (firstOpen (scanPart off (q .target) t first end .chosen) (q .source) (q .minute))))
+      (part-first (goalOf q bound) (q .source) (q .minute) first end cut h idle) whole
+      ∙ rides-same aim (q .minute) first cut (q .target) (q .source)
+      (firstOpen (scanPart aim t first end .chosen) (q .source) (q .minute))
+      ∙ ap (extract (q .target) (upTo (q .source) (q .minute) (firstOpen (scanPart aim t first end .chosen) (q .source) (q .minute))))
       (sym part)

@@ -10,7 +10,7 @@ use borrow.Author.Tests.{leb-true, leb-false, eqb-true, lt-leb}
 use Rattle.laws.proofs.Tests.{ifb, both-right, cond-true, cond-false}
 use Rattle.plans.specs.Rides.{Ride, latest, boards}
 use Rattle.plans.specs.Worth.{Valued, firstOpen}
-use Rattle.plans.specs.Chosen.{others}
+use Rattle.plans.specs.Chosen.{Aim, others}
 use Rattle.plans.specs.Plan.{Window, inWindow, wanted, upTo, windowsOf, extract}
 use Rattle.plans.proofs.Open.{too-late, first-further, first-here, on-head}
 use Rattle.plans.proofs.Choice.{Choice, worthless, at-target, behind, added, same-minute}
@@ -41,12 +41,12 @@ others-left m r (v ∷ vs) gone =
     same-departure e =
         eqb-true (v .ride .departs) (r .departs) (both-right (eqb (v .ride .from) (r .from)) (eqb (v .ride .departs) (r .departs)) e)
 
-pub choice-left : (m target : ℕ) {best : Option Valued} {old new : List Valued} → Choice target old best new
+pub choice-left : (m : ℕ) (aim : Aim) {best : Option Valued} {old new : List Valued} → Choice aim old best new
     → ((v : Valued) → best ≡ some v → v .ride .departs < m) → notLeft m new ≡ notLeft m old
-choice-left m target worthless gone = refl
-choice-left m target (at-target p) gone = refl
-choice-left m target (behind p) gone = refl
-choice-left m target {old = old} (added {v = v} apart lead) gone =
+choice-left m aim worthless gone = refl
+choice-left m aim (at-target p) gone = refl
+choice-left m aim (behind p) gone = refl
+choice-left m aim {old = old} (added {v = v} apart lead) gone =
     left-out m v (others (v .ride) old) (gone v refl) ∙ others-left m (v .ride) old (gone v refl)
 
 -- who comes at or after m finds the same first ride

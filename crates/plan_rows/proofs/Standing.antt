@@ -14,9 +14,9 @@ use Rattle.file_layout.proofs.Blocks.{blockAt, table-has}
 use Rattle.file_layout.proofs.Sound.{SoundFile, version-one-readable}
 use Rattle.plans.specs.Sound.{Timely}
 use Rattle.query.specs.declared.Query.{Query}
-use Rattle.plans.specs.Journeys.{boundOf}
+use Rattle.plans.specs.Journeys.{goalOf, boundOf}
 use Rattle.plans.specs.Worth.{Valued, firstOpen}
-use Rattle.plans.specs.Chosen.{scan, scanned, offInTicks}
+use Rattle.plans.specs.Chosen.{inTicks, scan, scanned}
 use Rattle.plans.specs.Plan.{planned, planBefore, planWithin, chosenFor, ridesFrom, latestOf, earliest}
 use Rattle.plan_rows.specs.Reading.{rowsIn, tablesIn, timetableIn, RowFits, SharesFit, Stand, BlocksStand}
 use Rattle.plan_rows.specs.Sections.{sailingsOf, Plannable}
@@ -45,7 +45,7 @@ within-same one other rows tables q bound none = refl
 within-same one other rows tables q bound (some first) =
     ap₂
     (λ (ts : List (List ℕ)) (rs : List Row).
-    let rides = ridesFrom q (scan (offInTicks (q .target) bound) (q .target) ts 0 rs .chosen) in
+    let rides = ridesFrom q (scan (inTicks (goalOf q bound)) ts 0 rs .chosen) in
     some (record { rides = rides; expected = first .worth; last = latestOf rides; bound = bound }))
     tables rows
 
@@ -56,9 +56,9 @@ before-same one other rows tables q none = refl
 before-same one other rows tables q (some e) =
     ap₂
     (λ (ts : List (List ℕ)) (rs : List Row).
-    planWithin one q (boundOf q e) (firstOpen (scan (offInTicks (q .target) (boundOf q e)) (q .target) ts 0 rs .chosen) (q .source) (q .minute)))
+    planWithin one q (boundOf q e) (firstOpen (scan (inTicks (goalOf q (boundOf q e))) ts 0 rs .chosen) (q .source) (q .minute)))
     tables rows
-    ∙ within-same one other rows tables q (boundOf q e) (firstOpen (chosenFor other (q .target) (boundOf q e)) (q .source) (q .minute))
+    ∙ within-same one other rows tables q (boundOf q e) (firstOpen (chosenFor other (goalOf q (boundOf q e))) (q .source) (q .minute))
 
 pub same-plan : (f : Format) (s : List ℕ) (q : Query) → planned (decode f s) q ≡ planned (timetableIn s (sailingsOf f (headOf f s))) q
 unfolding planned

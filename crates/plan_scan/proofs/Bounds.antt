@@ -5,7 +5,7 @@ use mathlib.Core.Path.{_≡_, sym, ap, subst, _∙_}
 use native.Mathlib.Omega.{arith}
 use lib.ListN.{getD}
 use lib.Seq.{slice, slice-empty, length-slice}
-use Rattle.plans.specs.Chosen.{Scan, scan, nextOf}
+use Rattle.plans.specs.Chosen.{inTicks, Scan, scan, nextOf}
 use Rattle.plan_cells.specs.Cells.{trips, missing, stackAt, stackStart}
 use Rattle.plan_rows.specs.declared.Sailings.{Sailings}
 use Rattle.plan_rows.specs.Reading.{rowsIn, tablesIn, Stand}
@@ -24,7 +24,7 @@ nothing = record { weighed = []; chosen = [] }
 module _ (file : List ℕ) (s : Sailings) (goal : Goal) (first end : ℕ) (stand : Stand file s) (inside : end ≤ s .rows) where
   scan-none : scanIn file s goal end end ≡ nothing
   unfolding scan
-  scan-none = ap (scan _ (goal .target) (tablesIn file s) end) (slice-empty end (rowsIn file s))
+  scan-none = ap (scan (inTicks goal) (tablesIn file s) end) (slice-empty end (rowsIn file s))
 
   -- no row has been weighed: no trip has a next row, the stacks are empty
   pub held-begins :

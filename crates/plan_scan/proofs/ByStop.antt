@@ -12,7 +12,7 @@ use Rattle.laws.proofs.Members.{head-or-later}
 use Rattle.laws.proofs.Tests.{ifb, both-left, both-right, cond-true, cond-false}
 use Rattle.plans.specs.Rides.{Ride}
 use Rattle.plans.specs.Worth.{Valued}
-use Rattle.plans.specs.Chosen.{firstAt, leads, others, choose}
+use Rattle.plans.specs.Chosen.{Aim, firstAt, leads, others, choose}
 use Rattle.plans.proofs.Choice.{Choice, worthless, at-target, behind, added, choice, same-minute}
 use Rattle.plan_landing.specs.Landing.{atStop}
 use Rattle.plan_landing.proofs.AtStop.{at-stop-here, at-stop-elsewhere}
@@ -88,74 +88,74 @@ first-at (v ∷ vs) s =
 -- ---- one more row
 
 elsewhere-by :
-    (target s : ℕ) {chosen new : List Valued} {best : Option Valued} → Choice target chosen best new → ((v : Valued) → best ≡ some v → v .ride .from ≢ s)
+    (aim : Aim) (s : ℕ) {chosen new : List Valued} {best : Option Valued} → Choice aim chosen best new → ((v : Valued) → best ≡ some v → v .ride .from ≢ s)
     → atStop s new ≡ atStop s chosen
-elsewhere-by target s worthless away = refl
-elsewhere-by target s (at-target p) away = refl
-elsewhere-by target s (behind p) away = refl
-elsewhere-by target s {chosen = chosen} (added {v = v} apart lead) away =
+elsewhere-by aim s worthless away = refl
+elsewhere-by aim s (at-target p) away = refl
+elsewhere-by aim s (behind p) away = refl
+elsewhere-by aim s {chosen = chosen} (added {v = v} apart lead) away =
     at-stop-elsewhere s v (others (v .ride) chosen) (away v refl) ∙ at-others (v .ride) chosen s
     ∙ others-absent (v .ride) (atStop s chosen) (λ x m there. absurd (away v refl (sym there ∙ at-from s chosen m)))
 
 -- other stops keep their chosen rides
 pub choose-elsewhere :
-    (target : ℕ) (best : Option Valued) (chosen : List Valued) (s : ℕ) → ((v : Valued) → best ≡ some v → v .ride .from ≢ s)
-    → atStop s (choose target best chosen) ≡ atStop s chosen
-choose-elsewhere target best chosen s away = elsewhere-by target s (choice target best chosen) away
+    (aim : Aim) (best : Option Valued) (chosen : List Valued) (s : ℕ) → ((v : Valued) → best ≡ some v → v .ride .from ≢ s)
+    → atStop s (choose aim best chosen) ≡ atStop s chosen
+choose-elsewhere aim best chosen s away = elsewhere-by aim s (choice aim best chosen) away
 
 target-by :
-    (target : ℕ) {chosen new : List Valued} {best : Option Valued} → Choice target chosen best new → ((v : Valued) → best ≡ some v → v .ride .from ≡ target)
+    (aim : Aim) {chosen new : List Valued} {best : Option Valued} → Choice aim chosen best new → ((v : Valued) → best ≡ some v → v .ride .from ≡ aim .target)
     → new ≡ chosen
-target-by target worthless there = refl
-target-by target (at-target p) there = refl
-target-by target (behind p) there = refl
-target-by target (added {v = v} apart lead) there = absurd (apart (there v refl))
+target-by aim worthless there = refl
+target-by aim (at-target p) there = refl
+target-by aim (behind p) there = refl
+target-by aim (added {v = v} apart lead) there = absurd (apart (there v refl))
 
 pub choose-target :
-    (target : ℕ) (best : Option Valued) (chosen : List Valued) → ((v : Valued) → best ≡ some v → v .ride .from ≡ target) → choose target best chosen ≡ chosen
-choose-target target best chosen there = target-by target (choice target best chosen) there
+    (aim : Aim) (best : Option Valued) (chosen : List Valued) → ((v : Valued) → best ≡ some v → v .ride .from ≡ aim .target) → choose aim best chosen ≡ chosen
+choose-target aim best chosen there = target-by aim (choice aim best chosen) there
 
-pub choose-none : (target : ℕ) (chosen : List Valued) → choose target none chosen ≡ chosen
+pub choose-none : (aim : Aim) (chosen : List Valued) → choose aim none chosen ≡ chosen
 unfolding choose
-choose-none target chosen = refl
+choose-none aim chosen = refl
 
-module _ (target : ℕ) (chosen : List Valued) (v : Valued) (away : v .ride .from ≢ target) where
-  leading : leads (v .worth) (headOf (atStop (v .ride .from) chosen)) ≡ true → choose target (some v) chosen ≡ v ∷ others (v .ride) chosen
+module _ (aim : Aim) (chosen : List Valued) (v : Valued) (away : v .ride .from ≢ aim .target) where
+  leading : leads (v .worth) (headOf (atStop (v .ride .from) chosen)) ≡ true → choose aim (some v) chosen ≡ v ∷ others (v .ride) chosen
   unfolding choose
   leading e =
       cond-true (v ∷ others (v .ride) chosen) chosen
-      (ap (λ b. not b && leads (v .worth) (firstAt chosen (v .ride .from))) (ne-eqb (v .ride .from) target away)
+      (ap (λ b. not b && leads (v .worth) (firstAt chosen (v .ride .from))) (ne-eqb (v .ride .from) (aim .target) away)
       ∙ ap (leads (v .worth)) (first-at chosen (v .ride .from)) ∙ e)
 
-  led : leads (v .worth) (headOf (atStop (v .ride .from) chosen)) ≡ false → choose target (some v) chosen ≡ chosen
+  led : leads (v .worth) (headOf (atStop (v .ride .from) chosen)) ≡ false → choose aim (some v) chosen ≡ chosen
   unfolding choose
   led e =
       cond-false (v ∷ others (v .ride) chosen) chosen
-      (ap (λ b. not b && leads (v .worth) (firstAt chosen (v .ride .from))) (ne-eqb (v .ride .from) target away)
+      (ap (λ b. not b && leads (v .worth) (firstAt chosen (v .ride .from))) (ne-eqb (v .ride .from) (aim .target) away)
       ∙ ap (leads (v .worth)) (first-at chosen (v .ride .from)) ∙ e)
 
   joined :
       (l : List Valued) → atStop (v .ride .from) chosen ≡ l → leads (v .worth) (headOf l) ≡ true
-      → atStop (v .ride .from) (choose target (some v) chosen) ≡ v ∷ others (v .ride) l
+      → atStop (v .ride .from) (choose aim (some v) chosen) ≡ v ∷ others (v .ride) l
   joined l e lead =
       ap (atStop (v .ride .from)) (leading (subst (λ (k : List Valued). leads (v .worth) (headOf k) ≡ true) (sym e) lead))
       ∙ at-stop-here (v .ride .from) v (others (v .ride) chosen) refl
       ∙ ap (λ (k : List Valued). v ∷ k) (at-others (v .ride) chosen (v .ride .from) ∙ ap (others (v .ride)) e)
 
   -- the stop has no chosen ride yet
-  pub own-alone : atStop (v .ride .from) chosen ≡ [] → atStop (v .ride .from) (choose target (some v) chosen) ≡ v ∷ []
+  pub own-alone : atStop (v .ride .from) chosen ≡ [] → atStop (v .ride .from) (choose aim (some v) chosen) ≡ v ∷ []
   unfolding leads
   own-alone e = joined [] e refl ∙ ap (λ (k : List Valued). v ∷ k) (none-gone (v .ride))
 
   module _ (u : Valued) (rest : List Valued) (e : atStop (v .ride .from) chosen ≡ u ∷ rest) where
     -- its first chosen ride is worth no more
-    pub own-kept : u .worth ≤ v .worth → atStop (v .ride .from) (choose target (some v) chosen) ≡ u ∷ rest
+    pub own-kept : u .worth ≤ v .worth → atStop (v .ride .from) (choose aim (some v) chosen) ≡ u ∷ rest
     unfolding leads
     own-kept h = ap (atStop (v .ride .from)) (led (subst (λ (k : List Valued). leads (v .worth) (headOf k) ≡ false) (sym e) (le-ltb (v .worth) (u .worth) h))) ∙ e
 
     module _ (below : v .worth < u .worth) (later : (x : Valued) → List·Memᴰ x rest → u .ride .departs < x .ride .departs)
         (rising : v .ride .departs ≤ u .ride .departs) where
-      own-joined : atStop (v .ride .from) (choose target (some v) chosen) ≡ v ∷ others (v .ride) (u ∷ rest)
+      own-joined : atStop (v .ride .from) (choose aim (some v) chosen) ≡ v ∷ others (v .ride) (u ∷ rest)
       unfolding leads
       own-joined = joined (u ∷ rest) e (lt-ltb (v .worth) (u .worth) below)
 
@@ -165,14 +165,14 @@ module _ (target : ℕ) (chosen : List Valued) (v : Valued) (away : v .ride .fro
 
       -- in the same minute it replaces that ride
       pub own-replaces : u .ride .from ≡ v .ride .from → u .ride .departs ≡ v .ride .departs
-          → atStop (v .ride .from) (choose target (some v) chosen) ≡ v ∷ rest
+          → atStop (v .ride .from) (choose aim (some v) chosen) ≡ v ∷ rest
       own-replaces there then =
           own-joined
           ∙ ap (λ (k : List Valued). v ∷ k) (others-gone (v .ride) u rest
           (ap (λ b. b && eqb (u .ride .departs) (v .ride .departs)) (eq-eqb (u .ride .from) (v .ride .from) there) ∙ eq-eqb (u .ride .departs) (v .ride .departs) then)
           ∙ rest-stays)
 
-      pub own-ahead : u .ride .departs ≢ v .ride .departs → atStop (v .ride .from) (choose target (some v) chosen) ≡ v ∷ (u ∷ rest)
+      pub own-ahead : u .ride .departs ≢ v .ride .departs → atStop (v .ride .from) (choose aim (some v) chosen) ≡ v ∷ (u ∷ rest)
       own-ahead then =
           own-joined
           ∙ ap (λ (k : List Valued). v ∷ k) (others-absent (v .ride) (u ∷ rest)

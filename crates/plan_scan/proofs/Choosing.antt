@@ -12,7 +12,7 @@ use borrow.Author.Tests.{eqb-true, eqb-false, ltb-true, ltb-false}
 use Rattle.laws.proofs.Tests.{ifb}
 use Rattle.timetable.specs.declared.Row.{Row}
 use Rattle.plans.specs.Worth.{Valued}
-use Rattle.plans.specs.Chosen.{choose}
+use Rattle.plans.specs.Chosen.{Aim, choose}
 use Rattle.plans.proofs.Order.{Ordered}
 use Rattle.plan_cells.specs.Cells.{Entry, missing, keyOf, stackAt, stackStart, stackSize}
 use Rattle.plan_landing.specs.Landing.{atStop, entryOf, EntryFits}
@@ -30,9 +30,9 @@ use Rattle.plan_scan.proofs.StackHeld.{stack-kept, stack-none, Top, sta
 use Rattle.plan_scan.proofs.Stored.{stored, stored-start, stored-size, stored-other, stored-stack, stored-own-size, pushed-stored}
 
 -- what is known of a row that has been weighed, and of the rides chosen behind it
-pub record Choosable (row : Row) (i target : ℕ) (best : Option Valued) (chosen : List Valued) : Type 0 where
+pub record Choosable (row : Row) (i : ℕ) (aim : Aim) (best : Option Valued) (chosen : List Valued) : Type 0 where
   pub board : row .board < 200
-  pub away : row .board ≢ target
+  pub away : row .board ≢ aim .target
   pub boarded : (v : Valued) → best ≡ some v → v .ride .board ≡ i
   pub stop : (v : Valued) → best ≡ some v → v .ride .from ≡ row .board
   pub minute : (v : Valued) → best ≡ some v → v .ride .departs ≡ row .departure
@@ -53,7 +53,7 @@ worth-some : (best : Option Valued) (a b : ℕ) → Holds a b best → (a ≡ mi
 worth-some none a b h has = absurd (has h)
 worth-some (some v) a b h has = (v, refl, h .0)
 
-module _ (row : Row) (i target : ℕ) (best : Option Valued) (chosen : List Valued) (c : Choosable row i target best chosen) (w : List ℕ)
+module _ (row : Row) (i : ℕ) (aim : Aim) (best : Option Valued) (chosen : List Valued) (c : Choosable row i aim best chosen) (w : List ℕ)
     (from : ℕ) (all rest : List Row) (held : (stop : ℕ) → stop < 200 → StackHeld w from all rest chosen stop)
     (suffix : (stop : ℕ) → countAt stop (row ∷ rest) ≤ countAt stop all) (room : pairCell (from + below (λ s. countAt s all) 200) ≤ length w) where
   own : StackHeld w from all rest chosen (row .board)
@@ -100,27 +100,27 @@ module _ (row : Row) (i target : ℕ) (best : Option Valued) (chosen : List Valu
   elsewhere v stop ne e q = ne (sym (c .stop v e) ∙ q)
 
   -- nothing was stored
-  kept : atStop (row .board) (choose target best chosen) ≡ atStop (row .board) chosen → (stop : ℕ) → stop < 200
-      → StackHeld w from all (row ∷ rest) (choose target best chosen) stop
+  kept : atStop (row .board) (choose aim best chosen) ≡ atStop (row .board) chosen → (stop : ℕ) → stop < 200
+      → StackHeld w from all (row ∷ rest) (choose aim best chosen) stop
   kept same stop h =
       let old = held stop h in
       record {
         start = old .start;
         room = (let few = old .room in let more = count-more stop row rest in omega arith);
         holds = old .holds ∙ ap (map entryOf)
-            (ifb (λ b. eqb (row .board) stop ≡ b → atStop stop chosen ≡ atStop stop (choose target best chosen)) (eqb (row .board) stop)
-            (λ e _. subst (λ k. atStop k chosen ≡ atStop k (choose target best chosen)) (eqb-true (row .board) stop e) (sym same))
-            (λ e _. sym (choose-elsewhere target best chosen stop (λ v. elsewhere v stop (eqb-false (row .board) stop e)))) refl);
+            (ifb (λ b. eqb (row .board) stop ≡ b → atStop stop chosen ≡ atStop stop (choose aim best chosen)) (eqb (row .board) stop)
+            (λ e _. subst (λ k. atStop k chosen ≡ atStop k (choose aim best chosen)) (eqb-true (row .board) stop e) (sym same))
+            (λ e _. sym (choose-elsewhere aim best chosen stop (λ v. elsewhere v stop (eqb-false (row .board) stop e)))) refl);
       }
 
   -- the row's entry was stored k pairs behind the start
   put : (k : ℕ) → k ≤ sizeOf w (row .board)
-      → entry (keyOf (row .departure) i) (worthAt w i) ∷ stackAt w (stackStart w (row .board)) k ≡ map entryOf (atStop (row .board) (choose target best chosen))
-      → (stop : ℕ) → stop < 200 → StackHeld (stored row i k w) from all (row ∷ rest) (choose target best chosen) stop
+      → entry (keyOf (row .departure) i) (worthAt w i) ∷ stackAt w (stackStart w (row .board)) k ≡ map entryOf (atStop (row .board) (choose aim best chosen))
+      → (stop : ℕ) → stop < 200 → StackHeld (stored row i k w) from all (row ∷ rest) (choose aim best chosen) stop
   unfolding Beside
   put k low now stop h =
-      ifb (λ b. eqb (row .board) stop ≡ b → StackHeld (stored row i k w) from all (row ∷ rest) (choose target best chosen) stop) (eqb (row .board) stop)
-      (λ e _. subst (λ x. StackHeld (stored row i k w) from all (row ∷ rest) (choose target best chosen) x) (eqb-true (row .board) stop e)
+      ifb (λ b. eqb (row .board) stop ≡ b → StackHeld (stored row i k w) from all (row ∷ rest) (choose aim best chosen) stop) (eqb (row .board) stop)
+      (λ e _. subst (λ x. StackHeld (stored row i k w) from all (row ∷ rest) (choose aim best chosen) x) (eqb-true (row .board) stop e)
       (record {
         start = stored-start row i k w (c .board) (row .board) (c .board) ∙ own .start;
         room = (let size = stored-own-size row i k w (c .board) (stored-inside k low) in
@@ -137,42 +137,42 @@ module _ (row : Row) (i target : ℕ) (best : Option Valued) (chosen : List Valu
             let more = count-more stop row rest in omega arith);
         holds = stack-kept w (stored row i k w) stop (stored-start row i k w (c .board) stop h) (stored-size row i k w (c .board) stop h ne)
             (λ j a b. let beside = apart k low stop h ne j a b in stored-other row i k w (c .board) j (λ q. omega arith) (beside .0) (beside .1))
-            ∙ old .holds ∙ ap (map entryOf) (sym (choose-elsewhere target best chosen stop (λ v. elsewhere v stop ne)));
+            ∙ old .holds ∙ ap (map entryOf) (sym (choose-elsewhere aim best chosen stop (λ v. elsewhere v stop ne)));
       }) refl
 
   module _ (holds : PairHolds w i best) where
     -- the row has no worth
-    none-chosen : worthAt w i ≡ missing → atStop (row .board) (choose target best chosen) ≡ atStop (row .board) chosen
+    none-chosen : worthAt w i ≡ missing → atStop (row .board) (choose aim best chosen) ≡ atStop (row .board) chosen
     none-chosen e =
-        ap (atStop (row .board)) (ap (λ (o : Option Valued). choose target o chosen)
-        (worth-none best (getD w (pairCell i) 0) (getD w (pairCell i + 1) 0) (pair-holds w i best holds) e) ∙ choose-none target chosen)
+        ap (atStop (row .board)) (ap (λ (o : Option Valued). choose aim o chosen)
+        (worth-none best (getD w (pairCell i) 0) (getD w (pairCell i + 1) 0) (pair-holds w i best holds) e) ∙ choose-none aim chosen)
 
     module _ (v : Valued) (is : best ≡ some v) (worth : worthAt w i ≡ v .worth) where
-      own-away : v .ride .from ≢ target
+      own-away : v .ride .from ≢ aim .target
       own-away q = c .away (sym (c .stop v is) ∙ q)
 
       at-own : (l : List Valued) → atStop (row .board) chosen ≡ l → atStop (v .ride .from) chosen ≡ l
       at-own l e = ap (λ s. atStop s chosen) (c .stop v is) ∙ e
 
-      to-own : (l : List Valued) → atStop (v .ride .from) (choose target (some v) chosen) ≡ l → atStop (row .board) (choose target best chosen) ≡ l
-      to-own l e = ap₂ (λ (s : ℕ) (o : Option Valued). atStop s (choose target o chosen)) (sym (c .stop v is)) is ∙ e
+      to-own : (l : List Valued) → atStop (v .ride .from) (choose aim (some v) chosen) ≡ l → atStop (row .board) (choose aim best chosen) ≡ l
+      to-own l e = ap₂ (λ (s : ℕ) (o : Option Valued). atStop s (choose aim o chosen)) (sym (c .stop v is)) is ∙ e
 
       own-entry : entry (keyOf (row .departure) i) (worthAt w i) ≡ entryOf v
       own-entry = ap₂ entry (ap₂ keyOf (sym (c .minute v is)) (sym (c .boarded v is))) worth
 
       -- the stack with the row's entry on top of those of `under`
       topped : (k : ℕ) (under : List Valued) → stackAt w (stackStart w (row .board)) k ≡ map entryOf under
-          → atStop (v .ride .from) (choose target (some v) chosen) ≡ v ∷ under
-          → entry (keyOf (row .departure) i) (worthAt w i) ∷ stackAt w (stackStart w (row .board)) k ≡ map entryOf (atStop (row .board) (choose target best chosen))
+          → atStop (v .ride .from) (choose aim (some v) chosen) ≡ v ∷ under
+          → entry (keyOf (row .departure) i) (worthAt w i) ∷ stackAt w (stackStart w (row .board)) k ≡ map entryOf (atStop (row .board) (choose aim best chosen))
       topped k under stack now =
           ap₂ (λ (e : Entry) (es : List Entry). e ∷ es) own-entry stack ∙ ap (map entryOf) (sym (to-own (v ∷ under) now))
 
-      first-put : sizeOf w (row .board) ≡ 0 → (stop : ℕ) → stop < 200 → StackHeld (stored row i 0 w) from all (row ∷ rest) (choose target best chosen) stop
+      first-put : sizeOf w (row .board) ≡ 0 → (stop : ℕ) → stop < 200 → StackHeld (stored row i 0 w) from all (row ∷ rest) (choose aim best chosen) stop
       first-put size =
           let stack : stackAt w (stackStart w (row .board)) 0 ≡ map entryOf (atStop (row .board) chosen) =
           subst (λ n. stackAt w (stackStart w (row .board)) n ≡ map entryOf (atStop (row .board) chosen)) size (own .holds) in
           let none' : atStop (row .board) chosen ≡ [] = stack-none w (stackStart w (row .board)) (atStop (row .board) chosen) stack in
-          put 0 (omega arith) (topped 0 [] (stack ∙ ap (map entryOf) none') (own-alone target chosen v own-away (at-own [] none')))
+          put 0 (omega arith) (topped 0 [] (stack ∙ ap (map entryOf) none') (own-alone aim chosen v own-away (at-own [] none')))
 
       module _ (k : ℕ) (size : sizeOf w (row .board) ≡ suc k) where
         stack : stackAt w (stackStart w (row .board)) (suc k) ≡ map entryOf (atStop (row .board) chosen)
@@ -209,10 +209,10 @@ module _ (row : Row) (i target : ℕ) (best : Option Valued) (chosen : List Valu
         rises = subst (λ x. x ≤ top .first .ride .departs) (sym (c .minute v is)) (c .rising (top .first) (first-member .0))
 
         not-chosen : getD w (pairCell (startOf w (row .board) + k) + 1) 0 ≤ worthAt w i
-            → atStop (row .board) (choose target best chosen) ≡ atStop (row .board) chosen
+            → atStop (row .board) (choose aim best chosen) ≡ atStop (row .board) chosen
         not-chosen h =
             to-own (top .first ∷ top .rest)
-            (own-kept target chosen v own-away (top .first) (top .rest) (at-own (top .first ∷ top .rest) (top .all)) (omega (arith, top-worth)))
+            (own-kept aim chosen v own-away (top .first) (top .rest) (at-own (top .first ∷ top .rest) (top .all)) (omega (arith, top-worth)))
             ∙ sym (top .all)
 
         module _ (less : worthAt w i < getD w (pairCell (startOf w (row .board) + k) + 1) 0) where
@@ -220,19 +220,19 @@ module _ (row : Row) (i target : ℕ) (best : Option Valued) (chosen : List Valu
           below-first = omega (arith, top-worth)
 
           replace-put : getD w (pairCell (startOf w (row .board) + k)) 0 / 2048 ≡ row .departure
-              → (stop : ℕ) → stop < 200 → StackHeld (stored row i k w) from all (row ∷ rest) (choose target best chosen) stop
+              → (stop : ℕ) → stop < 200 → StackHeld (stored row i k w) from all (row ∷ rest) (choose aim best chosen) stop
           replace-put same =
               put k (omega arith)
               (topped k (top .rest) (top .below)
-              (own-replaces target chosen v own-away (top .first) (top .rest) (at-own (top .first ∷ top .rest) (top .all)) below-first later rises
+              (own-replaces aim chosen v own-away (top .first) (top .rest) (at-own (top .first ∷ top .rest) (top .all)) below-first later rises
               (first-member .1 ∙ sym (c .stop v is)) (sym top-departs ∙ same ∙ sym (c .minute v is))))
 
           ahead-put : (getD w (pairCell (startOf w (row .board) + k)) 0 / 2048 ≡ row .departure → ⊥)
-              → (stop : ℕ) → stop < 200 → StackHeld (stored row i (suc k) w) from all (row ∷ rest) (choose target best chosen) stop
+              → (stop : ℕ) → stop < 200 → StackHeld (stored row i (suc k) w) from all (row ∷ rest) (choose aim best chosen) stop
           ahead-put other =
               put (suc k) (omega arith)
               (topped (suc k) (top .first ∷ top .rest) (stack ∙ ap (map entryOf) (top .all))
-              (own-ahead target chosen v own-away (top .first) (top .rest) (at-own (top .first ∷ top .rest) (top .all)) below-first later rises
+              (own-ahead aim chosen v own-away (top .first) (top .rest) (at-own (top .first ∷ top .rest) (top .all)) below-first later rises
               (λ q. other (top-departs ∙ q ∙ c .minute v is))))
 
     -- the worth that the row has
@@ -240,23 +240,23 @@ module _ (row : Row) (i target : ℕ) (best : Option Valued) (chosen : List Valu
     found has = worth-some best (getD w (pairCell i) 0) (getD w (pairCell i + 1) 0) (pair-holds w i best holds) has
 
     pub stacks-chosen :
-        (w' : List ℕ) → Chose row i w w' → (stop : ℕ) → stop < 200 → StackHeld w' from all (row ∷ rest) (choose target best chosen) stop
+        (w' : List ℕ) → Chose row i w w' → (stop : ℕ) → stop < 200 → StackHeld w' from all (row ∷ rest) (choose aim best chosen) stop
     stacks-chosen w' (worthless e q) stop h =
-        subst (λ (l : List ℕ). StackHeld l from all (row ∷ rest) (choose target best chosen) stop) (sym q) (kept (none-chosen e) stop h)
+        subst (λ (l : List ℕ). StackHeld l from all (row ∷ rest) (choose aim best chosen) stop) (sym q) (kept (none-chosen e) stop h)
     stacks-chosen w' (alone has size q) stop h =
         let f = found has in
-        subst (λ (l : List ℕ). StackHeld l from all (row ∷ rest) (choose target best chosen) stop) (sym q) (first-put (f .0) (f .1) (f .2) size stop h)
+        subst (λ (l : List ℕ). StackHeld l from all (row ∷ rest) (choose aim best chosen) stop) (sym q) (first-put (f .0) (f .1) (f .2) size stop h)
     stacks-chosen w' (not-below has k size less q) stop h =
         let f = found has in
-        subst (λ (l : List ℕ). StackHeld l from all (row ∷ rest) (choose target best chosen) stop) (sym q)
+        subst (λ (l : List ℕ). StackHeld l from all (row ∷ rest) (choose aim best chosen) stop) (sym q)
         (kept (not-chosen (f .0) (f .1) (f .2) k size less) stop h)
     stacks-chosen w' (replaces has k size less same q) stop h =
         let f = found has in
-        subst (λ (l : List ℕ). StackHeld l from all (row ∷ rest) (choose target best chosen) stop)
+        subst (λ (l : List ℕ). StackHeld l from all (row ∷ rest) (choose aim best chosen) stop)
         (sym (q ∙ pushed-stored row i k w (c .board) size)) (replace-put (f .0) (f .1) (f .2) k size less same stop h)
     stacks-chosen w' (ahead has k size less other q) stop h =
         let f = found has in
-        subst (λ (l : List ℕ). StackHeld l from all (row ∷ rest) (choose target best chosen) stop) (sym q)
+        subst (λ (l : List ℕ). StackHeld l from all (row ∷ rest) (choose aim best chosen) stop) (sym q)
         (ahead-put (f .0) (f .1) (f .2) k size less other stop h)
 
   -- what a store leaves of the other cells

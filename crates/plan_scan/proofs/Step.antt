@@ -11,7 +11,7 @@ use lib.Seq.{slice, slice-cons, length-slice}
 use Rattle.timetable.specs.Timetable.{rowOf, noRow, sharesOf}
 use Rattle.timetable.specs.declared.Row.{Row}
 use Rattle.plans.specs.Worth.{Valued, arrivalWorth, changeWorth}
-use Rattle.plans.specs.Chosen.{Scan, choose, offInTicks}
+use Rattle.plans.specs.Chosen.{inTicks, Scan, choose, offInTicks}
 use Rattle.plan_cells.specs.Cells.{stops, sizes, used, cellOf, stackStart, stackSize}
 use Rattle.plan_rows.specs.declared.Sailings.{Sailings}
 use Rattle.plan_rows.specs.Reading.{rowsIn, tablesIn, Stand, TablesHeld, RowFits}
@@ -27,7 +27,7 @@ use Rattle.plan_scan.proofs.PairsHeld.{inFront, pairs-kept, pairs-weigh
 use Rattle.plan_scan.proofs.StackHeld.{stack-kept}
 use Rattle.plan_scan.proofs.Stored.{stored, stored-other, length-stored, drop-stored}
 use Rattle.plan_scan.proofs.Choosing.{Choosable, stacks-chosen, chose-or-stored}
-use Rattle.plan_scan.proofs.TimetableTo.{bestRow, ownRide, offFor, scan-step, best-step, BoardsRow, best-boards-row, scan-ordered, climbing, chosen-fits, rising-behind, off-fits}
+use Rattle.plan_scan.proofs.TimetableTo.{bestRow, ownRide, scan-step, best-step, BoardsRow, best-boards-row, scan-ordered, climbing, chosen-fits, rising-behind, off-fits}
 
 -- a part of a scan with one row in front
 module _ (file : List ℕ) (s : Sailings) (goal : Goal) (first end : ℕ) (stand : Stand file s) (inside : end ≤ s .rows) where
@@ -99,26 +99,26 @@ module _ (file : List ℕ) (s : Sailings) (goal : Goal) (first end : ℕ) (stand
         }
 
     -- getting off looks at where the ride lands alone
-    pub off-same : offInTicks (goal .target) (goal .bound) (rideOff (rowAt i) (sharesOf (tablesIn file s) (rowAt i .class))) (after (suc i) .chosen)
-        ≡ offFor goal (ownRide file s i) (after (suc i) .chosen)
+    pub off-same : offInTicks goal (rideOff (rowAt i) (sharesOf (tablesIn file s) (rowAt i .class))) (after (suc i) .chosen)
+        ≡ offInTicks goal (ownRide file s i) (after (suc i) .chosen)
     unfolding offInTicks arrivalWorth changeWorth
     off-same = refl
 
     module _ (w' : List ℕ) (held : Held file s goal first end (suc i) w)
-        (weighs : Weighs (rowAt i) i (cellOf (offFor goal (ownRide file s i) (after (suc i) .chosen))) w w') where
+        (weighs : Weighs (rowAt i) i (cellOf (offInTicks goal (ownRide file s i) (after (suc i) .chosen))) w w') where
       pub pairs-after : PairsHeld w' (s .rows) i end (after i)
       pairs-after =
           subst (λ (sc : Scan). PairsHeld w' (s .rows) i end sc) (sym (scan-step file s goal end stand inside i high))
-          (subst (λ (o : Option Valued). PairsHeld w' (s .rows) i end (inFront (rowAt i) o (after (suc i)) (choose (goal .target) (bestRow file s goal end i) (after (suc i) .chosen))))
+          (subst (λ (o : Option Valued). PairsHeld w' (s .rows) i end (inFront (rowAt i) o (after (suc i)) (choose (inTicks goal) (bestRow file s goal end i) (after (suc i) .chosen))))
           (sym (best-step file s goal end stand inside i high))
           (pairs-weighed w (s .rows) i end (rowAt i) (fits .trip) high inside room w' (ownRide file s i)
-          (offFor goal (ownRide file s i) (after (suc i) .chosen)) (after (suc i))
-          (choose (goal .target) (bestRow file s goal end i) (after (suc i) .chosen)) refl
+          (offInTicks goal (ownRide file s i) (after (suc i) .chosen)) (after (suc i))
+          (choose (inTicks goal) (bestRow file s goal end i) (after (suc i) .chosen)) refl
           (λ x e. off-fits file s goal end stand inside i high x e) (held .pairs-held) weighs))
 
       same-behind : (k : ℕ) → stops ≤ k → (k ≡ pairCell i → ⊥) → (k ≡ pairCell i + 1 → ⊥) → getD w' k 0 ≡ getD w k 0
       same-behind k =
-          weighs-other w (s .rows) i end (rowAt i) (fits .trip) high inside room w' (cellOf (offFor goal (ownRide file s i) (after (suc i) .chosen))) k weighs
+          weighs-other w (s .rows) i end (rowAt i) (fits .trip) high inside room w' (cellOf (offInTicks goal (ownRide file s i) (after (suc i) .chosen))) k weighs
 
       pub stacks-after :
           (stop : ℕ) → stop < 200
@@ -145,7 +145,7 @@ module _ (file : List ℕ) (s : Sailings) (goal : Goal) (first end : ℕ) (stand
     held-unchosen there pairs-held stacks =
         let same : after i .chosen ≡ after (suc i) .chosen =
         ap (λ (sc : Scan). sc .chosen) (scan-step file s goal end stand inside i high)
-        ∙ choose-target (goal .target) (bestRow file s goal end i) (after (suc i) .chosen) (λ v e. best-there v e .stop ∙ there) in
+        ∙ choose-target (inTicks goal) (bestRow file s goal end i) (after (suc i) .chosen) (λ v e. best-there v e .stop ∙ there) in
         record {
           pairs-held = pairs-held;
           stacks-held = λ stop h.
@@ -160,7 +160,7 @@ module _ (file : List ℕ) (s : Sailings) (goal : Goal) (first end : ℕ) (stand
 
     module _ (away : rowAt i .board ≢ goal .target)
         (stacks : (stop : ℕ) → stop < 200 → StackHeld w (suc (s .rows)) (slice first end rows) (slice (suc i) end rows) (after (suc i) .chosen) stop) where
-      choosable : Choosable (rowAt i) i (goal .target) (bestRow file s goal end i) (after (suc i) .chosen)
+      choosable : Choosable (rowAt i) i (inTicks goal) (bestRow file s goal end i) (after (suc i) .chosen)
       choosable =
           record {
             board = fits .board;
@@ -211,7 +211,7 @@ module _ (file : List ℕ) (s : Sailings) (goal : Goal) (first end : ℕ) (stand
       module _ (w' : List ℕ) (chose : Chose (rowAt i) i w w') where
         or-stored : (w' ≡ w) ⊎ ((k : ℕ) × (k ≤ sizeOf w (rowAt i .board)) × (w' ≡ stored (rowAt i) i k w))
         or-stored =
-            chose-or-stored (rowAt i) i (goal .target) (bestRow file s goal end i) (after (suc i) .chosen) choosable w (suc (s .rows))
+            chose-or-stored (rowAt i) i (inTicks goal) (bestRow file s goal end i) (after (suc i) .chosen) choosable w (suc (s .rows))
             (slice first end rows) (slice (suc i) end rows) stacks suffix regions-room w' chose
 
         pairs-stay : PairsHeld w (s .rows) i end (after i) → (w' ≡ w) ⊎ ((k : ℕ) × (k ≤ sizeOf w (rowAt i .board)) × (w' ≡ stored (rowAt i) i k w))
@@ -227,14 +227,14 @@ module _ (file : List ℕ) (s : Sailings) (goal : Goal) (first end : ℕ) (stand
 
         pub held-chosen : PairsHeld w (s .rows) i end (after i) → Held file s goal first end i w'
         held-chosen pairs-held =
-            let now : after i .chosen ≡ choose (goal .target) (bestRow file s goal end i) (after (suc i) .chosen) =
+            let now : after i .chosen ≡ choose (inTicks goal) (bestRow file s goal end i) (after (suc i) .chosen) =
             ap (λ (sc : Scan). sc .chosen) (scan-step file s goal end stand inside i high) in
             record {
               pairs-held = pairs-stay pairs-held or-stored;
               stacks-held = λ stop h.
                   subst (λ (l : List Row). StackHeld w' (suc (s .rows)) (slice first end rows) l (after i .chosen) stop) (sym (front i high))
                   (subst (λ (l : List Valued). StackHeld w' (suc (s .rows)) (slice first end rows) (rowAt i ∷ slice (suc i) end rows) l stop) (sym now)
-                  (stacks-chosen (rowAt i) i (goal .target) (bestRow file s goal end i) (after (suc i) .chosen) choosable w (suc (s .rows))
+                  (stacks-chosen (rowAt i) i (inTicks goal) (bestRow file s goal end i) (after (suc i) .chosen) choosable w (suc (s .rows))
                   (slice first end rows) (slice (suc i) end rows) stacks suffix regions-room (own-best pairs-held) w' chose stop h));
             }
 

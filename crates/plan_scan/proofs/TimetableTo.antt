@@ -12,7 +12,7 @@ use Rattle.timetable.specs.declared.Row.{Row}
 use Rattle.plans.specs.Rides.{Ride, latest}
 use Rattle.plans.specs.Sound.{Timely}
 use Rattle.plans.specs.Worth.{Valued}
-use Rattle.plans.specs.Chosen.{GettingOff, offInTicks, rowRide, choose, nextOf, least, getOff, stayOn}
+use Rattle.plans.specs.Chosen.{inTicks, offInTicks, rowRide, choose, nextOf, least, getOff, stayOn}
 use Rattle.plans.proofs.FromRow.{scanFrom, chosenFrom, bestAt, nextFrom, offAt, scan-row, best-row}
 use Rattle.plans.proofs.BestRides.{best-boards, chosen-picked, each-best}
 use Rattle.plans.proofs.Order.{Ordered}
@@ -31,12 +31,9 @@ use Rattle.plan_scan.proofs.Worths.{off-most}
 abbrev pub timetableTo : List ℕ → Sailings → ℕ → Timetable
 timetableTo file s end = record { stops = 0; rows = take end (rowsIn file s); tables = tablesIn file s }
 
-abbrev pub offFor : Goal → GettingOff
-offFor goal = offInTicks (goal .target) (goal .bound)
-
 -- the best ride of row i
 abbrev pub bestRow : List ℕ → Sailings → Goal → (end i : ℕ) → Option Valued
-bestRow file s goal end i = bestAt (offFor goal) (goal .target) (timetableTo file s end) i
+bestRow file s goal end i = bestAt (inTicks goal) (timetableTo file s end) i
 
 -- row i's own ride
 abbrev pub ownRide : List ℕ → Sailings → ℕ → Ride
@@ -69,7 +66,7 @@ module _ (file : List ℕ) (s : Sailings) (goal : Goal) (end : ℕ) (stand : Sta
         shared = λ i h. to-shares i (to-inside i h);
       }
 
-  chosen-to : (i : ℕ) → scanIn file s goal i end .chosen ≡ chosenFrom (offFor goal) (goal .target) (timetableTo file s end) i
+  chosen-to : (i : ℕ) → scanIn file s goal i end .chosen ≡ chosenFrom (inTicks goal) (timetableTo file s end) i
   unfolding scanFrom chosenFrom
   chosen-to i = refl
 
@@ -78,24 +75,24 @@ module _ (file : List ℕ) (s : Sailings) (goal : Goal) (end : ℕ) (stand : Sta
       (i : ℕ) → i < end → scanIn file s goal i end
       ≡ record {
         weighed = record { trip = rowOf (rowsIn file s) i .trip; best = bestRow file s goal end i } ∷ scanIn file s goal (suc i) end .weighed;
-        chosen = choose (goal .target) (bestRow file s goal end i) (scanIn file s goal (suc i) end .chosen);
+        chosen = choose (inTicks goal) (bestRow file s goal end i) (scanIn file s goal (suc i) end .chosen);
       }
   unfolding scanFrom chosenFrom
   scan-step i h =
-      scan-row (offFor goal) (goal .target) (timetableTo file s end) i (omega (arith, to-length))
+      scan-row (inTicks goal) (timetableTo file s end) i (omega (arith, to-length))
       ∙ ap (λ (r : Row). record {
         weighed = record { trip = r .trip; best = bestRow file s goal end i } ∷ scanIn file s goal (suc i) end .weighed;
-        chosen = choose (goal .target) (bestRow file s goal end i) (scanIn file s goal (suc i) end .chosen);
+        chosen = choose (inTicks goal) (bestRow file s goal end i) (scanIn file s goal (suc i) end .chosen);
       }) (to-row i h)
 
   pub best-step :
       (i : ℕ) → i < end → bestRow file s goal end i
-      ≡ least (getOff (ownRide file s i) (offFor goal (ownRide file s i) (scanIn file s goal (suc i) end .chosen)))
+      ≡ least (getOff (ownRide file s i) (offInTicks goal (ownRide file s i) (scanIn file s goal (suc i) end .chosen)))
       (stayOn i (rowOf (rowsIn file s) i) (nextOf (scanIn file s goal (suc i) end .weighed) (rowOf (rowsIn file s) i .trip)))
   unfolding scanFrom chosenFrom offAt nextFrom
   best-step i h =
-      best-row (offFor goal) (goal .target) (timetableTo file s end) i
-      ∙ ap (λ (r : Row). least (getOff (rowRide (tablesIn file s) i r) (offFor goal (rowRide (tablesIn file s) i r) (scanIn file s goal (suc i) end .chosen)))
+      best-row (inTicks goal) (timetableTo file s end) i
+      ∙ ap (λ (r : Row). least (getOff (rowRide (tablesIn file s) i r) (offInTicks goal (rowRide (tablesIn file s) i r) (scanIn file s goal (suc i) end .chosen)))
       (stayOn i r (nextOf (scanIn file s goal (suc i) end .weighed) (r .trip)))) (to-row i h)
 
   -- it boards at row i
@@ -106,7 +103,7 @@ module _ (file : List ℕ) (s : Sailings) (goal : Goal) (end : ℕ) (stand : Sta
 
   pub best-boards-row : (i : ℕ) → i < end → (v : Valued) → bestRow file s goal end i ≡ some v → BoardsRow i v
   best-boards-row i h v e =
-      let b = best-boards (offFor goal) (goal .target) (timetableTo file s end) i (omega (arith, to-length)) v e in
+      let b = best-boards (inTicks goal) (timetableTo file s end) i (omega (arith, to-length)) v e in
       record {
         row = b .row;
         stop = b .stop ∙ ap (λ (r : Row). r .board) (to-row i h);
@@ -120,15 +117,15 @@ module _ (file : List ℕ) (s : Sailings) (goal : Goal) (end : ℕ) (stand : Sta
   best-most : (i : ℕ) → i < end → (v : Valued) → bestRow file s goal end i ≡ some v → v .worth ≤ 256 * 65535
   unfolding offAt
   best-most i h v e =
-      each-best (offFor goal) (goal .target) (timetableTo file s end) (λ u. u .worth ≤ 256 * 65535)
+      each-best (inTicks goal) (timetableTo file s end) (λ u. u .worth ≤ 256 * 65535)
       (λ j inside' each w q.
-      off-most (goal .target) (goal .bound) (rowRide (tablesIn file s) j (rowOf (take end (rowsIn file s)) j))
-      (chosenFrom (offFor goal) (goal .target) (timetableTo file s end) (suc j)) 65535 (to-shares j (to-inside j inside')) (lands-by j (to-inside j inside')) each w q)
+      off-most goal (rowRide (tablesIn file s) j (rowOf (take end (rowsIn file s)) j))
+      (chosenFrom (inTicks goal) (timetableTo file s end) (suc j)) 65535 (to-shares j (to-inside j inside')) (lands-by j (to-inside j inside')) each w q)
       (λ j k a b t u q p. p) i (omega (arith, to-length)) v e
 
   pub chosen-fits : (i : ℕ) → i ≤ end → (v : Valued) → List·Memᴰ v (scanIn file s goal i end .chosen) → EntryFits v
   chosen-fits i h v m =
-      let p = chosen-picked (offFor goal) (goal .target) (timetableTo file s end) i (omega (arith, to-length)) v (subst (λ (l : List Valued). List·Memᴰ v l) (chosen-to i) m) in
+      let p = chosen-picked (inTicks goal) (timetableTo file s end) i (omega (arith, to-length)) v (subst (λ (l : List Valued). List·Memᴰ v l) (chosen-to i) m) in
       let row : v .ride .board < end = to-inside (v .ride .board) (p .inside) in
       let minute = best-boards-row (v .ride .board) row v (p .best) .minute in
       let fits = stand .row-fits (v .ride .board) (omega arith) in
@@ -141,7 +138,7 @@ module _ (file : List ℕ) (s : Sailings) (goal : Goal) (end : ℕ) (stand : Sta
   pub scan-ordered : (i : ℕ) → i ≤ end → Ordered (scanIn file s goal i end .chosen)
   scan-ordered i h =
       subst (λ (l : List Valued). Ordered l) (sym (chosen-to i))
-      (chosen-ordered (offFor goal) (goal .target) (timetableTo file s end) to-timely i (omega (arith, to-length)))
+      (chosen-ordered (inTicks goal) (timetableTo file s end) to-timely i (omega (arith, to-length)))
 
   pub climbing : (i : ℕ) → i ≤ end → (stop : ℕ) → Climbing stop (scanIn file s goal i end .chosen)
   climbing i h stop =
@@ -156,22 +153,22 @@ module _ (file : List ℕ) (s : Sailings) (goal : Goal) (end : ℕ) (stand : Sta
       (i : ℕ) → i < end → (v : Valued) → List·Memᴰ v (scanIn file s goal (suc i) end .chosen) → rowOf (rowsIn file s) i .departure ≤ v .ride .departs
   rising-behind i h v m =
       subst (λ (r : Row). r .departure ≤ v .ride .departs) (to-row i h)
-      (chosen-rising (offFor goal) (goal .target) (timetableTo file s end) to-timely i (suc i) (omega arith) (omega (arith, to-length)) v
+      (chosen-rising (inTicks goal) (timetableTo file s end) to-timely i (suc i) (omega arith) (omega (arith, to-length)) v
       (subst (λ (l : List Valued). List·Memᴰ v l) (chosen-to (suc i)) m))
 
   -- getting off row i is worth less than a cell that is missing
   pub off-fits :
-      (i : ℕ) → i < end → (w : ℕ) → offFor goal (ownRide file s i) (scanIn file s goal (suc i) end .chosen) ≡ some w → w < missing
+      (i : ℕ) → i < end → (w : ℕ) → offInTicks goal (ownRide file s i) (scanIn file s goal (suc i) end .chosen) ≡ some w → w < missing
   off-fits i h w e =
       let fits = stand .row-fits i (omega arith) in
       let lands = fits .lands in
       let most : w ≤ 256 * 65535 =
-      off-most (goal .target) (goal .bound) (ownRide file s i) (scanIn file s goal (suc i) end .chosen) 65535
+      off-most goal (ownRide file s i) (scanIn file s goal (suc i) end .chosen) 65535
       (stand .shares-fit (rowOf (rowsIn file s) i .class) (fits .class) .shares-whole) (omega arith)
       (λ v m. chosen-most i h v m) w e in
       omega arith
     where
       chosen-most : (i : ℕ) → i < end → (v : Valued) → List·Memᴰ v (scanIn file s goal (suc i) end .chosen) → v .worth ≤ 256 * 65535
       chosen-most i h v m =
-          let p = chosen-picked (offFor goal) (goal .target) (timetableTo file s end) (suc i) (omega (arith, to-length)) v (subst (λ (l : List Valued). List·Memᴰ v l) (chosen-to (suc i)) m) in
+          let p = chosen-picked (inTicks goal) (timetableTo file s end) (suc i) (omega (arith, to-length)) v (subst (λ (l : List Valued). List·Memᴰ v l) (chosen-to (suc i)) m) in
           best-most (v .ride .board) (to-inside (v .ride .board) (p .inside)) v (p .best)

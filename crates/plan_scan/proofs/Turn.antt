@@ -18,7 +18,7 @@ use Rattle.plan_landing.specs.Landing.{Ready, SomeReady, rideOff}
 use Rattle.plan_scan.specs.Stores.{Weighs, Chose, Weighable, Pushable}
 use Rattle.plan_scan.specs.Scanned.{scanIn}
 use Rattle.plan_scan.specs.Held.{PairsHeld, StackHeld, Held, Inside}
-use Rattle.plan_scan.proofs.TimetableTo.{ownRide, offFor}
+use Rattle.plan_scan.proofs.TimetableTo.{ownRide}
 use Rattle.plan_scan.proofs.Step.{weighable, ready, off-same, pairs-after, stacks-after, held-unchosen, pushable, held-chosen, inside-chosen}
 use Rattle.plan_scan.proofs.Inside.{inside-then, inside-weighed}
 
@@ -53,21 +53,21 @@ module _ (file : List ℕ) (s : Sailings) (goal : Goal) (first end : ℕ) (stand
 
       module _ (off : ℕ)
           (got : (shares : List ℕ) (chosen : List Valued) → Ready row tables w shares chosen
-          → off ≡ cellOf (offInTicks (goal .target) (goal .bound) (rideOff row shares) chosen)) where
-        turn-off : off ≡ cellOf (offFor goal (ownRide file s i) (scanIn file s goal (suc i) end .chosen))
+          → off ≡ cellOf (offInTicks goal (rideOff row shares) chosen)) where
+        turn-off : off ≡ cellOf (offInTicks goal (ownRide file s i) (scanIn file s goal (suc i) end .chosen))
         turn-off =
             got (sharesOf (tablesIn file s) (row .class)) (scanIn file s goal (suc i) end .chosen) turn-ready
-            ∙ ap (λ (r : Row). cellOf (offInTicks (goal .target) (goal .bound) (rideOff r (sharesOf (tablesIn file s) (r .class))) (scanIn file s goal (suc i) end .chosen))) is
+            ∙ ap (λ (r : Row). cellOf (offInTicks goal (rideOff r (sharesOf (tablesIn file s) (r .class))) (scanIn file s goal (suc i) end .chosen))) is
             ∙ ap cellOf (off-same file s goal first end stand inside i low high w room)
 
         pub turn-weighed : (w' : List ℕ) → Weighs row i off w w' → Weighed file s goal first end i w w'
         turn-weighed w' weighs =
-            let as-row : Weighs (rowOf (rowsIn file s) i) i (cellOf (offFor goal (ownRide file s i) (scanIn file s goal (suc i) end .chosen))) w w' =
+            let as-row : Weighs (rowOf (rowsIn file s) i) i (cellOf (offInTicks goal (ownRide file s i) (scanIn file s goal (suc i) end .chosen))) w w' =
             subst (λ x. Weighs (rowOf (rowsIn file s) i) i x w w') turn-off (subst (λ (r : Row). Weighs r i off w w') is weighs) in
             record {
               pairs-held = pairs-after file s goal first end stand inside i low high w room w' held as-row;
               stacks-held = stacks-after file s goal first end stand inside i low high w room w' held as-row;
-              stays = inside-weighed (s .rows) (rowOf (rowsIn file s) i) i (cellOf (offFor goal (ownRide file s i) (scanIn file s goal (suc i) end .chosen))) w w'
+              stays = inside-weighed (s .rows) (rowOf (rowsIn file s) i) i (cellOf (offInTicks goal (ownRide file s i) (scanIn file s goal (suc i) end .chosen))) w w'
                   (stand .row-fits i (omega arith) .trip) (omega arith) as-row;
             }
 

@@ -11,6 +11,7 @@ use lib.ListN.{length}
 use Rattle.laws.proofs.Tests.{ifb}
 use Rattle.timetable.specs.Timetable.{longest}
 use Rattle.timetable.specs.Classes.{whole, sum}
+use Rattle.plans.specs.declared.Goal.{Goal}
 use Rattle.plans.specs.Rides.{Ride, latest}
 use Rattle.plans.specs.Worth.{Valued, ticks, up, weigh, firstOpen, caught, worthOr, arrivalWorth, changeWorth, landWorth}
 use Rattle.plans.specs.Chosen.{offInTicks}
@@ -62,12 +63,12 @@ change-most r behind most whole' each =
 
 -- getting off, where the ride lands by a minute and no ride behind is worth more than that minute
 pub off-most :
-    (target bound : ℕ) (r : Ride) (behind : List Valued) (minute : ℕ) → sum (r .shares) ≡ whole → latest r ≤ minute
-    → ((v : Valued) → List·Memᴰ v behind → v .worth ≤ ticks * minute) → (w : ℕ) → offInTicks target bound r behind ≡ some w → w ≤ ticks * minute
+    (goal : Goal) (r : Ride) (behind : List Valued) (minute : ℕ) → sum (r .shares) ≡ whole → latest r ≤ minute
+    → ((v : Valued) → List·Memᴰ v behind → v .worth ≤ ticks * minute) → (w : ℕ) → offInTicks goal r behind ≡ some w → w ≤ ticks * minute
 unfolding landWorth
-off-most target bound r behind minute whole' lands each w e =
-    subst (λ x. x ≤ ticks * minute) (off-worth target bound r behind w (off-is target bound r behind w e))
-    (ifb (λ b. cond b (arrivalWorth r) (changeWorth r behind) ≤ ticks * minute) (eqb (r .to) target)
+off-most goal r behind minute whole' lands each w e =
+    subst (λ x. x ≤ ticks * minute) (off-worth goal r behind w (off-is goal r behind w e))
+    (ifb (λ b. cond b (arrivalWorth r) (changeWorth r behind) ≤ ticks * minute) (eqb (r .to) (goal .target))
     (λ _. let most : arrivalWorth r ≤ 256 * latest r = arrival-most r whole' in
     let z : arrivalWorth r ≤ 256 * minute = omega arith in z)
     (λ _. change-most r behind (ticks * minute) whole' each))

@@ -6,7 +6,7 @@ use mathlib.Core.Path.{_≡_}
 use lib.ListN.{getD}
 use lib.Seq.{slice}
 use Rattle.plans.specs.Worth.{Valued}
-use Rattle.plans.specs.Chosen.{Scan, scan, offInTicks}
+use Rattle.plans.specs.Chosen.{inTicks, Scan, scan}
 use Rattle.plan_cells.specs.Cells.{pairs, used, missing, stackStart, stackSize}
 use Rattle.plan_rows.specs.declared.Sailings.{Sailings}
 use Rattle.plan_rows.specs.Reading.{rowsIn, tablesIn}
@@ -16,7 +16,7 @@ use Rattle.plan_landing.specs.Landing.{StackHolds, Climbing}
 -- the scan of the rows from `first` to before `end`
 abbrev pub scanIn : List ℕ → Sailings → Goal → (first end : ℕ) → Scan
 scanIn file s goal first end =
-    scan (offInTicks (goal .target) (goal .bound)) (goal .target) (tablesIn file s) first (slice first end (rowsIn file s))
+    scan (inTicks goal) (tablesIn file s) first (slice first end (rowsIn file s))
 
 -- the best ride of row i, of a scan that begins at row `first`
 abbrev pub bestIn : Scan → (first i : ℕ) → Option Valued

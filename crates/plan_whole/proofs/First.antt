@@ -12,9 +12,10 @@ use Rattle.laws.proofs.Places.{member-at}
 use Rattle.timetable.specs.Timetable.{Timetable}
 use Rattle.timetable.specs.declared.Row.{Row}
 use Rattle.query.specs.declared.Query.{Query}
+use Rattle.plans.specs.Journeys.{goalOf}
 use Rattle.plans.specs.Rides.{Ride}
 use Rattle.plans.specs.Worth.{Valued, firstOpen}
-use Rattle.plans.specs.Chosen.{GettingOff, scan, choose, others, offInTicks, bestOf}
+use Rattle.plans.specs.Chosen.{Aim, inTicks, scan, choose, others, bestOf}
 use Rattle.plans.specs.Plan.{Window, wanted, upTo, windowsOf, extract, ridesFrom, latestOf, chosenFor, planWithin}
 use Rattle.plans.proofs.Choice.{choice, Choice, worthless, at-target, behind, added, same-minute}
 use Rattle.plans.proofs.BestRides.{best-boards, chosen-picked}
@@ -37,21 +38,21 @@ others-few r (v ∷ vs) =
     (λ _. let z : length (others r vs) ≤ suc (length vs) = omega (arith, others-few r vs) in z)
     (λ _. let z : suc (length (others r vs)) ≤ suc (length vs) = omega (arith, others-few r vs) in z)
 
-choice-few : (target : ℕ) {best : Option Valued} {old new : List Valued} → Choice target old best new → length new ≤ suc (length old)
-choice-few target worthless = omega arith
-choice-few target (at-target p) = omega arith
-choice-few target (behind p) = omega arith
-choice-few target {old = old} (added {v = v} apart lead) = omega (arith, others-few (v .ride) old)
+choice-few : (aim : Aim) {best : Option Valued} {old new : List Valued} → Choice aim old best new → length new ≤ suc (length old)
+choice-few aim worthless = omega arith
+choice-few aim (at-target p) = omega arith
+choice-few aim (behind p) = omega arith
+choice-few aim {old = old} (added {v = v} apart lead) = omega (arith, others-few (v .ride) old)
 
-chosen-few : (off : GettingOff) (target : ℕ) (tables : List (List ℕ)) (i : ℕ) (rows : List Row)
-    → length (scan off target tables i rows .chosen) ≤ length rows
+chosen-few : (aim : Aim) (tables : List (List ℕ)) (i : ℕ) (rows : List Row)
+    → length (scan aim tables i rows .chosen) ≤ length rows
 unfolding scan
-chosen-few off target tables i [] = omega arith
-chosen-few off target tables i (r ∷ rows) =
-    let later = scan off target tables (suc i) rows in
-    let best = bestOf off tables i r later in
-    let z : length (choose target best (later .chosen)) ≤ suc (length rows) =
-    omega (arith, choice-few target (choice target best (later .chosen)), chosen-few off target tables (suc i) rows)
+chosen-few aim tables i [] = omega arith
+chosen-few aim tables i (r ∷ rows) =
+    let later = scan aim tables (suc i) rows in
+    let best = bestOf aim tables i r later in
+    let z : length (choose aim best (later .chosen)) ≤ suc (length rows) =
+    omega (arith, choice-few aim (choice aim best (later .chosen)), chosen-few aim tables (suc i) rows)
     in z
 
 extract-few : (target : ℕ) (ws : List Window) (vs : List Valued) → length (extract target ws vs) ≤ length vs
@@ -81,8 +82,11 @@ module _
     abbrev t : Timetable
     t = timetableIn file s
 
+    abbrev aimAt : ℕ → Aim
+    aimAt target = inTicks (record { target = target; bound = bound })
+
     abbrev chosen : ℕ → List Valued
-    chosen target = scanPart (offInTicks target bound) target t first end .chosen
+    chosen target = scanPart (aimAt target) t first end .chosen
 
     abbrev size : ℕ
     size = stackSize work (q .source)
@@ -108,8 +112,8 @@ module _
     abbrev pub Told : ℕ → Type 0
     Told target = (size ≡ 0 → planIn file s q bound ≡ none) × (0 < size → Top target)
 
-    module _ (held : ScanHeld work (s .rows) first end (scanPart (offInTicks (q .target) bound) (q .target) t first end))
-        (idle : Idle (offInTicks (q .target) bound) (q .target) t end) where
+    module _ (held : ScanHeld work (s .rows) first end (scanPart (inTicks (goalOf q bound)) t first end))
+        (idle : Idle (inTicks (goalOf q bound)) t end) where
       here : List Valued
       here = atStop (q .source) (chosen (q .target))
 
@@ -120,8 +124,8 @@ module _
       unfolding here
       counted = stack-size work (stackStart work (q .source)) size here (held .stack-holds (q .source) (laid .source))
 
-      seen : firstOpen (chosenFor t (q .target) bound) (q .source) (q .minute) ≡ firstOpen (chosen (q .target)) (q .source) (q .minute)
-      seen = part-first t (laid .timely) (q .target) bound (q .source) (q .minute) first end (laid .cut) ordered idle
+      seen : firstOpen (chosenFor t (goalOf q bound)) (q .source) (q .minute) ≡ firstOpen (chosen (q .target)) (q .source) (q .minute)
+      seen = part-first t (laid .timely) (goalOf q bound) (q .source) (q .minute) first end (laid .cut) ordered idle
 
       none-here : size ≡ 0 → planIn file s q bound ≡ none
       unfolding here planWithin
@@ -133,10 +137,10 @@ module _
       -- a chosen row of this part departs at or after T
       departs-later : (v : Valued) → List·Memᴰ v (chosen (q .target)) → q .minute ≤ v .ride .departs
       departs-later v m =
-          let off = offInTicks (q .target) bound in
-          let picked = chosen-picked off (q .target) t first (let z : first ≤ length (t .rows) = omega (arith, laid .stand .rows-count) in z) v
-          (subst (λ (l : List Valued). List·Memᴰ v l) (part-chosen off (q .target) t end idle first ordered) m) in
-          subst (λ d. q .minute ≤ d) (sym (best-boards off (q .target) t (v .ride .board) (picked .inside) v (picked .best) .minute))
+          let aim = inTicks (goalOf q bound) in
+          let picked = chosen-picked aim t first (let z : first ≤ length (t .rows) = omega (arith, laid .stand .rows-count) in z) v
+          (subst (λ (l : List Valued). List·Memᴰ v l) (part-chosen aim t end idle first ordered) m) in
+          subst (λ d. q .minute ≤ d) (sym (best-boards aim t (v .ride .board) (picked .inside) v (picked .best) .minute))
           (laid .cut .behind (v .ride .board) (picked .here) (picked .inside))
 
       abbrev ahead : Valued
@@ -192,7 +196,7 @@ module _
                   (let z : length (rides (q .target) ahead) ≤ 2000 = omega (
                     arith,
                     extract-few (q .target) (upTo (q .source) (q .minute) (some ahead)) (chosen (q .target)),
-                    chosen-few (offInTicks (q .target) bound) (q .target) (t .tables) first (slice first end (t .rows)),
+                    chosen-few (inTicks (goalOf q bound)) (t .tables) first (slice first end (t .rows)),
                     length-slice first end (t .rows) (let y : end ≤ length (t .rows) = omega (arith, laid .stand .rows-count) in y),
                     laid .stand .few-rows,
                   ) in z);
@@ -200,9 +204,9 @@ module _
       )
 
     -- the same of a goal whose target is the query's
-    pub goal-told : (target : ℕ) → target ≡ q .target → ScanHeld work (s .rows) first end (scanPart (offInTicks target bound) target t first end)
-        → Idle (offInTicks target bound) target t end → Told target
+    pub goal-told : (target : ℕ) → target ≡ q .target → ScanHeld work (s .rows) first end (scanPart (aimAt target) t first end)
+        → Idle (aimAt target) t end → Told target
     goal-told target e =
         subst
-        (λ x. ScanHeld work (s .rows) first end (scanPart (offInTicks x bound) x t first end) → Idle (offInTicks x bound) x t end → Told x)
+        (λ x. ScanHeld work (s .rows) first end (scanPart (aimAt x) t first end) → Idle (aimAt x) t end → Told x)
         (sym e) told

@@ -11,7 +11,7 @@ use Rattle.timetable.specs.Timetable.{Timetable}
 use Rattle.timetable.specs.declared.Row.{Row}
 use Rattle.query.specs.declared.Query.{Query}
 use Rattle.plans.specs.Sound.{Timely}
-use Rattle.plans.specs.Chosen.{offInTicks}
+use Rattle.plans.specs.Chosen.{inTicks}
 use Rattle.plan_rows.specs.declared.Sailings.{Sailings}
 use Rattle.plan_rows.specs.Reading.{rowsIn, timetableIn, Cut}
 use Rattle.plan_rows.proofs.Cuts.{Idle, idle-end, bound-idle}
@@ -29,11 +29,11 @@ cuts-in-order rows minute bound first end early late h =
     (λ e. ltb-false end first e)
 
 -- rows from `end` on are worth nothing, whether there is a bound or not
-within-idle : (t : Timetable) → Timely t → (target bound end : ℕ) → RowsWithin (t .rows) bound end → Idle (offInTicks target bound) target t end
-within-idle t timely target bound end within =
-    ifb (λ _. Idle (offInTicks target bound) target t end) (eqb bound 0)
-    (λ e. subst (Idle (offInTicks target bound) target t) (sym (within .all (eqb-true bound 0 e))) (idle-end (offInTicks target bound) target t))
-    (λ e. bound-idle t timely target bound (eqb-false bound 0 e) end (within .before (eqb-false bound 0 e)))
+within-idle : (t : Timetable) → Timely t → (goal : Goal) (end : ℕ) → RowsWithin (t .rows) (goal .bound) end → Idle (inTicks goal) t end
+within-idle t timely goal end within =
+    ifb (λ _. Idle (inTicks goal) t end) (eqb (goal .bound) 0)
+    (λ e. subst (Idle (inTicks goal) t) (sym (within .all (eqb-true (goal .bound) 0 e))) (idle-end (inTicks goal) t))
+    (λ e. bound-idle t timely goal (eqb-false (goal .bound) 0 e) end (within .before (eqb-false (goal .bound) 0 e)))
 
 within-ordered : (rows : List Row) (minute bound first end : ℕ) → Cut rows minute first → Reaches minute bound → RowsWithin rows bound end
     → first ≤ end
@@ -55,5 +55,5 @@ is-part file s tables q goal first end laid target fits reaches within =
       bound = fits;
       ordered = within-ordered (rowsIn file s) (q .minute) (goal .bound) first end (laid .cut) reaches within;
       inside = omega (arith, within-inside (rowsIn file s) (goal .bound) end within, laid .stand .rows-count);
-      idle = within-idle (timetableIn file s) (laid .timely) (goal .target) (goal .bound) end within;
+      idle = within-idle (timetableIn file s) (laid .timely) goal end within;
     }

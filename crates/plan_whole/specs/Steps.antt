@@ -9,9 +9,10 @@ use Rattle.timetable.specs.declared.Row.{Row}
 use Rattle.file_layout.specs.declared.Format.{Format}
 use Rattle.file_layout.proofs.Sound.{SoundFile}
 use Rattle.query.specs.declared.Query.{Query}
+use Rattle.plans.specs.Journeys.{goalOf}
 use Rattle.plans.specs.Sound.{Timely}
 use Rattle.plans.specs.Worth.{firstOpen}
-use Rattle.plans.specs.Chosen.{offInTicks}
+use Rattle.plans.specs.Chosen.{inTicks}
 use Rattle.plans.specs.Plan.{Plan, chosenFor, planWithin}
 use Rattle.plan_rows.specs.declared.Sailings.{Sailings}
 use Rattle.plan_rows.specs.Reading.{rowsIn, tablesIn, timetableIn, Stand, Cut, TablesHeld}
@@ -54,12 +55,12 @@ pub record Part (file : List ℕ) (s : Sailings) (q : Query) (goal : Goal) (firs
   pub bound : goal .bound < 4294967296
   pub ordered : first ≤ end
   pub inside : end ≤ s .rows
-  pub idle : Idle (offInTicks (goal .target) (goal .bound)) (goal .target) (timetableIn file s) end
+  pub idle : Idle (inTicks goal) (timetableIn file s) end
 
 -- the plan within a bound, none if no chosen row can be boarded at the source from T on
 abbrev pub planIn : List ℕ → Sailings → Query → ℕ → Option Plan
 planIn file s q bound =
-    planWithin (timetableIn file s) q bound (firstOpen (chosenFor (timetableIn file s) (q .target) bound) (q .source) (q .minute))
+    planWithin (timetableIn file s) q bound (firstOpen (chosenFor (timetableIn file s) (goalOf q bound)) (q .source) (q .minute))
 
 -- cells from `from` on are as they were
 pub record KeptBehind (from : ℕ) (work work' : List ℕ) : Type 0 where

@@ -11,26 +11,26 @@ use Rattle.laws.proofs.Tests.{ifb, both, both-left, both-right}
 use Rattle.laws.proofs.Members.{head-or-later}
 use Rattle.plans.specs.Rides.{Ride, boards}
 use Rattle.plans.specs.Worth.{Valued, firstOpen}
-use Rattle.plans.specs.Chosen.{leads, firstAt, others, choose}
+use Rattle.plans.specs.Chosen.{Aim, leads, firstAt, others, choose}
 use Rattle.plans.proofs.Open.{first-here, first-further, on-head}
 
 -- the ways of choosing: what was chosen before, what is best at this row, what is chosen then
-pub data Choice (target : ℕ) (chosen : List Valued) : Option Valued → List Valued → Type 0 where
-  worthless : Choice target chosen none chosen
-  at-target : {v : Valued} → v .ride .from ≡ target → Choice target chosen (some v) chosen
-  behind : {v : Valued} → leads (v .worth) (firstAt chosen (v .ride .from)) ≡ false → Choice target chosen (some v) chosen
+pub data Choice (aim : Aim) (chosen : List Valued) : Option Valued → List Valued → Type 0 where
+  worthless : Choice aim chosen none chosen
+  at-target : {v : Valued} → v .ride .from ≡ aim .target → Choice aim chosen (some v) chosen
+  behind : {v : Valued} → leads (v .worth) (firstAt chosen (v .ride .from)) ≡ false → Choice aim chosen (some v) chosen
   added :
-      {v : Valued} → v .ride .from ≢ target → leads (v .worth) (firstAt chosen (v .ride .from)) ≡ true
-      → Choice target chosen (some v) (v ∷ others (v .ride) chosen)
+      {v : Valued} → v .ride .from ≢ aim .target → leads (v .worth) (firstAt chosen (v .ride .from)) ≡ true
+      → Choice aim chosen (some v) (v ∷ others (v .ride) chosen)
 
-pub choice : (target : ℕ) (best : Option Valued) (chosen : List Valued) → Choice target chosen best (choose target best chosen)
+pub choice : (aim : Aim) (best : Option Valued) (chosen : List Valued) → Choice aim chosen best (choose aim best chosen)
 unfolding choose
-choice target none chosen = worthless
-choice target (some v) chosen =
-    ifb (λ b. Choice target chosen (some v) (cond (not b && lead) (v ∷ others (v .ride) chosen) chosen)) (eqb (v .ride .from) target)
-    (λ e. at-target (eqb-true (v .ride .from) target e))
-    (λ e. ifb (λ b. lead ≡ b → Choice target chosen (some v) (cond b (v ∷ others (v .ride) chosen) chosen)) lead
-    (λ yes' _. added (eqb-false (v .ride .from) target e) yes') (λ no' _. behind no') refl)
+choice aim none chosen = worthless
+choice aim (some v) chosen =
+    ifb (λ b. Choice aim chosen (some v) (cond (not b && lead) (v ∷ others (v .ride) chosen) chosen)) (eqb (v .ride .from) (aim .target))
+    (λ e. at-target (eqb-true (v .ride .from) (aim .target) e))
+    (λ e. ifb (λ b. lead ≡ b → Choice aim chosen (some v) (cond b (v ∷ others (v .ride) chosen) chosen)) lead
+    (λ yes' _. added (eqb-false (v .ride .from) (aim .target) e) yes') (λ no' _. behind no') refl)
   where
     lead : Bool
     lead = leads (v .worth) (firstAt chosen (v .ride .from))

@@ -10,11 +10,12 @@ use lib.ListN.{length}
 use Rattle.laws.proofs.Downward.{downward}
 use Rattle.timetable.specs.Timetable.{Timetable, rowOf}
 use Rattle.timetable.specs.declared.Row.{Row}
+use Rattle.plans.specs.declared.Goal.{Goal}
 use Rattle.plans.specs.Sound.{Timely}
 use Rattle.plans.specs.Rides.{Ride, IsRide, latest, boards}
 use Rattle.plans.specs.Journeys.{within}
 use Rattle.plans.specs.Worth.{Valued, firstOpen, arrivalWorth, changeWorth}
-use Rattle.plans.specs.Chosen.{GettingOff, offInTicks, others, rowRide, boardedAt}
+use Rattle.plans.specs.Chosen.{Aim, inTicks, others, rowRide, boardedAt}
 use Rattle.plans.proofs.Open.{boards-minute, too-late, first-further, found-member, found-boards}
 use Rattle.plans.proofs.FromRow.{chosenFrom, bestAt, offAt, chosen-row, chosen-end}
 use Rattle.plans.proofs.Choice.{Choice, worthless, at-target, behind, added, choice, others-first}
@@ -26,112 +27,112 @@ use Rattle.plans.proofs.OwnWorth.{Moves, OwnWorth, nobody, ahead-of, ot
 
 -- choosing a row that can't be boarded changes nothing for who would board
 pub choice-passed :
-    (target : ℕ) {best : Option Valued} {old new : List Valued} → Choice target old best new → (s m : ℕ)
+    (aim : Aim) {best : Option Valued} {old new : List Valued} → Choice aim old best new → (s m : ℕ)
     → ((v : Valued) → best ≡ some v → boards (v .ride) s m ≡ false) → firstOpen new s m ≡ firstOpen old s m
-choice-passed target worthless s m shut = refl
-choice-passed target (at-target p) s m shut = refl
-choice-passed target (behind p) s m shut = refl
-choice-passed target {old = old} (added {v = v} apart lead) s m shut =
+choice-passed aim worthless s m shut = refl
+choice-passed aim (at-target p) s m shut = refl
+choice-passed aim (behind p) s m shut = refl
+choice-passed aim {old = old} (added {v = v} apart lead) s m shut =
     first-further v (others (v .ride) old) s m (shut v refl) ∙ others-first (v .ride) old s m (shut v refl)
 
 module _ (t : Timetable) (timely : Timely t) where
   pub ride-moves : (r : Ride) → IsRide t r → Moves r
   ride-moves r is = record { forward = departs-before t timely r is; delays = ride-delays t timely r is }
 
-  module _ (off : GettingOff) (target : ℕ) where
+  module _ (aim : Aim) where
     -- a row that has left is passed over
     row-passed :
         (i : ℕ) → i < length (t .rows) → (s m : ℕ) → rowOf (t .rows) i .departure < m
-        → firstOpen (chosenFrom off target t i) s m ≡ firstOpen (chosenFrom off target t (suc i)) s m
+        → firstOpen (chosenFrom aim t i) s m ≡ firstOpen (chosenFrom aim t (suc i)) s m
     row-passed i h s m gone =
-        ap (λ (l : List Valued). firstOpen l s m) (chosen-row off target t i h)
-        ∙ choice-passed target (choice target (bestAt off target t i) (chosenFrom off target t (suc i))) s m
-        (λ v e. too-late (v .ride) s m (subst (λ k. k < m) (sym (best-boards off target t i h v e .minute)) gone))
+        ap (λ (l : List Valued). firstOpen l s m) (chosen-row aim t i h)
+        ∙ choice-passed aim (choice aim (bestAt aim t i) (chosenFrom aim t (suc i))) s m
+        (λ v e. too-late (v .ride) s m (subst (λ k. k < m) (sym (best-boards aim t i h v e .minute)) gone))
 
     -- and so are all rows up to one that has left
     pub rows-passed :
         (j : ℕ) → j < length (t .rows) → (s m : ℕ) → rowOf (t .rows) j .departure < m → (i : ℕ) → i ≤ suc j
-        → firstOpen (chosenFrom off target t i) s m ≡ firstOpen (chosenFrom off target t (suc j)) s m
+        → firstOpen (chosenFrom aim t i) s m ≡ firstOpen (chosenFrom aim t (suc j)) s m
     rows-passed j h s m gone =
-        downward (λ i. firstOpen (chosenFrom off target t i) s m ≡ firstOpen (chosenFrom off target t (suc j)) s m) (suc j) refl
+        downward (λ i. firstOpen (chosenFrom aim t i) s m ≡ firstOpen (chosenFrom aim t (suc j)) s m) (suc j) refl
         (λ i k later. row-passed i (let z : i < length (t .rows) = omega arith in z) s m
         (let z : rowOf (t .rows) i .departure < m = omega (arith, timely .rising i j (let y : i ≤ j = omega arith in y) h) in z) ∙ later)
 
     -- who lands after a ride finds the same chosen rows, whether from the start or from behind its last row
     pub landing-sees :
         (r : Ride) → IsRide t r → (i : ℕ) → i ≤ suc (r .leave) → (s m : ℕ) → r .arrives ≤ m
-        → firstOpen (chosenFrom off target t i) s m ≡ firstOpen (chosenFrom off target t (suc (r .leave))) s m
+        → firstOpen (chosenFrom aim t i) s m ≡ firstOpen (chosenFrom aim t (suc (r .leave))) s m
     landing-sees r is i h s m late =
         rows-passed (r .leave) (is .inside) s m
         (let z : rowOf (t .rows) (r .leave) .departure < m = omega (arith, leaves-before t timely r is) in z) i h
 
-  module _ (target bound : ℕ) where
-    off-boarded : (i : ℕ) (row : Row) (r : Ride) (vs : List Valued) (w : ℕ) → Off target bound r vs w → Off target bound (boardedAt i row r) vs w
+  module _ (goal : Goal) where
+    off-boarded : (i : ℕ) (row : Row) (r : Ride) (vs : List Valued) (w : ℕ) → Off goal r vs w → Off goal (boardedAt i row r) vs w
     unfolding arrivalWorth changeWorth
     off-boarded i row r vs w (arrives e b) = arrives e b
     off-boarded i row r vs w (goes-on away e) = goes-on away e
 
     -- each best ride gets off where its last row lands
     pub best-off :
-        (i : ℕ) → i < length (t .rows) → (v : Valued) → bestInTicks t target bound i ≡ some v
-        → Off target bound (v .ride) (chosenInTicks t target bound (suc (v .ride .leave))) (v .worth)
+        (i : ℕ) → i < length (t .rows) → (v : Valued) → bestInTicks t goal i ≡ some v
+        → Off goal (v .ride) (chosenInTicks t goal (suc (v .ride .leave))) (v .worth)
     unfolding offAt
     best-off =
-        each-best (offInTicks target bound) target t
-        (λ v. Off target bound (v .ride) (chosenInTicks t target bound (suc (v .ride .leave))) (v .worth)) (λ i h _ w e. off-is target bound _ _ w e)
+        each-best (inTicks goal) t
+        (λ v. Off goal (v .ride) (chosenInTicks t goal (suc (v .ride .leave))) (v .worth)) (λ i h _ w e. off-is goal _ _ w e)
         (λ i j a b s u e o. off-boarded i (rowOf (t .rows) i) (u .ride) _ (u .worth) o)
 
     -- each best ride has a + M within the bound
     pub best-within :
-        (i : ℕ) → i < length (t .rows) → (v : Valued) → bestInTicks t target bound i ≡ some v → within bound (latest (v .ride)) ≡ true
+        (i : ℕ) → i < length (t .rows) → (v : Valued) → bestInTicks t goal i ≡ some v → within (goal .bound) (latest (v .ride)) ≡ true
     unfolding offAt
     best-within =
-        each-best (offInTicks target bound) target t (λ v. within bound (latest (v .ride)) ≡ true)
-        (λ i h later w e. landing i h later w (off-is target bound _ _ w e)) (λ i j a b s u e o. o)
+        each-best (inTicks goal) t (λ v. within (goal .bound) (latest (v .ride)) ≡ true)
+        (λ i h later w e. landing i h later w (off-is goal _ _ w e)) (λ i j a b s u e o. o)
       where
         landing :
             (i : ℕ) → i < length (t .rows)
-            → ((u : Valued) → List·Memᴰ u (chosenInTicks t target bound (suc i)) → within bound (latest (u .ride)) ≡ true) → (w : ℕ)
-            → Off target bound (rowRide (t .tables) i (rowOf (t .rows) i)) (chosenInTicks t target bound (suc i)) w
-            → within bound (latest (rowRide (t .tables) i (rowOf (t .rows) i))) ≡ true
+            → ((u : Valued) → List·Memᴰ u (chosenInTicks t goal (suc i)) → within (goal .bound) (latest (u .ride)) ≡ true) → (w : ℕ)
+            → Off goal (rowRide (t .tables) i (rowOf (t .rows) i)) (chosenInTicks t goal (suc i)) w
+            → within (goal .bound) (latest (rowRide (t .tables) i (rowOf (t .rows) i))) ≡ true
         landing i h later w (arrives e b) = b
         landing i h later w (goes-on {u = u} away e) =
             let there = found-member _ _ _ e in
-            let p = chosen-picked (offInTicks target bound) target t (suc i) h u there in
+            let p = chosen-picked (inTicks goal) t (suc i) h u there in
             let a : u .ride .departs < u .ride .arrives = departs-before t timely (u .ride)
-            (best-is-ride (offInTicks target bound) target t (u .ride .board) (p .inside) u (p .best)) in
-            within-earlier bound _ (latest (u .ride)) (omega (arith, boards-minute (u .ride) _ _ (found-boards _ _ _ e))) (later u there)
+            (best-is-ride (inTicks goal) t (u .ride .board) (p .inside) u (p .best)) in
+            within-earlier (goal .bound) _ (latest (u .ride)) (omega (arith, boards-minute (u .ride) _ _ (found-boards _ _ _ e))) (later u there)
 
     -- each chosen ride is worth what those behind it give
     chosen-next :
-        (i : ℕ) → i < length (t .rows) → OwnWorth target (chosenInTicks t target bound (suc i)) → (best : Option Valued) (chosen : List Valued)
-        → bestInTicks t target bound i ≡ best → Choice target (chosenInTicks t target bound (suc i)) best chosen → OwnWorth target chosen
+        (i : ℕ) → i < length (t .rows) → OwnWorth (goal .target) (chosenInTicks t goal (suc i)) → (best : Option Valued) (chosen : List Valued)
+        → bestInTicks t goal i ≡ best → Choice (inTicks goal) (chosenInTicks t goal (suc i)) best chosen → OwnWorth (goal .target) chosen
     chosen-next i h own best chosen e worthless = own
     chosen-next i h own best chosen e (at-target p) = own
     chosen-next i h own best chosen e (behind p) = own
     chosen-next i h own best chosen e (added {v = v} apart lead) =
-        let off = offInTicks target bound in
-        let is = best-is-ride off target t i h v e in
-        let at = best-boards off target t i h v e in
+        let aim = inTicks goal in
+        let is = best-is-ride aim t i h v e in
+        let at = best-boards aim t i h v e in
         let moves = ride-moves (v .ride) is in
-        let later = chosenFrom off target t (suc i) in
+        let later = chosenFrom aim t (suc i) in
         let landing = best-off i h v e in
-        ahead-of target v (chosenFrom off target t (suc (v .ride .leave))) (others (v .ride) later) moves
+        ahead-of (goal .target) v (chosenFrom aim t (suc (v .ride .leave))) (others (v .ride) later) moves
         (λ m late _. others-first (v .ride) later (v .ride .to) m (too-late (v .ride) (v .ride .to) m (omega (arith, moves .forward)))
-        ∙ landing-sees off target (v .ride) is (suc i) (omega (arith, is .onward, at .row)) (v .ride .to) m late)
-        (sym (off-worth target bound (v .ride) _ (v .worth) landing)) (goes landing)
-        (others-own target (v .ride) later
+        ∙ landing-sees aim (v .ride) is (suc i) (omega (arith, is .onward, at .row)) (v .ride .to) m late)
+        (sym (off-worth goal (v .ride) _ (v .worth) landing)) (goes landing)
+        (others-own (goal .target) (v .ride) later
         (λ x m. subst (λ k. k ≤ x .ride .departs) (sym (at .minute))
-        (chosen-rising off target t timely i (suc i) (let z : i ≤ suc i = omega arith in z) h x m)) own)
+        (chosen-rising aim t timely i (suc i) (let z : i ≤ suc i = omega arith in z) h x m)) own)
       where
-        goes : {w : ℕ} {vs : List Valued} → Off target bound (v .ride) vs w → v .ride .to ≢ target
+        goes : {w : ℕ} {vs : List Valued} → Off goal (v .ride) vs w → v .ride .to ≢ goal .target
             → (safe : Valued) × (firstOpen vs (v .ride .to) (latest (v .ride)) ≡ some safe)
         goes (arrives q b) away = absurd (away q)
         goes (goes-on {u = u} _ q) away = (u, q)
 
-    pub chosen-own : (i : ℕ) → i ≤ length (t .rows) → OwnWorth target (chosenInTicks t target bound i)
+    pub chosen-own : (i : ℕ) → i ≤ length (t .rows) → OwnWorth (goal .target) (chosenInTicks t goal i)
     chosen-own =
-        downward (λ i. OwnWorth target (chosenInTicks t target bound i)) (length (t .rows))
-        (subst (λ (l : List Valued). OwnWorth target l) (sym (chosen-end (offInTicks target bound) target t)) nobody)
-        (λ i h own. subst (λ (l : List Valued). OwnWorth target l) (sym (chosen-row (offInTicks target bound) target t i h))
-        (chosen-next i h own _ _ refl (choice target (bestInTicks t target bound i) (chosenInTicks t target bound (suc i)))))
+        downward (λ i. OwnWorth (goal .target) (chosenInTicks t goal i)) (length (t .rows))
+        (subst (λ (l : List Valued). OwnWorth (goal .target) l) (sym (chosen-end (inTicks goal) t)) nobody)
+        (λ i h own. subst (λ (l : List Valued). OwnWorth (goal .target) l) (sym (chosen-row (inTicks goal) t i h))
+        (chosen-next i h own _ _ refl (choice (inTicks goal) (bestInTicks t goal i) (chosenInTicks t goal (suc i)))))

@@ -17,7 +17,7 @@ use Rattle.query.specs.declared.Query.{Query}
 use Rattle.plans.specs.Rides.{Ride, IsRide, latest, boards}
 use Rattle.plans.specs.Journeys.{Onward, leaves, changes, Journey, IsEarliest}
 use Rattle.plans.specs.Worth.{Valued, firstOpen}
-use Rattle.plans.specs.Chosen.{GettingOff, offInMinutes, worthOf, rowRide, boardedAt}
+use Rattle.plans.specs.Chosen.{Aim, inMinutes, offInMinutes, worthOf, rowRide, boardedAt}
 use Rattle.plans.specs.Plan.{earliest}
 use Rattle.plans.proofs.Open.{boards-stop, boards-minute, found-member, found-boards}
 use Rattle.plans.proofs.AtMost.{AtMost, raised, found-at-most, worth-at-most}
@@ -64,29 +64,29 @@ module _ (t : Timetable) (target : ℕ) where
   -- each best ride, in minutes, begins a safe journey that ends then
   minutes-off :
       (i : ℕ) → i < length (t .rows)
-      → ((u : Valued) → List·Memᴰ u (chosenFrom (offInMinutes target) target t (suc i)) → Onward t target (u .ride) (u .worth)) → (w : ℕ)
-      → offAt (offInMinutes target) target t i ≡ some w → Onward t target (rowRide (t .tables) i (rowOf (t .rows) i)) w
+      → ((u : Valued) → List·Memᴰ u (chosenFrom (inMinutes target) t (suc i)) → Onward t target (u .ride) (u .worth)) → (w : ℕ)
+      → offAt (inMinutes target) t i ≡ some w → Onward t target (rowRide (t .tables) i (rowOf (t .rows) i)) w
   unfolding offAt offInMinutes
   minutes-off i h behind w e =
       ifb (λ b. eqb (r .to) target ≡ b → cond b (some (latest r)) (worthOf (firstOpen later (r .to) (latest r))) ≡ some w → Onward t target r w)
       (eqb (r .to) target)
-      (λ q _ k. subst (λ x. Onward t target r x) (same-thing k) (leaves (row-is-ride (offInMinutes target) target t i h) (eqb-true (r .to) target q)))
+      (λ q _ k. subst (λ x. Onward t target r x) (same-thing k) (leaves (row-is-ride (inMinutes target) t i h) (eqb-true (r .to) target q)))
       (λ _ _ k. let found = worth-is (firstOpen later (r .to) (latest r)) k in
-      changes {next = found .0 .ride} (row-is-ride (offInMinutes target) target t i h) (true-T (found-boards later (r .to) (latest r) (found .1)))
+      changes {next = found .0 .ride} (row-is-ride (inMinutes target) t i h) (true-T (found-boards later (r .to) (latest r) (found .1)))
       (subst (λ x. Onward t target (found .0 .ride) x) (found .2) (behind (found .0) (found-member later (r .to) (latest r) (found .1))))) refl e
     where
       r : Ride
       r = rowRide (t .tables) i (rowOf (t .rows) i)
 
       later : List Valued
-      later = chosenFrom (offInMinutes target) target t (suc i)
+      later = chosenFrom (inMinutes target) t (suc i)
 
   pub minutes-onward :
-      (i : ℕ) → i < length (t .rows) → (v : Valued) → bestAt (offInMinutes target) target t i ≡ some v → Onward t target (v .ride) (v .worth)
+      (i : ℕ) → i < length (t .rows) → (v : Valued) → bestAt (inMinutes target) t i ≡ some v → Onward t target (v .ride) (v .worth)
   minutes-onward =
-      each-best (offInMinutes target) target t (λ v. Onward t target (v .ride) (v .worth)) minutes-off
+      each-best (inMinutes target) t (λ v. Onward t target (v .ride) (v .worth)) minutes-off
       (λ i j a b s u e on. onward-earlier i on
-      (boarded-earlier (offInMinutes target) target t i j a s (u .ride) (best-boards (offInMinutes target) target t j b u e .row) (onward-ride on)))
+      (boarded-earlier (inMinutes target) t i j a s (u .ride) (best-boards (inMinutes target) t j b u e .row) (onward-ride on)))
 
   module _ (timely : Timely t) where
     pub onward-after : {r : Ride} {end : ℕ} → Onward t target r end → r .departs < end
@@ -98,47 +98,47 @@ module _ (t : Timetable) (target : ℕ) where
         omega arith
 
     -- the row where a safe journey boards has a best ride, in minutes, that ends no later
-    pub minutes-least : {r : Ride} {end : ℕ} → Onward t target r end → AtMost (bestAt (offInMinutes target) target t (r .board)) end
-    minutes-least (leaves {r} is e) = ride-at-most (offInMinutes target) target t r is (minutes-landed target) (latest r)
+    pub minutes-least : {r : Ride} {end : ℕ} → Onward t target r end → AtMost (bestAt (inMinutes target) t (r .board)) end
+    minutes-least (leaves {r} is e) = ride-at-most (inMinutes target) t r is (minutes-landed target) (latest r)
         (minutes-at-target target r _ e)
     minutes-least (changes {r} {next} {end} is b on) =
         let late : latest r ≤ next .departs = boards-minute next (r .to) (latest r) (T-true b) in
-        ifb (λ b. eqb (r .to) target ≡ b → AtMost (bestAt (offInMinutes target) target t (r .board)) end) (eqb (r .to) target)
-        (λ q _. raised (ride-at-most (offInMinutes target) target t r is (minutes-landed target) (latest r)
+        ifb (λ b. eqb (r .to) target ≡ b → AtMost (bestAt (inMinutes target) t (r .board)) end) (eqb (r .to) target)
+        (λ q _. raised (ride-at-most (inMinutes target) t r is (minutes-landed target) (latest r)
         (minutes-at-target target r _ (eqb-true (r .to) target q)))
         (let d : next .departs < end = onward-after on in let z : latest r ≤ end = omega arith in z))
-        (λ q _. found-at-most (AtMost (bestAt (offInMinutes target) target t (r .board)) end)
-        (ride-first t timely (offInMinutes target) target (suc (r .leave)) next (onward-ride on)
+        (λ q _. found-at-most (AtMost (bestAt (inMinutes target) t (r .board)) end)
+        (ride-first t timely (inMinutes target) (suc (r .leave)) next (onward-ride on)
         (boards-behind t timely r next is (onward-ride on) (omega arith))
         (r .to) (latest r) end (T-true b) (eqb-false (r .to) target q) (minutes-least on))
-        (λ u e h. raised (ride-at-most (offInMinutes target) target t r is (minutes-landed target) (u .worth)
+        (λ u e h. raised (ride-at-most (inMinutes target) t r is (minutes-landed target) (u .worth)
         (minutes-elsewhere target r _ (eqb-false (r .to) target q) u e)) h)) refl
 
     pub journey-least :
         (s m : ℕ) → s ≢ target → (r : Ride) {end : ℕ} → boards r s m ≡ true → Onward t target r end
-        → AtMost (firstOpen (chosenFrom (offInMinutes target) target t 0) s m) end
-    journey-least s m elsewhere r {end} b on = ride-first t timely (offInMinutes target) target 0 r (onward-ride on) zero-le s m end b elsewhere
+        → AtMost (firstOpen (chosenFrom (inMinutes target) t 0) s m) end
+    journey-least s m elsewhere r {end} b on = ride-first t timely (inMinutes target) 0 r (onward-ride on) zero-le s m end b elsewhere
         (minutes-least on)
 
 -- who stands at the target has nothing chosen to board
-pub chosen-away : (off : GettingOff) (target : ℕ) (t : Timetable) (s m : ℕ) {v : Valued} → firstOpen (chosenFrom off target t 0) s m ≡ some v
-    → s ≢ target
-chosen-away off target t s m {v} e q =
-    chosen-picked off target t 0 zero-le v (found-member _ s m e) .elsewhere (boards-stop (v .ride) s m (found-boards _ s m e) ∙ q)
+pub chosen-away : (aim : Aim) (t : Timetable) (s m : ℕ) {v : Valued} → firstOpen (chosenFrom aim t 0) s m ≡ some v
+    → s ≢ aim .target
+chosen-away aim t s m {v} e q =
+    chosen-picked aim t 0 zero-le v (found-member _ s m e) .elsewhere (boards-stop (v .ride) s m (found-boards _ s m e) ∙ q)
 
 module _ (t : Timetable) (timely : Timely t) (q : Query) where
   first-row : Option Valued
-  first-row = firstOpen (chosenFrom (offInMinutes (q .target)) (q .target) t 0) (q .source) (q .minute)
+  first-row = firstOpen (chosenFrom (inMinutes (q .target)) t 0) (q .source) (q .minute)
 
   earliest-first : earliest t q ≡ worthOf first-row
   unfolding earliest first-row
-  earliest-first = ap (λ (l : List Valued). worthOf (firstOpen l (q .source) (q .minute))) (chosen-all (offInMinutes (q .target)) (q .target) t)
+  earliest-first = ap (λ (l : List Valued). worthOf (firstOpen l (q .source) (q .minute))) (chosen-all (inMinutes (q .target)) t)
 
   -- the first chosen row begins a journey, and none ends earlier
   first-reaches : (v : Valued) → first-row ≡ some v → Journey t q (v .worth)
   unfolding first-row
   first-reaches v e =
-      let p = chosen-picked (offInMinutes (q .target)) (q .target) t 0 zero-le v (found-member _ (q .source) (q .minute) e) in
+      let p = chosen-picked (inMinutes (q .target)) t 0 zero-le v (found-member _ (q .source) (q .minute) e) in
       record {
         first = v .ride;
         in-time = true-T (found-boards _ (q .source) (q .minute) e);
@@ -151,7 +151,7 @@ module _ (t : Timetable) (timely : Timely t) (q : Query) where
 
   first-apart : (v : Valued) → first-row ≡ some v → q .source ≢ q .target
   unfolding first-row
-  first-apart v e = chosen-away (offInMinutes (q .target)) (q .target) t (q .source) (q .minute) e
+  first-apart v e = chosen-away (inMinutes (q .target)) t (q .source) (q .minute) e
 
   -- the earliest safe arrival is reached, and is the least
   pub earliest-is-least : (e : ℕ) → earliest t q ≡ some e → IsEarliest t q e

@@ -14,7 +14,7 @@ use Rattle.timetable.specs.Timetable.{Timetable, rowOf}
 use Rattle.plans.specs.Sound.{Timely}
 use Rattle.plans.specs.Rides.{Ride}
 use Rattle.plans.specs.Worth.{Valued, firstOpen}
-use Rattle.plans.specs.Chosen.{GettingOff, others, choose}
+use Rattle.plans.specs.Chosen.{Aim, others, choose}
 use Rattle.plans.proofs.Open.{can-board, boards-stop, first-here, on-head, found-member, found-boards}
 use Rattle.plans.proofs.AtMost.{AtMost, is-at-most, found-at-most}
 use Rattle.plans.proofs.FromRow.{chosenFrom, bestAt, chosen-row, chosen-end}
@@ -31,13 +31,13 @@ others-ordered r (v ∷ vs) (ahead before o) =
 
 -- choosing one more row raises no worth of a first chosen row
 pub choice-lowers :
-    (target : ℕ) {best : Option Valued} {old new : List Valued} → Ordered old → Choice target old best new → (s m w : ℕ)
+    (aim : Aim) {best : Option Valued} {old new : List Valued} → Ordered old → Choice aim old best new → (s m w : ℕ)
     → AtMost (firstOpen old s m) w
     → AtMost (firstOpen new s m) w
-choice-lowers target o worthless s m w a = a
-choice-lowers target o (at-target p) s m w a = a
-choice-lowers target o (behind p) s m w a = a
-choice-lowers target {old = old} o (added {v = v} apart lead) s m w a =
+choice-lowers aim o worthless s m w a = a
+choice-lowers aim o (at-target p) s m w a = a
+choice-lowers aim o (behind p) s m w a = a
+choice-lowers aim {old = old} o (added {v = v} apart lead) s m w a =
     on-head (AtMost (firstOpen (v ∷ others (v .ride) old) s m) w) v (others (v .ride) old) s m
     (λ b h. found-at-most (AtMost (firstOpen (v ∷ others (v .ride) old) s m) w) a
     (λ u e k. let below : v .worth < u .worth = leads-each old o (v .worth) (v .ride .from) lead u (found-member old s m e)
@@ -47,51 +47,51 @@ choice-lowers target {old = old} o (added {v = v} apart lead) s m w a =
 
 -- and the new row finds one that is worth no more
 pub choice-finds :
-    (target : ℕ) {old new : List Valued} {v : Valued} → Choice target old (some v) new → v .ride .from ≢ target
+    (aim : Aim) {old new : List Valued} {v : Valued} → Choice aim old (some v) new → v .ride .from ≢ aim .target
     → ((x : Valued) → List·Memᴰ x old → v .ride .departs ≤ x .ride .departs) → (m : ℕ) → m ≤ v .ride .departs
     → AtMost (firstOpen new (v .ride .from) m) (v .worth)
-choice-finds target (at-target p) elsewhere rising m h = absurd (elsewhere p)
-choice-finds target {old = old} {v = v} (behind led) elsewhere rising m h =
+choice-finds aim (at-target p) elsewhere rising m h = absurd (elsewhere p)
+choice-finds aim {old = old} {v = v} (behind led) elsewhere rising m h =
     led-by-first old (v .worth) (v .ride .from) m led (λ x k. let z : v .ride .departs ≤ x .ride .departs = rising x k in omega arith)
-choice-finds target {old = old} {v = v} (added apart lead) elsewhere rising m h =
+choice-finds aim {old = old} {v = v} (added apart lead) elsewhere rising m h =
     is-at-most (first-here v (others (v .ride) old) (v .ride .from) m (can-board (v .ride) (v .ride .from) m refl h))
     (let z : v .worth ≤ v .worth = omega arith in z)
 
-module _ (off : GettingOff) (target : ℕ) (t : Timetable) (timely : Timely t) where
+module _ (aim : Aim) (t : Timetable) (timely : Timely t) where
   -- a chosen ride departs no earlier than the rows before its own
   pub chosen-rising :
-      (i j : ℕ) → i ≤ j → j ≤ length (t .rows) → (x : Valued) → List·Memᴰ x (chosenFrom off target t j)
+      (i j : ℕ) → i ≤ j → j ≤ length (t .rows) → (x : Valued) → List·Memᴰ x (chosenFrom aim t j)
       → rowOf (t .rows) i .departure ≤ x .ride .departs
   chosen-rising i j a b x m =
-      let p = chosen-picked off target t j b x m in
+      let p = chosen-picked aim t j b x m in
       let z : rowOf (t .rows) i .departure ≤ rowOf (t .rows) (x .ride .board) .departure = timely .rising i (x .ride .board) (omega (arith, p .here))
       (p .inside) in
-      subst (λ k. rowOf (t .rows) i .departure ≤ k) (sym (best-boards off target t (x .ride .board) (p .inside) x (p .best) .minute)) z
+      subst (λ k. rowOf (t .rows) i .departure ≤ k) (sym (best-boards aim t (x .ride .board) (p .inside) x (p .best) .minute)) z
 
   best-rising :
-      (i : ℕ) → i < length (t .rows) → (v : Valued) → bestAt off target t i ≡ some v → (x : Valued) → List·Memᴰ x (chosenFrom off target t (suc i))
+      (i : ℕ) → i < length (t .rows) → (v : Valued) → bestAt aim t i ≡ some v → (x : Valued) → List·Memᴰ x (chosenFrom aim t (suc i))
       → v .ride .departs ≤ x .ride .departs
   best-rising i h v e x m =
-      subst (λ k. k ≤ x .ride .departs) (sym (best-boards off target t i h v e .minute))
+      subst (λ k. k ≤ x .ride .departs) (sym (best-boards aim t i h v e .minute))
       (chosen-rising i (suc i) (let z : i ≤ suc i = omega arith in z) h x m)
 
   ordered-by :
-      (i : ℕ) → i < length (t .rows) → Ordered (chosenFrom off target t (suc i)) → (best : Option Valued) (chosen : List Valued)
-      → bestAt off target t i ≡ best
-      → Choice target (chosenFrom off target t (suc i)) best chosen → Ordered chosen
+      (i : ℕ) → i < length (t .rows) → Ordered (chosenFrom aim t (suc i)) → (best : Option Valued) (chosen : List Valued)
+      → bestAt aim t i ≡ best
+      → Choice aim (chosenFrom aim t (suc i)) best chosen → Ordered chosen
   ordered-by i h o best chosen e worthless = o
   ordered-by i h o best chosen e (at-target p) = o
   ordered-by i h o best chosen e (behind p) = o
   ordered-by i h o best chosen e (added {v = v} apart lead) = ahead first (others-ordered (v .ride) later o)
     where
       later : List Valued
-      later = chosenFrom off target t (suc i)
+      later = chosenFrom aim t (suc i)
 
       first : (u : Valued) → List·Memᴰ u (others (v .ride) later) → Before v u
       first u m =
           let there = others-member (v .ride) later m in
-          let p = chosen-picked off target t (suc i) h u there in
-          let row = best-boards off target t i h v e .row in
+          let p = chosen-picked aim t (suc i) h u there in
+          let row = best-boards aim t i h v e .row in
           let rise : v .ride .departs ≤ u .ride .departs = best-rising i h v e u there in
           record {
             rows = (let z : v .ride .board < u .ride .board = omega (arith, p .here) in z);
@@ -100,38 +100,38 @@ module _ (off : GettingOff) (target : ℕ) (t : Timetable) (timely : Timely t) w
             cheaper = (λ s. leads-each later o (v .worth) (v .ride .from) lead u there (sym s));
           }
 
-  pub chosen-ordered : (i : ℕ) → i ≤ length (t .rows) → Ordered (chosenFrom off target t i)
+  pub chosen-ordered : (i : ℕ) → i ≤ length (t .rows) → Ordered (chosenFrom aim t i)
   chosen-ordered =
-      downward (λ i. Ordered (chosenFrom off target t i)) (length (t .rows))
-      (subst (λ (l : List Valued). Ordered l) (sym (chosen-end off target t)) nobody)
-      (λ i h o. subst (λ (l : List Valued). Ordered l) (sym (chosen-row off target t i h))
-      (ordered-by i h o _ _ refl (choice target (bestAt off target t i) (chosenFrom off target t (suc i)))))
+      downward (λ i. Ordered (chosenFrom aim t i)) (length (t .rows))
+      (subst (λ (l : List Valued). Ordered l) (sym (chosen-end aim t)) nobody)
+      (λ i h o. subst (λ (l : List Valued). Ordered l) (sym (chosen-row aim t i h))
+      (ordered-by i h o _ _ refl (choice aim (bestAt aim t i) (chosenFrom aim t (suc i)))))
 
   -- every row from row i on that can be boarded at a minute finds a first chosen row that is worth no more
   pub first-least :
-      (i : ℕ) → i ≤ length (t .rows) → (j : ℕ) → i ≤ j → j < length (t .rows) → (v : Valued) → bestAt off target t j ≡ some v → v .ride .from ≢ target
+      (i : ℕ) → i ≤ length (t .rows) → (j : ℕ) → i ≤ j → j < length (t .rows) → (v : Valued) → bestAt aim t j ≡ some v → v .ride .from ≢ aim .target
       → (m : ℕ)
-      → m ≤ v .ride .departs → AtMost (firstOpen (chosenFrom off target t i) (v .ride .from) m) (v .worth)
+      → m ≤ v .ride .departs → AtMost (firstOpen (chosenFrom aim t i) (v .ride .from) m) (v .worth)
   first-least = downward Least (length (t .rows)) (λ j a b. absurd (let z : ⊥ = omega arith in z)) back
     where
       Least : ℕ → Type 0
       Least i =
-          (j : ℕ) → i ≤ j → j < length (t .rows) → (v : Valued) → bestAt off target t j ≡ some v → v .ride .from ≢ target → (m : ℕ)
-          → m ≤ v .ride .departs → AtMost (firstOpen (chosenFrom off target t i) (v .ride .from) m) (v .worth)
+          (j : ℕ) → i ≤ j → j < length (t .rows) → (v : Valued) → bestAt aim t j ≡ some v → v .ride .from ≢ aim .target → (m : ℕ)
+          → m ≤ v .ride .departs → AtMost (firstOpen (chosenFrom aim t i) (v .ride .from) m) (v .worth)
 
       back : (i : ℕ) → i < length (t .rows) → Least (suc i) → Least i
       back i h later j a b v e elsewhere m k =
-          subst (λ (l : List Valued). AtMost (firstOpen l (v .ride .from) m) (v .worth)) (sym (chosen-row off target t i h)) (step (eq-or-lt-of-le a))
+          subst (λ (l : List Valued). AtMost (firstOpen l (v .ride .from) m) (v .worth)) (sym (chosen-row aim t i h)) (step (eq-or-lt-of-le a))
         where
           step : (i ≡ j) ⊎ (i < j)
-              → AtMost (firstOpen (choose target (bestAt off target t i) (chosenFrom off target t (suc i))) (v .ride .from) m) (v .worth)
+              → AtMost (firstOpen (choose aim (bestAt aim t i) (chosenFrom aim t (suc i))) (v .ride .from) m) (v .worth)
           step (inl q) =
-              let here : bestAt off target t i ≡ some v = subst (λ x. bestAt off target t x ≡ some v) (sym q) e in
-              choice-finds target
-              (subst (λ (o : Option Valued). Choice target (chosenFrom off target t (suc i)) o
-              (choose target (bestAt off target t i) (chosenFrom off target t (suc i)))) here
-              (choice target (bestAt off target t i) (chosenFrom off target t (suc i)))) elsewhere (best-rising i h v here) m k
+              let here : bestAt aim t i ≡ some v = subst (λ x. bestAt aim t x ≡ some v) (sym q) e in
+              choice-finds aim
+              (subst (λ (o : Option Valued). Choice aim (chosenFrom aim t (suc i)) o
+              (choose aim (bestAt aim t i) (chosenFrom aim t (suc i)))) here
+              (choice aim (bestAt aim t i) (chosenFrom aim t (suc i)))) elsewhere (best-rising i h v here) m k
           step (inr c) =
-              choice-lowers target (chosen-ordered (suc i) h) (choice target (bestAt off target t i) (chosenFrom off target t (suc i)))
+              choice-lowers aim (chosen-ordered (suc i) h) (choice aim (bestAt aim t i) (chosenFrom aim t (suc i)))
               (v .ride .from) m (v .worth)
               (later j c b v e elsewhere m k)

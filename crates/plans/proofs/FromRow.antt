@@ -1,20 +1,21 @@
 -- The scan of the rows from row i on, row by row. Assumes nothing.
-use Prim.Native.Nat.{ℕ, suc, _<_}
-use native.Mathlib.Nat.{le-refl}
+use Prim.Native.Nat.{ℕ, zero, suc, _+_, _<_}
+use native.Mathlib.Nat.{add-zero, le-refl}
+use native.Mathlib.Omega.{arith}
 use mathlib.Core.Bool.{cond}
 use mathlib.Core.List.{List, [], _∷_}
 use mathlib.Core.Option.{Option, none}
-use mathlib.Core.Path.{_≡_, refl, ap}
+use mathlib.Core.Path.{_≡_, refl, sym, ap, _∙_}
 use lib.Dec.{eqb}
-use lib.ListN.{length, drop, drop-of-length-le}
+use lib.ListN.{length, getD, drop, drop-of-length-le}
 use lib.Seq.{drop-cons}
 use Rattle.timetable.specs.Timetable.{Timetable, rowOf, noRow}
 use Rattle.plans.specs.Worth.{Valued}
-use Rattle.plans.specs.Chosen.{GettingOff, Scan, scan, scanned, bestOf, choose, nextOf, least, getOff, stayOn, rowRide}
+use Rattle.plans.specs.Chosen.{Aim, Weighed, Scan, scan, scanned, bestOf, choose, nextOf, least, getOff, stayOn, rowRide}
 
-module _ (off : GettingOff) (target : ℕ) (t : Timetable) where
+module _ (aim : Aim) (t : Timetable) where
   unfoldable pub scanFrom : ℕ → Scan
-  scanFrom i = scan off target (t .tables) i (drop i (t .rows))
+  scanFrom i = scan aim (t .tables) i (drop i (t .rows))
 
   -- the chosen rows from row i on
   unfoldable pub chosenFrom : ℕ → List Valued
@@ -22,7 +23,7 @@ module _ (off : GettingOff) (target : ℕ) (t : Timetable) where
 
   -- the best ride of row i, where there is such a row
   unfoldable pub bestAt : ℕ → Option Valued
-  bestAt i = bestOf off (t .tables) i (rowOf (t .rows) i) (scanFrom (suc i))
+  bestAt i = bestOf aim (t .tables) i (rowOf (t .rows) i) (scanFrom (suc i))
 
   -- the best ride of a trip's first row from row i on
   unfoldable pub nextFrom : ℕ → ℕ → Option Valued
@@ -30,22 +31,22 @@ module _ (off : GettingOff) (target : ℕ) (t : Timetable) where
 
   -- getting off where row i lands
   unfoldable pub offAt : ℕ → Option ℕ
-  offAt i = off (rowRide (t .tables) i (rowOf (t .rows) i)) (chosenFrom (suc i))
+  offAt i = aim .off (rowRide (t .tables) i (rowOf (t .rows) i)) (chosenFrom (suc i))
 
   pub scan-row : (i : ℕ) → i < length (t .rows) → scanFrom i
       ≡ record {
         weighed = record { trip = rowOf (t .rows) i .trip; best = bestAt i } ∷ scanFrom (suc i) .weighed;
-        chosen = choose target (bestAt i)
+        chosen = choose aim (bestAt i)
             (chosenFrom (suc i));
       }
   unfolding scanFrom chosenFrom bestAt scan
-  scan-row i h = ap (scan off target (t .tables) i) (drop-cons (t .rows) i noRow h)
+  scan-row i h = ap (scan aim (t .tables) i) (drop-cons (t .rows) i noRow h)
 
   pub scan-end : scanFrom (length (t .rows)) ≡ record { weighed = []; chosen = [] }
   unfolding scanFrom scan
-  scan-end = ap (scan off target (t .tables) (length (t .rows))) (drop-of-length-le (t .rows) (le-refl (length (t .rows))))
+  scan-end = ap (scan aim (t .tables) (length (t .rows))) (drop-of-length-le (t .rows) (le-refl (length (t .rows))))
 
-  pub chosen-row : (i : ℕ) → i < length (t .rows) → chosenFrom i ≡ choose target (bestAt i) (chosenFrom (suc i))
+  pub chosen-row : (i : ℕ) → i < length (t .rows) → chosenFrom i ≡ choose aim (bestAt i) (chosenFrom (suc i))
   unfolding chosenFrom
   chosen-row i h = ap (λ (s : Scan). s .chosen) (scan-row i h)
 
@@ -53,7 +54,7 @@ module _ (off : GettingOff) (target : ℕ) (t : Timetable) where
   unfolding chosenFrom
   chosen-end = ap (λ (s : Scan). s .chosen) scan-end
 
-  pub chosen-all : scanned off target t .chosen ≡ chosenFrom 0
+  pub chosen-all : scanned aim t .chosen ≡ chosenFrom 0
   unfolding scanned chosenFrom scanFrom
   chosen-all = refl
 
@@ -72,3 +73,13 @@ module _ (off : GettingOff) (target : ℕ) (t : Timetable) where
       (stayOn i (rowOf (t .rows) i) (nextFrom (suc i) (rowOf (t .rows) i .trip)))
   unfolding bestAt bestOf offAt nextFrom chosenFrom
   best-row i = refl
+
+  -- a row's best ride stands as far from the scan's first row as the row does
+  pub weighed-at : (k i : ℕ) (past : Weighed) → i + k < length (t .rows) → getD (scanFrom i .weighed) k past .best ≡ bestAt (i + k)
+  weighed-at zero i past h =
+      ap (λ (s : Scan). getD (s .weighed) zero past .best) (scan-row i (let z : i < length (t .rows) = omega arith in z))
+      ∙ ap bestAt (sym (add-zero i))
+  weighed-at (suc k) i past h =
+      ap (λ (s : Scan). getD (s .weighed) (suc k) past .best) (scan-row i (let z : i < length (t .rows) = omega arith in z))
+      ∙ weighed-at k (suc i) past (let z : suc i + k < length (t .rows) = omega arith in z)
+      ∙ ap bestAt (let z : suc i + k ≡ i + suc k = omega arith in z)

@@ -12,7 +12,7 @@ use Rattle.timetable.specs.Classes.{sum, whole}
 use Rattle.plans.specs.Sound.{Timely}
 use Rattle.plans.specs.Rides.{Ride, IsRide, boards}
 use Rattle.plans.specs.Worth.{firstOpen}
-use Rattle.plans.specs.Chosen.{GettingOff}
+use Rattle.plans.specs.Chosen.{Aim}
 use Rattle.plans.proofs.Open.{boards-stop, boards-minute}
 use Rattle.plans.proofs.AtMost.{AtMost, raised, found-at-most}
 use Rattle.plans.proofs.FromRow.{chosenFrom, bestAt}
@@ -50,17 +50,17 @@ module _ (t : Timetable) (timely : Timely t) where
   pub board-inside : (r : Ride) → IsRide t r → r .board < length (t .rows)
   board-inside r is = omega (arith, is .onward, is .inside)
 
-  module _ (off : GettingOff) (target : ℕ) where
+  module _ (aim : Aim) where
     -- who can board a ride finds a first chosen row that is worth no more than the ride's boarding row
     pub ride-first :
-        (i : ℕ) (r : Ride) → IsRide t r → i ≤ r .board → (s m w : ℕ) → boards r s m ≡ true → s ≢ target → AtMost (bestAt off target t (r .board)) w
-        → AtMost (firstOpen (chosenFrom off target t i) s m) w
+        (i : ℕ) (r : Ride) → IsRide t r → i ≤ r .board → (s m w : ℕ) → boards r s m ≡ true → s ≢ aim .target → AtMost (bestAt aim t (r .board)) w
+        → AtMost (firstOpen (chosenFrom aim t i) s m) w
     ride-first i r is here s m w b elsewhere best =
-        found-at-most (AtMost (firstOpen (chosenFrom off target t i) s m) w) best
-        (λ v e h. let at = best-boards off target t (r .board) (board-inside r is) v e in
+        found-at-most (AtMost (firstOpen (chosenFrom aim t i) s m) w) best
+        (λ v e h. let at = best-boards aim t (r .board) (board-inside r is) v e in
         let there : v .ride .from ≡ s = at .stop ∙ sym (ap (λ (x : Ride). x .from) (is .as-timed)) ∙ boards-stop r s m b in
         let then : v .ride .departs ≡ r .departs = at .minute ∙ sym (ap (λ (x : Ride). x .departs) (is .as-timed)) in
-        raised (subst (λ k. AtMost (firstOpen (chosenFrom off target t i) k m) (v .worth)) there
-        (first-least off target t timely i (let z : i ≤ length (t .rows) = omega (arith, board-inside r is) in z) (r .board) here
+        raised (subst (λ k. AtMost (firstOpen (chosenFrom aim t i) k m) (v .worth)) there
+        (first-least aim t timely i (let z : i ≤ length (t .rows) = omega (arith, board-inside r is) in z) (r .board) here
         (board-inside r is) v e
         (λ q. elsewhere (sym there ∙ q)) m (let z : m ≤ v .ride .departs = omega (arith, boards-minute r s m b) in z))) h)

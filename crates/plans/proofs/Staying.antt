@@ -16,7 +16,7 @@ use Rattle.timetable.specs.Timetable.{Timetable, rowOf}
 use Rattle.timetable.specs.declared.Row.{Row}
 use Rattle.plans.specs.Rides.{Ride, IsRide}
 use Rattle.plans.specs.Worth.{Valued}
-use Rattle.plans.specs.Chosen.{GettingOff, getOff, stayOn, rowRide, boardedAt}
+use Rattle.plans.specs.Chosen.{Aim, GettingOff, getOff, stayOn, rowRide, boardedAt}
 use Rattle.plans.proofs.AtMost.{AtMost, at-most, least-left, least-right}
 use Rattle.plans.proofs.FromRow.{chosenFrom, bestAt, nextFrom, offAt, next-row, best-row}
 
@@ -32,23 +32,23 @@ off-at-most r o {w} e = subst (λ (x : Option ℕ). AtMost (getOff r x) w) (sym 
 abbrev pub AsLanded : GettingOff → Type 0
 AsLanded off = (i : ℕ) (row : Row) (r : Ride) (behind : List Valued) → off (boardedAt i row r) behind ≡ off r behind
 
-module _ (off : GettingOff) (target : ℕ) (t : Timetable) where
+module _ (aim : Aim) (t : Timetable) where
   -- getting off where the row lands
-  pub row-off : (i w : ℕ) → offAt off target t i ≡ some w → AtMost (bestAt off target t i) w
-  row-off i w e = subst (λ (o : Option Valued). AtMost o w) (sym (best-row off target t i)) (least-left _ (off-at-most _ (offAt off target t i) e))
+  pub row-off : (i w : ℕ) → offAt aim t i ≡ some w → AtMost (bestAt aim t i) w
+  row-off i w e = subst (λ (o : Option Valued). AtMost o w) (sym (best-row aim t i)) (least-left _ (off-at-most _ (offAt aim t i) e))
 
-  row-on : (i w : ℕ) → AtMost (nextFrom off target t (suc i) (rowOf (t .rows) i .trip)) w → AtMost (bestAt off target t i) w
+  row-on : (i w : ℕ) → AtMost (nextFrom aim t (suc i) (rowOf (t .rows) i .trip)) w → AtMost (bestAt aim t i) w
   row-on i w a =
-      subst (λ (o : Option Valued). AtMost o w) (sym (best-row off target t i))
-      (least-right (getOff (rowRide (t .tables) i (rowOf (t .rows) i)) (offAt off target t i)) (stay-at-most i (rowOf (t .rows) i) a))
+      subst (λ (o : Option Valued). AtMost o w) (sym (best-row aim t i))
+      (least-right (getOff (rowRide (t .tables) i (rowOf (t .rows) i)) (offAt aim t i)) (stay-at-most i (rowOf (t .rows) i) a))
 
   next-at-most :
-      (j w : ℕ) → j < length (t .rows) → AtMost (bestAt off target t j) w → (i : ℕ) → i ≤ length (t .rows) → i ≤ j
-      → AtMost (nextFrom off target t i (rowOf (t .rows) j .trip)) w
+      (j w : ℕ) → j < length (t .rows) → AtMost (bestAt aim t j) w → (i : ℕ) → i ≤ length (t .rows) → i ≤ j
+      → AtMost (nextFrom aim t i (rowOf (t .rows) j .trip)) w
   next-at-most j w inside a =
-      downward (λ i. i ≤ j → AtMost (nextFrom off target t i trip) w) (length (t .rows)) (λ k. absurd (let z : ⊥ = omega arith in z))
-      (λ i h later k. subst (λ (o : Option Valued). AtMost o w) (sym (next-row off target t i trip h))
-      (ifb (λ b. eqb (rowOf (t .rows) i .trip) trip ≡ b → AtMost (cond b (bestAt off target t i) (nextFrom off target t (suc i) trip)) w)
+      downward (λ i. i ≤ j → AtMost (nextFrom aim t i trip) w) (length (t .rows)) (λ k. absurd (let z : ⊥ = omega arith in z))
+      (λ i h later k. subst (λ (o : Option Valued). AtMost o w) (sym (next-row aim t i trip h))
+      (ifb (λ b. eqb (rowOf (t .rows) i .trip) trip ≡ b → AtMost (cond b (bestAt aim t i) (nextFrom aim t (suc i) trip)) w)
       (eqb (rowOf (t .rows) i .trip) trip)
       (λ e _. one-trip i (eqb-true (rowOf (t .rows) i .trip) trip e) later (eq-or-lt-of-le k))
       (λ e _. later (another i (eqb-false (rowOf (t .rows) i .trip) trip e) (eq-or-lt-of-le k))) refl))
@@ -57,36 +57,36 @@ module _ (off : GettingOff) (target : ℕ) (t : Timetable) where
       trip = rowOf (t .rows) j .trip
 
       one-trip :
-          (i : ℕ) → rowOf (t .rows) i .trip ≡ trip → (suc i ≤ j → AtMost (nextFrom off target t (suc i) trip) w) → (i ≡ j) ⊎ (i < j)
-          → AtMost (bestAt off target t i) w
-      one-trip i same later (inl e) = subst (λ k. AtMost (bestAt off target t k) w) (sym e) a
-      one-trip i same later (inr b) = row-on i w (subst (λ k. AtMost (nextFrom off target t (suc i) k) w) (sym same) (later b))
+          (i : ℕ) → rowOf (t .rows) i .trip ≡ trip → (suc i ≤ j → AtMost (nextFrom aim t (suc i) trip) w) → (i ≡ j) ⊎ (i < j)
+          → AtMost (bestAt aim t i) w
+      one-trip i same later (inl e) = subst (λ k. AtMost (bestAt aim t k) w) (sym e) a
+      one-trip i same later (inr b) = row-on i w (subst (λ k. AtMost (nextFrom aim t (suc i) k) w) (sym same) (later b))
 
       another : (i : ℕ) → (rowOf (t .rows) i .trip ≡ trip → ⊥) → (i ≡ j) ⊎ (i < j) → suc i ≤ j
       another i other (inl e) = absurd (other (ap (λ k. rowOf (t .rows) k .trip) e))
       another i other (inr b) = b
 
   pub stay-on :
-      (i j w : ℕ) → i ≤ j → j < length (t .rows) → rowOf (t .rows) i .trip ≡ rowOf (t .rows) j .trip → AtMost (bestAt off target t j) w
-      → AtMost (bestAt off target t i) w
+      (i j w : ℕ) → i ≤ j → j < length (t .rows) → rowOf (t .rows) i .trip ≡ rowOf (t .rows) j .trip → AtMost (bestAt aim t j) w
+      → AtMost (bestAt aim t i) w
   stay-on i j w a inside same best = step (eq-or-lt-of-le a)
     where
-      step : (i ≡ j) ⊎ (i < j) → AtMost (bestAt off target t i) w
-      step (inl e) = subst (λ k. AtMost (bestAt off target t k) w) (sym e) best
+      step : (i ≡ j) ⊎ (i < j) → AtMost (bestAt aim t i) w
+      step (inl e) = subst (λ k. AtMost (bestAt aim t k) w) (sym e) best
       step (inr b) =
-          row-on i w (subst (λ k. AtMost (nextFrom off target t (suc i) k) w) (sym same)
+          row-on i w (subst (λ k. AtMost (nextFrom aim t (suc i) k) w) (sym same)
           (next-at-most j w inside best (suc i) (let z : suc i ≤ length (t .rows) = omega arith in z) b))
 
   -- getting off after a ride is getting off where its last row lands
-  pub ride-off : AsLanded off → (r : Ride) → IsRide t r → offAt off target t (r .leave) ≡ off r (chosenFrom off target t (suc (r .leave)))
+  pub ride-off : AsLanded (aim .off) → (r : Ride) → IsRide t r → offAt aim t (r .leave) ≡ aim .off r (chosenFrom aim t (suc (r .leave)))
   unfolding offAt
   ride-off landed r is =
-      sym (ap (λ (x : Ride). off x (chosenFrom off target t (suc (r .leave)))) (is .as-timed)
+      sym (ap (λ (x : Ride). aim .off x (chosenFrom aim t (suc (r .leave)))) (is .as-timed)
       ∙ landed (r .board) (rowOf (t .rows) (r .board)) (rowRide (t .tables) (r .leave) (rowOf (t .rows) (r .leave)))
-      (chosenFrom off target t (suc (r .leave))))
+      (chosenFrom aim t (suc (r .leave))))
 
   -- what getting off after a ride is worth bounds what its boarding row is worth
-  pub ride-at-most : (r : Ride) → IsRide t r → AsLanded off → (w : ℕ) → off r (chosenFrom off target t (suc (r .leave))) ≡ some w
-      → AtMost (bestAt off target t (r .board)) w
+  pub ride-at-most : (r : Ride) → IsRide t r → AsLanded (aim .off) → (w : ℕ) → aim .off r (chosenFrom aim t (suc (r .leave))) ≡ some w
+      → AtMost (bestAt aim t (r .board)) w
   ride-at-most r is landed w e = stay-on (r .board) (r .leave) w (is .onward) (is .inside) (is .one-trip)
       (row-off (r .leave) w (ride-off landed r is ∙ e))

@@ -1,11 +1,12 @@
 -- Document 01, "Expected arrival in ticks": a row's worth, and which rows are chosen, from the last row to the first.
 use Prim.Native.Nat.{ℕ, suc}
-use mathlib.Core.Bool.{Bool, true, cond, not, _&&_, _||_}
+use mathlib.Core.Bool.{Bool, true, cond, not, _&&_}
 use mathlib.Core.List.{List, [], _∷_}
 use mathlib.Core.Option.{Option, none, some}
 use lib.Dec.{eqb, ltb}
 use Rattle.timetable.specs.Timetable.{Timetable, sharesOf}
 use Rattle.timetable.specs.declared.Row.{Row}
+use Rattle.plans.specs.declared.Goal.{Goal}
 use Rattle.plans.specs.Rides.{Ride, latest}
 use Rattle.plans.specs.Journeys.{within}
 use Rattle.plans.specs.Worth.{Valued, firstOpen, arrivalWorth, changeWorth}
@@ -19,9 +20,9 @@ whenSafe none worth = none
 whenSafe (some v) worth = some worth
 
 -- at the target only if a + M is within the bound; elsewhere only if a chosen row departs at or after a + M
-unfoldable pub offInTicks : (target bound : ℕ) → GettingOff
-offInTicks target bound r behind =
-    cond (eqb (r .to) target) (cond (within bound (latest r)) (some (arrivalWorth r)) none)
+unfoldable pub offInTicks : Goal → GettingOff
+offInTicks goal r behind =
+    cond (eqb (r .to) (goal .target)) (cond (within (goal .bound) (latest r)) (some (arrivalWorth r)) none)
     (whenSafe (firstOpen behind (r .to) (latest r)) (changeWorth r behind))
 
 unfoldable pub worthOf : Option Valued → Option ℕ
@@ -32,6 +33,17 @@ worthOf (some v) = some (v .worth)
 unfoldable pub offInMinutes : (target : ℕ) → GettingOff
 offInMinutes target r behind =
     cond (eqb (r .to) target) (some (latest r)) (worthOf (firstOpen behind (r .to) (latest r)))
+
+-- what a scan aims at: what getting off is worth, and the stop where no row is chosen
+pub record Aim : Type 0 where
+  pub off : GettingOff
+  pub target : ℕ
+
+abbrev pub inTicks : Goal → Aim
+inTicks goal = record { off = offInTicks goal; target = goal .target }
+
+abbrev pub inMinutes : (target : ℕ) → Aim
+inMinutes target = record { off = offInMinutes target; target = target }
 
 -- the ride of one row, and a later ride of the trip boarded at this row already
 abbrev pub rowRide : List (List ℕ) → ℕ → Row → Ride
@@ -99,10 +111,10 @@ others r (v ∷ vs) =
     cond (eqb (v .ride .from) (r .from) && eqb (v .ride .departs) (r .departs)) rest (v ∷ rest)
 
 -- No row boarding at the target is chosen
-unfoldable pub choose : ℕ → Option Valued → List Valued → List Valued
-choose target none chosen = chosen
-choose target (some v) chosen =
-    cond (not (eqb (v .ride .from) target) && leads (v .worth) (firstAt chosen (v .ride .from)))
+unfoldable pub choose : Aim → Option Valued → List Valued → List Valued
+choose aim none chosen = chosen
+choose aim (some v) chosen =
+    cond (not (eqb (v .ride .from) (aim .target)) && leads (v .worth) (firstAt chosen (v .ride .from)))
     (v ∷ others (v .ride) chosen) chosen
 
 -- the rows from row i on: each with its best ride, and the rides of the chosen ones
@@ -110,20 +122,20 @@ pub record Scan : Type 0 where
   pub weighed : List Weighed
   pub chosen : List Valued
 
-unfoldable pub bestOf : GettingOff → List (List ℕ) → ℕ → Row → Scan → Option Valued
-bestOf off tables i r later =
-    least (getOff (rowRide tables i r) (off (rowRide tables i r) (later .chosen)))
+unfoldable pub bestOf : Aim → List (List ℕ) → ℕ → Row → Scan → Option Valued
+bestOf aim tables i r later =
+    least (getOff (rowRide tables i r) (aim .off (rowRide tables i r) (later .chosen)))
     (stayOn i r (nextOf (later .weighed) (r .trip)))
 
-unfoldable pub scan : GettingOff → ℕ → List (List ℕ) → ℕ → List Row → Scan
-scan off target tables i [] = record { weighed = []; chosen = [] }
-scan off target tables i (r ∷ rows) =
-    let later = scan off target tables (suc i) rows in
-    let best = bestOf off tables i r later in
+unfoldable pub scan : Aim → List (List ℕ) → ℕ → List Row → Scan
+scan aim tables i [] = record { weighed = []; chosen = [] }
+scan aim tables i (r ∷ rows) =
+    let later = scan aim tables (suc i) rows in
+    let best = bestOf aim tables i r later in
     record {
       weighed = record { trip = r .trip; best = best } ∷ later .weighed;
-      chosen = choose target best (later .chosen);
+      chosen = choose aim best (later .chosen);
     }
 
-unfoldable pub scanned : GettingOff → ℕ → Timetable → Scan
-scanned off target t = scan off target (t .tables) 0 (t .rows)
+unfoldable pub scanned : Aim → Timetable → Scan
+scanned aim t = scan aim (t .tables) 0 (t .rows)

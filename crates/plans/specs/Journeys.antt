@@ -5,6 +5,7 @@ use mathlib.Core.Path.{_≡_}
 use lib.Dec.{T, leb, eqb}
 use Rattle.timetable.specs.Timetable.{Timetable}
 use Rattle.query.specs.declared.Query.{Query}
+use Rattle.plans.specs.declared.Goal.{Goal}
 use Rattle.plans.specs.Rides.{Ride, IsRide, latest, boards}
 
 -- a safe journey that goes on from ride r and whose last ride has a + M = end: the last one leaves at the target;
@@ -31,6 +32,10 @@ pub record IsEarliest (t : Timetable) (q : Query) (e : ℕ) : Type 0 where
 -- Bound code q is 0 (no bound) or counts quarters: T + q(E − T)/4 rounded down; 0 stands for no bound
 abbrev pub boundOf : Query → ℕ → ℕ
 boundOf q e = cond (eqb (q .code) 0) 0 (q .minute + q .code * (e - q .minute) / 4)
+
+-- what a query aims at, within a bound
+abbrev pub goalOf : Query → (bound : ℕ) → Goal
+goalOf q bound = record { target = q .target; bound = bound }
 
 -- a minute is within the bound
 abbrev pub within : ℕ → ℕ → Bool

@@ -1,6 +1,5 @@
 -- Document 01, "Plausible errors to rule out": one timetable for each error, on which the wrong reading would answer otherwise. The edits under
 -- must-fail/ make each reading in turn, and are refused here.
-use Prim.Native.Nat.{ℕ}
 use mathlib.Core.List.{List, [], _∷_}
 use Rattle.timetable.specs.Timetable.{Timetable}
 use Rattle.plans.specs.Examples.{Case, query, planOf, row, onTime, upToTen, timetable, wWith, wTwice, wPlan}

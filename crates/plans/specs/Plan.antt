@@ -1,23 +1,24 @@
 -- Document 01, "Expected arrival in ticks": the plan, its ride count, expected ticks, latest minute and bound.
 use Prim.Native.Nat.{ℕ, max}
-use mathlib.Core.Bool.{Bool, true, false, cond, _&&_, _||_}
+use mathlib.Core.Bool.{Bool, false, cond, _&&_, _||_}
 use mathlib.Core.List.{List, [], _∷_, _++_}
 use mathlib.Core.Option.{Option, none, some}
 use lib.Dec.{leb, eqb}
 use Rattle.timetable.specs.Timetable.{Timetable}
 use Rattle.query.specs.declared.Query.{Query}
+use Rattle.plans.specs.declared.Goal.{Goal}
 use Rattle.plans.specs.Rides.{Ride, latest, boards}
-use Rattle.plans.specs.Journeys.{boundOf}
-use Rattle.plans.specs.Worth.{Valued, firstOpen, worthOr}
-use Rattle.plans.specs.Chosen.{scanned, offInTicks, offInMinutes, worthOf}
+use Rattle.plans.specs.Journeys.{boundOf, goalOf}
+use Rattle.plans.specs.Worth.{Valued, firstOpen}
+use Rattle.plans.specs.Chosen.{scanned, inTicks, inMinutes, worthOf}
 
 -- the earliest safe arrival E, none if there is no safe journey
 unfoldable pub earliest : Timetable → Query → Option ℕ
-earliest t q = worthOf (firstOpen (scanned (offInMinutes (q .target)) (q .target) t .chosen) (q .source) (q .minute))
+earliest t q = worthOf (firstOpen (scanned (inMinutes (q .target)) t .chosen) (q .source) (q .minute))
 
 -- the chosen rows, each with its ride and worth, by boarding row rising
-unfoldable pub chosenFor : Timetable → (target bound : ℕ) → List Valued
-chosenFor t target bound = scanned (offInTicks target bound) target t .chosen
+unfoldable pub chosenFor : Timetable → Goal → List Valued
+chosenFor t goal = scanned (inTicks goal) t .chosen
 
 -- the rides that one who stands at `stop` can catch from `minute` on, up to and including the one that departs at `until`
 pub record Window : Type 0 where
@@ -67,14 +68,14 @@ pub record Plan : Type 0 where
 unfoldable pub planWithin : Timetable → Query → ℕ → Option Valued → Option Plan
 planWithin t q bound none = none
 planWithin t q bound (some first) =
-    let rides = ridesFrom q (chosenFor t (q .target) bound) in
+    let rides = ridesFrom q (chosenFor t (goalOf q bound)) in
     some (record { rides = rides; expected = first .worth; last = latestOf rides; bound = bound })
 
 unfoldable pub planBefore : Timetable → Query → Option ℕ → Option Plan
 planBefore t q none = none
 planBefore t q (some e) =
     let bound = boundOf q e in
-    planWithin t q bound (firstOpen (chosenFor t (q .target) bound) (q .source) (q .minute))
+    planWithin t q bound (firstOpen (chosenFor t (goalOf q bound)) (q .source) (q .minute))
 
 -- the minimum expected arrival plan, none if there is no safe journey
 unfoldable pub planned : Timetable → Query → Option Plan

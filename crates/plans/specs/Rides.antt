@@ -6,7 +6,6 @@ use mathlib.Core.Path.{_≡_}
 use lib.Dec.{leb, eqb}
 use lib.ListN.{length}
 use Rattle.timetable.specs.Timetable.{Timetable, sharesOf, longest, rowOf}
-use Rattle.timetable.specs.declared.Row.{Row}
 
 -- the rows where it boards and leaves; from which stop, when, to which stop, when; the shares of its delays
 pub record Ride : Type 0 where

@@ -1,6 +1,6 @@
 -- Document 01, "Expected arrival in ticks": what a ride is worth, given what the rides behind it are worth.
 use Prim.Native.Nat.{ℕ, suc, pred, _+_, _*_, _/_}
-use mathlib.Core.Bool.{Bool, cond}
+use mathlib.Core.Bool.{cond}
 use mathlib.Core.List.{List, [], _∷_}
 use mathlib.Core.Option.{Option, none, some}
 use lib.Dec.{eqb}

@@ -21,7 +21,7 @@ use Rattle.file_layout.proofs.Refusals.{refused-placed}
 use Rattle.query.specs.declared.Query.{Query}
 use Rattle.plans.specs.Sound.{Timely}
 use Rattle.plans.specs.Rides.{Ride, latest}
-use Rattle.plans.specs.Journeys.{Journey, IsEarliest, boundOf}
+use Rattle.plans.specs.Journeys.{goalOf, Journey, IsEarliest, boundOf}
 use Rattle.plans.specs.Worth.{Valued}
 use Rattle.demands.specs.SafePlan.{SafePlan, Rising, expectedOf}
 use Rattle.demands.specs.Words.{InPlan}
@@ -260,7 +260,7 @@ module _ (file : List ℕ) (q : Query) (work plan : List ℕ) where
           pub safe-plan : SafePlan t q (p .bound) (ridesOf (p .rides)) × Rising (ridesOf (p .rides))
           safe-plan = (demand2.safe-plan t is-timely q p is-plan, demand2.rising t is-timely q p is-plan)
 
-          pub its-rides : (v : Valued) → List·Memᴰ v (p .rides) ↔ InPlan q (chosenFor t (q .target) (p .bound)) v
+          pub its-rides : (v : Valued) → List·Memᴰ v (p .rides) ↔ InPlan q (chosenFor t (goalOf q (p .bound))) v
           its-rides = demand2.its-rides t is-timely q p is-plan
 
           pub latest-minute :

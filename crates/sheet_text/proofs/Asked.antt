@@ -16,6 +16,7 @@ use Rattle.file_layout.specs.Decode.{decode, headOf}
 use Rattle.file_layout.specs.Format.{versionOne}
 use Rattle.file_layout.proofs.Sound.{SoundFile, sound-gives, fine-answered, version-one-readable}
 use Rattle.query.specs.declared.Query.{Query}
+use Rattle.plans.specs.Journeys.{goalOf}
 use Rattle.plans.specs.Sound.{Timely}
 use Rattle.plans.specs.Rides.{IsRide}
 use Rattle.plans.specs.Worth.{Valued}
@@ -122,7 +123,7 @@ module _ (file : List ℕ) (q : Query) (work plan : List ℕ) (sound : fileVerdi
     unfolding t
     are-rides v m =
         let timely = sound-timely file holds in
-        for-ride t timely (q .target) (told .told .bound) v (plan-member t timely q (told .told) (plan-made t q (told .told) (told .is-found)) v m)
+        for-ride t timely (goalOf q (told .told .bound)) v (plan-member t timely q (told .told) (plan-made t q (told .told) (told .is-found)) v m)
 
     pub plan-inside : RidesIn (headOf versionOne file .rows) after rides
     plan-inside =

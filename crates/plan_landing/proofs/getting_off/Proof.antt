@@ -127,7 +127,7 @@ returns c =
     λ shares chosen ready.
     let t = timed-there (c .before .before) in
     let goal = begun t .args .goal in
-    off-late ready (goal .target) (goal .bound) (landing t) (lands t shares chosen ready) (c .before .before .if1 .taken)
+    off-late ready goal (landing t) (lands t shares chosen ready) (c .before .before .if1 .taken)
     (sym (c .before .bounded .ensures) ∙ not-true (c .before .bounded .result) (c .if2 .taken))
 
 mul-cell : tie.Need-mul-cell
@@ -158,7 +158,7 @@ returns-2 c =
     let a = begun t .args in
     let soon = c .before .before .before .before .bounded in
     ap (λ x. x + getD (a .tables .now) (256 * a .row .class + 1) 0) (c .before .cell .ensures)
-    ∙ off-there ready (a .goal .target) (a .goal .bound) (landing t) (lands t shares chosen ready) (there .if1 .taken)
+    ∙ off-there ready (a .goal) (landing t) (lands t shares chosen ready) (there .if1 .taken)
     (sym (soon .ensures) ∙ not-false (soon .result) (c .before .before .before .if2 .left))
 
 add-number-2 : tie.Need-add-number-2
@@ -196,7 +196,7 @@ returns-3 c =
     λ shares chosen ready.
     let t = timed (c .before) in
     let goal = begun t .args .goal in
-    off-unsafe ready (goal .target) (goal .bound) (landing t) (lands t shares chosen ready) (elsewhere (c .before) .if1 .left)
+    off-unsafe ready goal (landing t) (lands t shares chosen ready) (elsewhere (c .before) .if1 .left)
     (none-there ready (landing t) (sym (size-read (c .before)) ∙ c .if3 .taken))
 
 mul-departure-of : tie.Need-mul-departure-of
@@ -217,7 +217,7 @@ returns-4 c =
     let s = stacked (c .before) in
     let t = timed s in
     let goal = begun t .args .goal in
-    off-unsafe ready (goal .target) (goal .bound) (landing t) (lands t shares chosen ready) (elsewhere s .if1 .left)
+    off-unsafe ready goal (landing t) (lands t shares chosen ready) (elsewhere s .if1 .left)
     (all-gone ready (landing t) (some-entry (c .before .before .before .before)) (gone c))
 
 first-open-requires : tie.Need-first-open-requires
@@ -255,7 +255,7 @@ returns-5 c =
     let safe = late (c .before .before) in
     c .changing .ensures (stackStart (a .work .now) (a .row .land)) (opened .place) shares (λ minute. caught chosen (a .row .land) minute)
     (opened .stands) (boarding ready (c .before .first-open .result) opened (landing t) on safe)
-    ∙ off-changing ready (a .goal .target) (a .goal .bound) (landing t) on (elsewhere s .if1 .left)
+    ∙ off-changing ready (a .goal) (landing t) on (elsewhere s .if1 .left)
     (some-entry (c .before .before .before .before .before .before)) safe
 
 pub getting-off-spec : {M : Type 1} → statement M
