@@ -10,10 +10,10 @@ use Rattle.house.specs.House.{cumulative, between}
 use Rattle.plans.specs.Worth.{weigh, firstOpen, worthOr, caught, arrivalWorth, changeWorth}
 use Rattle.plans.specs.Chosen.{whenSafe, offInTicks, worthOf, offInMinutes, nextOf, getOff, stayOn, least, firstAt, leads, others, choose, bestOf, scan, scanned}
 use Rattle.plans.specs.Plan.{earliest, chosenFor, inWindow, wanted, upTo, windowsOf, extract, ridesFrom, latestOf, planWithin, planBefore, planned}
-use Rattle.plans.specs.Examples.{Hold, ridesOf, told}
+use Rattle.plans.specs.Examples.{Hold, toldRides, told}
 use Rattle.cases.specs.Cases.{cases, wBytes, checkOf, numberOf, worthsTo, joinedUp, chosenTo}
 
 pub cases-hold : Hold cases
-unfolding cases cumulative between wBytes checkOf ridesOf told numberOf worthsTo joinedUp chosenTo encode rowsBytes rowBytes tablesBytes tableBytes sharesBytes trailerBytes u16Bytes u32Bytes checked checkedAs fileVerdict headVerdict lengthRule headRule classVerdict classesVerdict joined sectionsJoin rangesOf answered answerOf decode headOf headAt trailerAt rowsFrom rowAt tablesFrom tableAt sharesFrom blockEnd tablesEnd u16At u32At ownRule departureRule lastOfTrip follows tripRule rowVerdict rowsVerdict sum sharesRule planned planBefore earliest weigh firstOpen worthOr caught arrivalWorth changeWorth whenSafe offInTicks worthOf offInMinutes nextOf getOff stayOn least firstAt leads others choose bestOf scan scanned chosenFor inWindow wanted upTo windowsOf extract ridesFrom latestOf planWithin
+unfolding cases cumulative between wBytes checkOf toldRides told numberOf worthsTo joinedUp chosenTo encode rowsBytes rowBytes tablesBytes tableBytes sharesBytes trailerBytes u16Bytes u32Bytes checked checkedAs fileVerdict headVerdict lengthRule headRule classVerdict classesVerdict joined sectionsJoin rangesOf answered answerOf decode headOf headAt trailerAt rowsFrom rowAt tablesFrom tableAt sharesFrom blockEnd tablesEnd u16At u32At ownRule departureRule lastOfTrip follows tripRule rowVerdict rowsVerdict sum sharesRule planned planBefore earliest weigh firstOpen worthOr caught arrivalWorth changeWorth whenSafe offInTicks worthOf offInMinutes nextOf getOff stayOn least firstAt leads others choose bestOf scan scanned chosenFor inWindow wanted upTo windowsOf extract ridesFrom latestOf planWithin
 cases-hold =
-    (refl, (refl, (refl, (refl, (refl, (refl, (refl, (refl, (refl, (refl, (refl, (refl, (refl, (refl, (refl, tt)))))))))))))))
+    (refl, (refl, (refl, (refl, (refl, (refl, (refl, (refl, (refl, (refl, (refl, (refl, (refl, (refl, (refl, (refl, (refl, (refl, (refl, (refl, tt))))))))))))))))))))

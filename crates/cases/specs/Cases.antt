@@ -44,6 +44,12 @@ cases =
     -- W's bytes, and W is sound with S 3, n 4, K 2
     record { answered = wBytes; expected = encode versionOne w }
     ∷ record { answered = checkOf wBytes; expected = 0 ∷ 0 ∷ 3 ∷ 4 ∷ 2 ∷ [] }
+    -- so are the files of cases 3, 4, 9, 10 and 11
+    ∷ record { answered = checkOf (encode versionOne (wWith 640)); expected = 0 ∷ 0 ∷ 3 ∷ 4 ∷ 2 ∷ [] }
+    ∷ record { answered = checkOf (encode versionOne (wWith 639)); expected = 0 ∷ 0 ∷ 3 ∷ 4 ∷ 2 ∷ [] }
+    ∷ record { answered = checkOf (encode versionOne wTwice); expected = 0 ∷ 0 ∷ 3 ∷ 5 ∷ 2 ∷ [] }
+    ∷ record { answered = checkOf (encode versionOne oneTrip); expected = 0 ∷ 0 ∷ 3 ∷ 2 ∷ 2 ∷ [] }
+    ∷ record { answered = checkOf (encode versionOne seldomLate); expected = 0 ∷ 0 ∷ 3 ∷ 1 ∷ 1 ∷ [] }
     -- 1: W's first ride is worth 172,800 ticks; the others on the sheet 168,960 and 176,640
     ∷ record { answered = planOf w (query 0 2 590 0); expected = wPlan 0 }
     -- 2: W's third row is worth 179,200 and is not chosen

@@ -1,29 +1,28 @@
 -- Every ride of the plan is boarded under some delays. Uses all that a sound timetable keeps.
 use Prim.Native.Nat.{ℕ}
 use mathlib.Core.List.{List, List·Memᴰ}
-use mathlib.Core.Option.{Option, none, some}
-use mathlib.Core.Path.{_≡_, refl, sym, ap, subst}
+use mathlib.Core.Option.{some}
+use mathlib.Core.Path.{_≡_, sym, ap, subst}
 use native.Mathlib.Omega.{arith}
-use Rattle.laws.proofs.Options.{absent, same-thing}
 use Rattle.timetable.specs.Timetable.{Timetable}
 use Rattle.query.specs.declared.Query.{Query}
 use Rattle.plans.specs.Rides.{Ride}
-use Rattle.plans.specs.Worth.{Valued, firstOpen}
-use Rattle.plans.specs.Journeys.{goalOf, boundOf}
-use Rattle.plans.specs.Plan.{Plan, Window, upTo, extract, ridesFrom, chosenFor, earliest, latestOf, planWithin, planBefore, planned}
+use Rattle.plans.specs.Worth.{Valued, firstOpen, ridesOf}
+use Rattle.plans.specs.Journeys.{goalOf}
+use Rattle.plans.specs.Plan.{Plan, Window, upTo, extract, ridesFrom, chosenFor}
 use Rattle.plans.specs.Sound.{Timely}
 use Rattle.demands.specs.Walk.{Sailed, start, choices, Boards}
 use Rattle.plans.proofs.Open.{boards-stop, boards-minute, can-board}
 use Rattle.plans.proofs.RideMinutes.{ride-delays}
 use Rattle.plans.proofs.Made.{Made}
-use Rattle.plans.proofs.Extracted.{extract-member}
+use Rattle.plans.proofs.Extracted.{extract-member, window-boards, window-until}
 use Rattle.plans.proofs.PlanRides.{for-ordered, for-ride}
-use Rattle.demands.proofs.PlanIsSafe.{ridesOf, plan-safe, plan-rising}
+use Rattle.demands.proofs.PlanIsSafe.{plan-safe, plan-rising}
 use Rattle.demands.proofs.Choices.{Delayed, delayed-choice, delayed-rides}
 use Rattle.demands.proofs.Forward.{AllTimed, forward-timed}
 use Rattle.demands.proofs.Safe.{safe-forward}
 use Rattle.demands.proofs.Meeting.{Meets, meets-sooner, meets-boards}
-use Rattle.demands.proofs.EveryRide.{SomeShare, Entry, entries, up-to-is, taken-after, window-boards, window-until}
+use Rattle.demands.proofs.EveryRide.{SomeShare, Entry, entries, up-to-is, taken-after}
 
 module _ (t : Timetable) (timely : Timely t) (q : Query) (p : Plan) (made : Made t q p) where
   chosen : List Valued
@@ -85,17 +84,3 @@ module _ (t : Timetable) (timely : Timely t) (q : Query) (p : Plan) (made : Made
 
       delayed : Delayed (ridesOf (p .rides)) (e .sailed)
       delayed = subst (λ (l : List Valued). Delayed (ridesOf l) (e .sailed)) (sym (made .holds)) (e .delayed)
-
--- the plan's latest minute is that of its rides
-pub plan-last : (t : Timetable) (q : Query) (p : Plan) → planned t q ≡ some p → p .last ≡ latestOf (p .rides)
-unfolding planned planBefore planWithin
-plan-last t q p is-planned = before (earliest t q) is-planned
-  where
-    within : (bound : ℕ) (first : Option Valued) → planWithin t q bound first ≡ some p → p .last ≡ latestOf (p .rides)
-    within bound none e = absent e
-    within bound (some first) e = subst (λ (x : Plan). x .last ≡ latestOf (x .rides)) (same-thing e) refl
-
-    before : (end : Option ℕ) → planBefore t q end ≡ some p → p .last ≡ latestOf (p .rides)
-    before none e = absent e
-    before (some end) e =
-        within (boundOf q end) (firstOpen (chosenFor t (goalOf q (boundOf q end))) (q .source) (q .minute)) e

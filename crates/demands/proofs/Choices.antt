@@ -11,6 +11,7 @@ use Rattle.timetable.specs.Classes.{sum, whole}
 use Rattle.plans.specs.Rides.{Ride}
 use Rattle.plans.specs.Worth.{weigh}
 use Rattle.demands.specs.Walk.{Sailed, withDelays, choices, weight}
+use Rattle.plans.proofs.Weighing.{sum-append}
 use Rattle.demands.proofs.Means.{weigh-constant}
 
 -- the rides of a plan, each with one delay from 0 to its M
@@ -101,11 +102,6 @@ on-time [] some-share = ([], none)
 on-time (r ∷ rides) some-share =
     let behind = on-time rides (λ u there. some-share u (List·Memᴰ·tail there)) in
     (late r 0 ∷ behind .0, one refl (some-share r (List·Memᴰ·head refl)) (behind .1))
-
-sum-append : (xs ys : List ℕ) → sum (xs ++ ys) ≡ sum xs + sum ys
-unfolding sum
-sum-append [] ys = omega arith
-sum-append (x ∷ xs) ys = omega (arith, sum-append xs ys)
 
 map-append : (f : List Sailed → ℕ) (xs ys : List (List Sailed)) → map f (xs ++ ys) ≡ map f xs ++ map f ys
 map-append f [] ys = refl

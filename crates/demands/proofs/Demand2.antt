@@ -2,6 +2,7 @@
 use Prim.Native.Nat.{ℕ, _≤_, _<_}
 use mathlib.Core.List.{List, List·Memᴰ}
 use mathlib.Core.Bool.{true}
+use lib.Dec.{T}
 use lib.ListN.{length}
 use mathlib.Core.Logic.{_↔_, _≢_}
 use mathlib.Core.Option.{none, some}
@@ -10,22 +11,26 @@ use Rattle.timetable.specs.Timetable.{Timetable, rowOf}
 use Rattle.plans.specs.declared.Goal.{Goal}
 use Rattle.plans.specs.Sound.{Timely}
 use Rattle.query.specs.declared.Query.{Query}
-use Rattle.plans.specs.Rides.{Ride, latest, opens}
-use Rattle.plans.specs.Journeys.{goalOf, Journey, IsEarliest, boundOf}
-use Rattle.plans.specs.Worth.{Valued, valued, firstOpen}
+use Rattle.plans.specs.Rides.{Ride, IsRide, latest, opens, boards}
+use Rattle.plans.specs.Journeys.{goalOf, Onward, Begins, Journey, IsEarliest, boundOf, within, CodeStands}
+use Rattle.plans.specs.Worth.{Valued, ridesOf, valued, firstOpen, landWorth}
 use Rattle.plans.specs.Plan.{Plan, planned, earliest, chosenFor}
-use Rattle.demands.specs.SafePlan.{SafePlan, Rising, expectedOf}
+use Rattle.demands.specs.SafePlan.{SafePlan, ByBoardingRow, sorted, worthsOf, expectedOf}
 use Rattle.demands.specs.Words.{Chosen, InPlan, HasWorth, bestRide}
 use Rattle.demands.specs.RowWords.{OpenWay, LeastWay, StaysAboard}
 use Rattle.plans.proofs.EarliestSafe.{earliest-is-least, no-earliest}
-use Rattle.demands.proofs.PlanExists.{CodeStands, plan-exists, bound-real}
+use Rattle.demands.proofs.PlanExists.{plan-exists, bound-real}
 use Rattle.demands.proofs.ChosenWords.{chosen-in-words, first-chosen-least}
-use Rattle.demands.proofs.RowWorth.{worth-in-words, no-worth, stays-aboard}
-use Rattle.demands.proofs.PlanIsSafe.{ridesOf, plan-safe, plan-rising, plan-valued, plan-expected, plan-last}
+use Rattle.demands.proofs.RowWorth.{worth-in-words, no-worth, ride-in-words}
+use Rattle.demands.proofs.RowBegins.{row-reaches, row-begins}
+use Rattle.demands.proofs.PlanIsSafe.{ordered-rising, plan-safe, plan-rising, plan-valued, plan-expected, plan-last}
 use Rattle.demands.proofs.PlanSet.{plan-set}
 use Rattle.demands.proofs.Optimal.{expected-stands, plan-least}
-use Rattle.demands.proofs.Sorting.{sorted, safe-sorted}
+use Rattle.demands.proofs.Sorting.{safe-sorted}
+use Rattle.demands.proofs.Safe.{safe-timed}
+use Rattle.demands.proofs.WholePlan.{worth-in-whole, caught-departs}
 use Rattle.plans.proofs.Made.{plan-made}
+use Rattle.plans.proofs.PlanRides.{for-ordered}
 
 module _ (t : Timetable) (timely : Timely t) (goal : Goal) where
   -- a row's worth is the least over getting off and staying on; it has none if none of these is open
@@ -35,20 +40,37 @@ module _ (t : Timetable) (timely : Timely t) (goal : Goal) where
   pub no-row-worth : (i : ℕ) → i < length (t .rows) → (bestRide t goal i ≡ none) ↔ ((w : ℕ) → OpenWay t goal i w → ⊥)
   no-row-worth = no-worth t timely goal
 
-  -- its ride stays aboard while the next row's worth equals the boarded row's
-  pub ride-leaves : (i : ℕ) → i < length (t .rows) → (v : Valued) → bestRide t goal i ≡ some v → StaysAboard t goal v
-  ride-leaves = stays-aboard t timely goal
+  -- it has one exactly if a safe journey within the bound begins there
+  pub worth-exactly :
+      (i : ℕ) → ((w : ℕ) × HasWorth t goal i w)
+      ↔ ((r : Ride) × (r .board ≡ i) × ((end : ℕ) × Onward t (goal .target) r end × T (within (goal .bound) end)))
+  worth-exactly = row-reaches t timely goal
+
+  -- its ride is the ride that boards there and stays aboard while the next row's worth equals the boarded row's
+  pub row-ride :
+      (i : ℕ) (v : Valued) → (bestRide t goal i ≡ some v)
+      ↔ (IsRide t (v .ride) × (v .ride .board ≡ i) × HasWorth t goal i (v .worth) × StaysAboard t goal v)
+  row-ride = ride-in-words t timely goal
 
   -- the chosen rows are those of document 01
   pub chosen-rows :
       (v : Valued) → List·Memᴰ v (chosenFor t goal) ↔ (Chosen t goal (v .ride .board) × (bestRide t goal (v .ride .board) ≡ some v))
   chosen-rows = chosen-in-words t goal timely
 
+  -- by boarding row rising
+  pub chosen-in-order : ByBoardingRow (ridesOf (chosenFor t goal))
+  chosen-in-order = ordered-rising (for-ordered t timely goal)
+
   -- who can board a row finds a first chosen row that is worth no more
   pub first-chosen :
       (i w s m : ℕ) → HasWorth t goal i w → opens (rowOf (t .rows) i .board) (rowOf (t .rows) i .departure) s m ≡ true → s ≢ goal .target
       → (v : Valued) × (firstOpen (chosenFor t goal) s m ≡ some v) × (v .worth ≤ w)
   first-chosen = first-chosen-least t goal timely
+
+-- without a bound, a row has a worth exactly if it begins a safe journey
+pub worth-begins :
+    (t : Timetable) → Timely t → (target i : ℕ) → ((w : ℕ) × HasWorth t (record { target = target; bound = 0 }) i w) ↔ Begins t target i
+worth-begins = row-begins
 
 module _ (t : Timetable) (timely : Timely t) (q : Query) where
   -- the earliest safe arrival E is the least a + M of a last ride, and a safe journey reaches it
@@ -75,7 +97,7 @@ module _ (t : Timetable) (timely : Timely t) (q : Query) where
     pub safe-plan : SafePlan t q (p .bound) (ridesOf (p .rides))
     safe-plan = plan-safe t timely q p (plan-made t q p is-plan)
 
-    pub rising : Rising (ridesOf (p .rides))
+    pub rising : ByBoardingRow (ridesOf (p .rides))
     rising = plan-rising t timely q p (plan-made t q p is-plan)
 
     -- its worths and its expected arrival are those that its own rides give
@@ -95,15 +117,24 @@ module _ (t : Timetable) (timely : Timely t) (q : Query) where
     latest-minute = plan-last t timely q p (plan-made t q p is-plan)
 
     -- no safe plan within the same bound has a smaller expected arrival
-    pub minimum : (rides : List Ride) → SafePlan t q (p .bound) rides → Rising rides → (x : ℕ) → expectedOf q rides ≡ some x → p .expected ≤ x
+    pub minimum : (rides : List Ride) → SafePlan t q (p .bound) rides → (x : ℕ) → expectedOf q rides ≡ some x → p .expected ≤ x
     minimum = plan-least t timely q p (plan-made t q p is-plan)
 
-  -- every safe plan has an expected arrival
-  pub has-expected : (bound : ℕ) (rides : List Ride) → SafePlan t q bound rides → (x : ℕ) × (expectedOf q rides ≡ some x)
-  has-expected = expected-stands t timely q
+  module _ (bound : ℕ) (rides : List Ride) (safe : SafePlan t q bound rides) where
+    -- a set of rides in any order is a list by boarding row rising
+    pub any-order : SafePlan t q bound (sorted rides) × ByBoardingRow (sorted rides) × ((r : Ride) → List·Memᴰ r (sorted rides) ↔ List·Memᴰ r rides)
+    any-order = safe-sorted t q bound rides safe
 
-  -- a set of rides in any order is such a list by boarding row rising
-  pub any-order :
-      (bound : ℕ) (rides : List Ride) → SafePlan t q bound rides
-      → SafePlan t q bound (sorted rides) × Rising (sorted rides) × ((r : Ride) → List·Memᴰ r (sorted rides) ↔ List·Memᴰ r rides)
-  any-order = safe-sorted t q
+    -- every safe plan has an expected arrival
+    pub has-expected : (x : ℕ) × (expectedOf q rides ≡ some x)
+    has-expected = expected-stands t timely q bound rides safe
+
+    -- each ride of it is worth what the rides caught after it give, whichever of the plan's rides these are
+    pub worth-in-plan : (v : Valued) → List·Memᴰ v (worthsOf q rides) → v .worth ≡ landWorth (q .target) (v .ride) (worthsOf q rides)
+    worth-in-plan = worth-in-whole (q .target) (sorted rides) (safe-timed timely q bound rides safe)
+
+    -- and the ride caught is the first to depart of those that can be
+    pub caught-first :
+        (s m : ℕ) (v u : Valued) → firstOpen (worthsOf q rides) s m ≡ some v → List·Memᴰ u (worthsOf q rides) → boards (u .ride) s m ≡ true
+        → v .ride .departs ≤ u .ride .departs
+    caught-first = caught-departs (q .target) (sorted rides) (safe-timed timely q bound rides safe)

@@ -1,46 +1,62 @@
 -- Demand 3, for every safe plan with its own worths and for the plan that demand 2 fixes. Uses all that a sound timetable keeps.
-use Prim.Native.Nat.{ℕ, _^_}
+use Prim.Native.Nat.{ℕ, _^_, _≤_}
+use native.Mathlib.Omega.{arith}
 use mathlib.Core.List.{List, map, List·Memᴰ}
 use mathlib.Core.Option.{some}
-use mathlib.Core.Path.{_≡_, refl, sym, subst}
+use mathlib.Core.Path.{_≡_, refl, sym, subst, _∙_}
 use lib.ListN.{length}
 use Rattle.timetable.specs.Timetable.{Timetable}
 use Rattle.timetable.specs.Classes.{sum, whole}
 use Rattle.query.specs.declared.Query.{Query}
 use Rattle.plans.specs.Rides.{Ride}
-use Rattle.plans.specs.Worth.{Valued, valued}
+use Rattle.plans.specs.Worth.{Valued, ridesOf}
 use Rattle.plans.specs.Plan.{Plan, latestOf, planned}
-use Rattle.demands.specs.SafePlan.{SafePlan, Rising, expectedOf}
+use Rattle.demands.specs.SafePlan.{SafePlan, ByBoardingRow, sorted, worthsOf, expectedOf}
 use Rattle.plans.specs.Sound.{Timely}
-use Rattle.demands.specs.Walk.{Sailed, start, choices, weight, Boards}
+use Rattle.demands.specs.Walk.{Sailed, start, walked, choices, weight, longestWay, Boards}
 use Rattle.demands.specs.Passenger.{Carries}
-use Rattle.plans.proofs.RideMinutes.{ride-shares}
+use Rattle.plans.proofs.RideMinutes.{ride-shares, ride-delays}
 use Rattle.plans.proofs.Made.{plan-made}
-use Rattle.demands.proofs.PlanIsSafe.{ridesOf, plan-safe, plan-rising, plan-expected}
-use Rattle.demands.proofs.Choices.{choice-delayed, weights-total}
-use Rattle.demands.proofs.Walked.{finds-ride, walk-reaches, walk-in-time, walk-count, valued-rides, plan-expects, sandwich-below, sandwich-above}
-use Rattle.demands.proofs.Boarded.{plan-boards, plan-last}
+use Rattle.demands.proofs.PlanIsSafe.{plan-safe, plan-rising, plan-expected}
+use Rattle.demands.proofs.Choices.{choice-delayed, delayed-choice, on-time, weights-total}
+use Rattle.demands.proofs.Largest.{none-larger, one-largest}
+use Rattle.demands.proofs.Walked.{finds-ride, walk-reaches, walk-in-time, walk-count, valued-rides, sandwich-below, sandwich-above}
+use Rattle.demands.proofs.Sorting.{safe-sorted, expected-sorted}
+use Rattle.demands.proofs.Boarded.{plan-boards}
 
 module _ {t : Timetable} (timely : Timely t) (q : Query) where
-  module _ (bound : ℕ) (rides : List Ride) (safe : SafePlan t q bound rides) (rising : Rising rides) where
-    -- with these rides and whatever worths beside them
-    rides-carry : (vs : List Valued) → ridesOf vs ≡ rides → (x : ℕ) → expectedOf q rides ≡ some x → Carries q rides (latestOf vs) x
-    rides-carry vs same x e =
-        record {
-          ride-there = λ sailed choice. finds-ride q bound rides safe sailed (choice-delayed rides sailed choice);
-          reached = λ sailed choice. walk-reaches timely q bound rides safe rising sailed (choice-delayed rides sailed choice);
-          in-time = λ sailed choice. walk-in-time timely q bound rides safe rising vs same sailed (choice-delayed rides sailed choice);
-          no-more-rides = λ sailed choice. walk-count timely q bound rides safe rising sailed (choice-delayed rides sailed choice);
-          mean-not-later = sandwich-below timely q bound rides safe rising x e;
-          mean-close = sandwich-above timely q bound rides safe rising x e;
-        }
+  -- with these rides and whatever worths beside them
+  rides-carry :
+      (bound : ℕ) (rides : List Ride) → SafePlan t q bound rides → ByBoardingRow rides → (vs : List Valued) → ridesOf vs ≡ rides → (x : ℕ)
+      → expectedOf q rides ≡ some x → Carries q rides (latestOf vs) x
+  rides-carry bound rides safe rising vs same x e =
+      record {
+        ride-there = λ sailed choice. finds-ride q bound rides safe sailed (choice-delayed rides sailed choice);
+        reached = λ sailed choice. walk-reaches timely q bound rides safe rising sailed (choice-delayed rides sailed choice);
+        in-time = λ sailed choice. walk-in-time timely q bound rides safe rising vs same sailed (choice-delayed rides sailed choice);
+        no-more-rides = λ sailed choice. walk-count timely q bound rides safe rising sailed (choice-delayed rides sailed choice);
+        mean-not-later = sandwich-below timely q bound rides safe rising x e;
+        mean-close = sandwich-above timely q bound rides safe rising x e;
+      }
 
-    -- every safe plan has an expected arrival, and carries its passengers
-    pub safe-plan-expects : (x : ℕ) × (expectedOf q rides ≡ some x)
-    safe-plan-expects = plan-expects q bound rides safe
+  module _ (bound : ℕ) (rides : List Ride) (safe : SafePlan t q bound rides) where
+    -- every safe plan, its rides taken by boarding row, carries its passengers
+    pub safe-plan-carries : (x : ℕ) → expectedOf q rides ≡ some x → Carries q (sorted rides) (latestOf (worthsOf q rides)) x
+    safe-plan-carries x e =
+        let in-order = safe-sorted t q bound rides safe in
+        rides-carry bound (sorted rides) (in-order .0) (in-order .1) (worthsOf q rides) (valued-rides (q .target) (sorted rides)) x
+        (expected-sorted q rides ∙ e)
 
-    pub safe-plan-carries : (x : ℕ) → expectedOf q rides ≡ some x → Carries q rides (latestOf (valued (q .target) rides)) x
-    safe-plan-carries = rides-carry (valued (q .target) rides) (valued-rides (q .target) rides)
+    -- L: no choice boards more rides, and one boards as many
+    pub none-longer : (sailed : List Sailed) → List·Memᴰ sailed (choices rides) → walked q sailed .boarded ≤ longestWay q rides
+    unfolding longestWay
+    none-longer = none-larger (λ sailed. walked q sailed .boarded) (choices rides)
+
+    pub longest-boarded : (sailed : List Sailed) × List·Memᴰ sailed (choices rides) × (walked q sailed .boarded ≡ longestWay q rides)
+    unfolding longestWay
+    longest-boarded =
+        let nobody-late = on-time rides (λ r among. omega (arith, ride-delays t timely r (safe .are-rides r among))) in
+        one-largest (λ sailed. walked q sailed .boarded) (choices rides) (nobody-late .0) (delayed-choice (nobody-late .1))
 
     -- the weights of all choices make up the whole
     pub all-weights : sum (map weight (choices rides)) ≡ whole ^ length rides
@@ -51,7 +67,7 @@ module _ {t : Timetable} (timely : Timely t) (q : Query) where
     pub plan-carries : Carries q (ridesOf (p .rides)) (p .last) (p .expected)
     plan-carries =
         let made = plan-made t q p is-planned in
-        subst (λ (last : ℕ). Carries q (ridesOf (p .rides)) last (p .expected)) (sym (plan-last t q p is-planned))
+        subst (λ (last : ℕ). Carries q (ridesOf (p .rides)) last (p .expected)) (sym (made .ends))
         (rides-carry (p .bound) (ridesOf (p .rides)) (plan-safe t timely q p made) (plan-rising t timely q p made) (p .rides) refl
         (p .expected) (plan-expected t timely q p made))
 

@@ -8,21 +8,19 @@ use mathlib.Core.Path.{_≡_, refl, sym, _∙_, ap, subst}
 use native.Mathlib.Nat.{le-refl}
 use native.Mathlib.Decide.{decLe}
 use native.Mathlib.Omega.{arith}
-use borrow.Author.Tests.{leb-true}
-use lib.Dec.{eqb, leb}
+use lib.Dec.{eqb}
 use lib.ListN.{length}
-use Rattle.laws.proofs.Tests.{ifb, either, both-left, both-right}
+use Rattle.laws.proofs.Tests.{ifb, either}
 use Rattle.laws.proofs.Options.{same-thing}
 use Rattle.laws.proofs.Members.{head-or-later}
 use Rattle.timetable.specs.Timetable.{longest}
 use Rattle.plans.specs.Rides.{Ride, latest, boards}
-use Rattle.plans.specs.Worth.{Valued, firstOpen}
+use Rattle.plans.specs.Worth.{Valued, firstOpen, ridesOf}
 use Rattle.plans.specs.Plan.{Window, inWindow, wanted, upTo, windowsOf, extract}
 use Rattle.demands.specs.Walk.{Sailed}
 use Rattle.plans.proofs.Open.{boards-stop, boards-minute, can-board}
 use Rattle.plans.proofs.Order.{Ordered, ahead, Before, first-before}
-use Rattle.plans.proofs.Extracted.{extract-member}
-use Rattle.demands.proofs.PlanIsSafe.{ridesOf}
+use Rattle.plans.proofs.Extracted.{extract-member, window-boards, window-until}
 use Rattle.demands.proofs.Choices.{Delayed, late, on-time, delayed-rides}
 use Rattle.demands.proofs.Meeting.{Meets, here, lands, passes, meets-sooner}
 
@@ -132,14 +130,6 @@ pub record Entry (ws : List Window) (chosen taken : List Valued) (r : Ride) : Ty
   pub sailed : List Sailed
   pub delayed : Delayed (ridesOf taken) sailed
   pub meets : Meets r sailed (window .stop) (first .ride .departs)
-
-pub window-boards : (w : Window) (r : Ride) → inWindow w r ≡ true → boards r (w .stop) (w .minute) ≡ true
-unfolding inWindow
-window-boards w r e = both-left (boards r (w .stop) (w .minute)) (leb (r .departs) (w .until)) e
-
-pub window-until : (w : Window) (r : Ride) → inWindow w r ≡ true → r .departs ≤ w .until
-unfolding inWindow
-window-until w r e = leb-true (r .departs) (w .until) (both-right (boards r (w .stop) (w .minute)) (leb (r .departs) (w .until)) e)
 
 -- the ride itself can be boarded when it departs
 window-departs : (w : Window) (r : Ride) → inWindow w r ≡ true → boards r (w .stop) (r .departs) ≡ true

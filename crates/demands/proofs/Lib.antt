@@ -12,12 +12,15 @@ pub mod Meeting
 pub mod Optimal
 pub mod PlanSet
 pub mod Reached
+pub mod RowBegins
 pub mod RowNumbers
 pub mod RowWorth
 pub mod Safe
 pub mod Sandwich
+pub mod SmallPlan
 pub mod Sorting
 pub mod Walked
+pub mod WholePlan
 pub mod PlanExists
 pub mod PlanIsSafe
-pub mod LastMinute
+pub mod Largest

@@ -1,5 +1,5 @@
 -- No safe plan is worth less than the plan. Uses all that a sound timetable keeps.
-use Prim.Native.Nat.{ℕ, suc, zero-le, _≤_, _<_}
+use Prim.Native.Nat.{ℕ, suc, zero-le, _≤_}
 use native.Mathlib.Nat.{le-refl}
 use native.Mathlib.Omega.{arith}
 use mathlib.Core.Bool.{true, cond}
@@ -20,8 +20,7 @@ use Rattle.plans.specs.Journeys.{goalOf, within}
 use Rattle.plans.specs.Worth.{Valued, firstOpen, caught, worthOr, valued, landWorth, arrivalWorth, changeWorth}
 use Rattle.plans.specs.Chosen.{Aim, inTicks, worthOf}
 use Rattle.plans.specs.Plan.{Plan}
-use Rattle.demands.specs.SafePlan.{SafePlan, Rising, expectedOf}
-use Rattle.demands.specs.SafePlan as safe
+use Rattle.demands.specs.SafePlan.{SafePlan, sorted, worthsOf, expectedOf}
 use Rattle.plans.proofs.Open.{boards-stop, boards-minute, boards-earlier, found-member, found-boards, finds}
 use Rattle.plans.proofs.AtMost.{AtMost, raised, found-at-most, worth-at-most}
 use Rattle.plans.proofs.FromRow.{chosenFrom, bestAt}
@@ -31,14 +30,9 @@ use Rattle.plans.proofs.InTicks.{bestInTicks, ticks-landed, ticks-at-target, ti
 use Rattle.plans.proofs.Weighing.{change-less}
 use Rattle.plans.proofs.EarliestSafe.{worth-is, worth-of}
 use Rattle.plans.proofs.Made.{Made, chosen-for}
-
--- a safe plan as a chain: what follows a ride stands later in the list
-pub data Chain (t : Timetable) (goal : Goal) : List Ride → Type 0 where
-  over : Chain t goal []
-  link :
-      {r : Ride} {rides : List Ride} → IsRide t r → r .from ≢ goal .target → within (goal .bound) (latest r) ≡ true
-      → (r .to ≢ goal .target → (next : Ride) × List·Memᴰ next rides × (boards next (r .to) (latest r) ≡ true)) → Chain t goal rides
-      → Chain t goal (r ∷ rides)
+use Rattle.demands.proofs.Forward.{Forward, Served, over, onward}
+use Rattle.demands.proofs.Sorting.{safe-sorted}
+use Rattle.demands.proofs.Safe.{safe-forward}
 
 -- each ride of a list is valued, and nothing else
 pub valued-ride : (target : ℕ) (rides : List Ride) {v : Valued} → List·Memᴰ v (valued target rides) → List·Memᴰ (v .ride) rides
@@ -65,42 +59,8 @@ unfolding caught worthOr
 caught-is vs s m v e = ap (worthOr 0) e
 
 module _ (t : Timetable) (timely : Timely t) where
-  module _ (q : Query) (bound : ℕ) (whole : List Ride) (plan : SafePlan t q bound whole) where
-    -- a safe plan by boarding row rising is a chain
-    chain-from :
-        (rides : List Ride) → Rising rides → ((x : Ride) → List·Memᴰ x rides → List·Memᴰ x whole)
-        → ((x r : Ride) → List·Memᴰ x whole → List·Memᴰ r rides → r .board < x .board → List·Memᴰ x rides) → Chain t (goalOf q bound) rides
-    chain-from [] rising sub closed = over
-    chain-from (r ∷ rides) (safe.one before rising) sub closed =
-        let here = sub r (List·Memᴰ·head refl) in
-        link (plan .are-rides r here) (plan .none-at-target r here) (T-true (plan .each-within r here))
-        (λ away. let next = plan .goes-on r here away in
-        let b = T-true (next .2) in
-        let is = plan .are-rides r here in
-        let is' = plan .are-rides (next .0) (next .1) in
-        let late : latest r ≤ next .0 .departs = boards-minute (next .0) (r .to) (latest r) b in
-        let behind : r .leave < next .0 .board = boards-behind t timely r (next .0) is is'
-        (let z : r .arrives ≤ next .0 .departs = omega arith in z) in
-        let later : r .board < next .0 .board = omega (arith, is .onward) in (
-          next .0,
-          head-or-later (List·Memᴰ (next .0) rides) (closed (next .0) r (next .1) (List·Memᴰ·head refl) later)
-              (λ e. absurd (let same : next .0 .board ≡ r .board = ap (λ (x : Ride). x .board) e in let z : ⊥ = omega arith in z)) (λ n. n),
-          b,
-        ))
-        (chain-from rides rising (λ x m. sub x (List·Memᴰ·tail m))
-        (λ x k m n h. head-or-later (List·Memᴰ x rides) (closed x k m (List·Memᴰ·tail n) h)
-        (λ e. absurd (let same : x .board ≡ r .board = ap (λ (y : Ride). y .board) e in let z : ⊥ = omega (arith, before k n) in z)) (λ l. l)))
-
-    pub safe-chain : Rising whole → Chain t (goalOf q bound) whole
-    safe-chain rising = chain-from whole rising (λ x m. m) (λ x r m n h. m)
-
   module _ (goal : Goal) where
-    pub chain-ride : {rides : List Ride} → Chain t goal rides → (r : Ride) → List·Memᴰ r rides → IsRide t r
-    chain-ride over r m = absurd (List·Memᴰ·not-nil m)
-    chain-ride (link is away b on chain) r m = head-or-later (IsRide t r) m (λ e. subst (λ (x : Ride). IsRide t x) (sym e) is)
-        (λ n. chain-ride chain r n)
-
-    -- the boarding row of a ride that goes on in a chain is worth no more than the ride
+    -- the boarding row of a ride that goes on among the rides behind it is worth no more than the ride
     change-bounds :
         (r : Ride) (rides : List Ride) → IsRide t r → r .to ≢ goal .target → ((x : Ride) → List·Memᴰ x rides → IsRide t x)
         → ((v : Valued) → List·Memᴰ v (valued (goal .target) rides) → AtMost (bestInTicks t goal (v .ride .board)) (v .worth))
@@ -162,42 +122,52 @@ module _ (t : Timetable) (timely : Timely t) where
         best : Option Valued
         best = bestInTicks t goal (r .board)
 
-    -- each ride of a chain: its boarding row is worth no more
-    pub chain-bounds :
-        {rides : List Ride} → Chain t goal rides → (v : Valued) → List·Memᴰ v (valued (goal .target) rides)
-        → AtMost (bestInTicks t goal (v .ride .board)) (v .worth)
+    -- each ride of a plan that goes forward: its boarding row is worth no more
+    pub forward-bounds :
+        {rides : List Ride} → Forward (goal .target) rides → ((r : Ride) → List·Memᴰ r rides → IsRide t r × (within (goal .bound) (latest r) ≡ true))
+        → (v : Valued) → List·Memᴰ v (valued (goal .target) rides) → AtMost (bestInTicks t goal (v .ride .board)) (v .worth)
     unfolding valued
-    chain-bounds over v m = absurd (List·Memᴰ·not-nil m)
-    chain-bounds (link {r} {rides} is from b on chain) v m =
+    forward-bounds Forward.none are v m = absurd (List·Memᴰ·not-nil m)
+    forward-bounds (Forward.one {r} {behind = rides} timed goes-on rest) are v m =
+        let here = are r (List·Memᴰ·head refl) in
+        let further : (x : Ride) → List·Memᴰ x rides → IsRide t x × (within (goal .bound) (latest x) ≡ true) = λ x n. are x (List·Memᴰ·tail n) in
         head-or-later (AtMost (bestInTicks t goal (v .ride .board)) (v .worth)) m
         (λ e. subst (λ (x : Valued). AtMost (bestInTicks t goal (x .ride .board)) (x .worth)) (sym e)
-        (link-bounds r rides is b on (chain-ride chain) (chain-bounds chain))) (λ n. chain-bounds chain v n)
+        (link-bounds r rides (here .0) (here .1) (boarded-next goes-on) (λ x n. further x n .0) (forward-bounds rest further)))
+        (λ n. forward-bounds rest further v n)
+      where
+        boarded-next : Served (goal .target) rides (r .to) (latest r) → r .to ≢ goal .target
+            → (next : Ride) × List·Memᴰ next rides × (boards next (r .to) (latest r) ≡ true)
+        boarded-next (over there) away = absurd (away there)
+        boarded-next (onward next among opens) away = (next, among, T-true opens)
 
   -- every safe plan has an expected arrival, and none is below the plan's
   pub expected-stands : (q : Query) (bound : ℕ) (rides : List Ride) → SafePlan t q bound rides → (x : ℕ) × (expectedOf q rides ≡ some x)
   unfolding expectedOf
   expected-stands q bound rides plan =
-      let begins = plan .begins in
-      let v = ride-valued (q .target) rides (begins .1) in
-      let first = finds (valued (q .target) rides) (q .source) (q .minute) (v .1)
+      let begins = safe-sorted t q bound rides plan .0 .begins in
+      let v = ride-valued (q .target) (sorted rides) (begins .1) in
+      let first = finds (worthsOf q rides) (q .source) (q .minute) (v .1)
       (subst (λ (r : Ride). boards r (q .source) (q .minute) ≡ true) (sym (v .2)) (T-true (begins .2))) in
       (first .0 .worth, ap worthOf (first .1) ∙ worth-of (first .0))
 
   pub plan-least :
-      (q : Query) (p : Plan) → Made t q p → (rides : List Ride) → SafePlan t q (p .bound) rides → Rising rides → (x : ℕ) → expectedOf q rides ≡ some x
+      (q : Query) (p : Plan) → Made t q p → (rides : List Ride) → SafePlan t q (p .bound) rides → (x : ℕ) → expectedOf q rides ≡ some x
       → p .expected ≤ x
   unfolding expectedOf
-  plan-least q p made rides plan rising x e =
-      let first = worth-is (firstOpen (valued (q .target) rides) (q .source) (q .minute)) e in
+  plan-least q p made rides set x e =
+      let in-order = safe-sorted t q (p .bound) rides set in
+      let plan = in-order .0 in
+      let first = worth-is (firstOpen (worthsOf q rides) (q .source) (q .minute)) e in
       let v = first .0 in
-      let there = found-member (valued (q .target) rides) (q .source) (q .minute) (first .1) in
-      let opens = found-boards (valued (q .target) rides) (q .source) (q .minute) (first .1) in
-      let ride = valued-ride (q .target) rides there in
-      let chain = safe-chain q (p .bound) rides plan rising in
+      let there = found-member (worthsOf q rides) (q .source) (q .minute) (first .1) in
+      let opens = found-boards (worthsOf q rides) (q .source) (q .minute) (first .1) in
+      let ride = valued-ride (q .target) (sorted rides) there in
+      let forward = safe-forward timely q (p .bound) (sorted rides) plan (in-order .1) in
       let least = ride-first t timely (inTicks (goalOf q (p .bound))) 0 (v .ride) (plan .are-rides (v .ride) ride) zero-le (q .source)
       (q .minute) (v .worth) opens
       (λ same. plan .none-at-target (v .ride) ride (boards-stop (v .ride) (q .source) (q .minute) opens ∙ same))
-      (chain-bounds (goalOf q (p .bound)) chain v there) in
+      (forward-bounds (goalOf q (p .bound)) forward (λ r n. (plan .are-rides r n, T-true (plan .each-within r n))) v there) in
       let ours : made .first .worth ≤ v .worth = worth-at-most least (made .first)
       (sym (ap (λ (l : List Valued). firstOpen l (q .source) (q .minute)) (chosen-for t (goalOf q (p .bound)))) ∙ made .begins) in
       omega (arith, made .worth, first .2)

@@ -4,7 +4,7 @@ use native.Mathlib.Nat.{mul-le-mul-right, le-div-iff-mul-le, lt-of-lt-of-le}
 use native.Mathlib.Omega.{arith}
 use mathlib.Core.Bool.{true, false, cond, _||_}
 use mathlib.Core.List.{List}
-use mathlib.Core.Logic.{_⊎_, inl, inr, _≢_, _↔_}
+use mathlib.Core.Logic.{inl, inr, _≢_, _↔_}
 use mathlib.Core.Option.{none, some}
 use mathlib.Core.Path.{_≡_, refl, sym, ap, subst, _∙_}
 use lib.Dec.{eqb, leb}
@@ -17,7 +17,7 @@ use Rattle.plans.specs.declared.Goal.{Goal}
 use Rattle.plans.specs.Sound.{Timely}
 use Rattle.query.specs.declared.Query.{Query}
 use Rattle.plans.specs.Rides.{Ride, IsRide, latest, boards}
-use Rattle.plans.specs.Journeys.{goalOf, Onward, leaves, changes, Journey, boundOf, within}
+use Rattle.plans.specs.Journeys.{goalOf, Onward, leaves, changes, Journey, boundOf, within, CodeStands}
 use Rattle.plans.specs.Worth.{Valued, firstOpen, arrivalWorth, changeWorth}
 use Rattle.plans.specs.Chosen.{inTicks}
 use Rattle.plans.specs.Plan.{planned, earliest, chosenFor}
@@ -29,10 +29,6 @@ use Rattle.plans.proofs.RideMinutes.{boards-behind, ride-first}
 use Rattle.plans.proofs.EarliestSafe.{onward-ride, onward-after, journey-after, earliest-is-least, no-earliest}
 use Rattle.plans.proofs.InTicks.{bestInTicks, within-earlier, ticks-landed, ticks-at-target, ticks-elsewhere}
 use Rattle.plans.proofs.Made.{chosen-for, no-plan, no-plan-without}
-
--- Bound code q is 0 (no bound) or 4 to 16 (quarters)
-abbrev pub CodeStands : ℕ → Type 0
-CodeStands code = (code ≡ 0) ⊎ (4 ≤ code)
 
 -- a bound of four quarters or more does not lie before E
 pub bound-after : (q : Query) (e : ℕ) → q .minute ≤ e → 4 ≤ q .code → e ≤ boundOf q e

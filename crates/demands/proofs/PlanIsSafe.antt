@@ -2,7 +2,7 @@
 use Prim.Native.Nat.{ℕ, _≤_, _<_}
 use native.Mathlib.Omega.{arith}
 use mathlib.Core.Bool.{true}
-use mathlib.Core.List.{List, _∷_, map, List·Memᴰ, List·Memᴰ·tail, List·Memᴰ·not-nil}
+use mathlib.Core.List.{List, _∷_, List·Memᴰ, List·Memᴰ·tail, List·Memᴰ·not-nil}
 use mathlib.Core.Logic.{_≢_}
 use mathlib.Core.Option.{some}
 use mathlib.Core.Path.{_≡_, sym, ap, subst, _∙_}
@@ -13,27 +13,24 @@ use Rattle.plans.specs.Sound.{Timely}
 use Rattle.query.specs.declared.Query.{Query}
 use Rattle.plans.specs.Rides.{Ride, IsRide, latest, boards}
 use Rattle.plans.specs.Journeys.{goalOf, within}
-use Rattle.plans.specs.Worth.{Valued, firstOpen, valued}
+use Rattle.plans.specs.Worth.{Valued, ridesOf, firstOpen, valued}
 use Rattle.plans.specs.Chosen.{worthOf}
 use Rattle.plans.specs.Plan.{Plan}
-use Rattle.demands.specs.SafePlan.{SafePlan, Rising, expectedOf}
-use Rattle.demands.specs.SafePlan as safe
+use Rattle.demands.specs.SafePlan.{SafePlan, ByBoardingRow, no-rides, before-all, expectedOf}
 use Rattle.plans.proofs.Open.{found-member, found-boards}
 use Rattle.plans.proofs.Order.{Ordered, nobody, ahead, members-apart}
 use Rattle.plans.proofs.OwnWorth.{OwnWorth, own-valued}
 use Rattle.plans.proofs.OwnWorth as own
 use Rattle.plans.proofs.EarliestSafe.{worth-of}
-use Rattle.demands.proofs.LastMinute.{lands-by, lands-last}
+use Rattle.demands.proofs.Sorting.{sorted-same}
+use Rattle.demands.proofs.Largest.{lands-by, lands-last}
 use Rattle.plans.proofs.Made.{Made}
 use Rattle.plans.proofs.PlanRides.{for-picked, for-ride, for-within, plan-member, plan-ordered, plan-own, plan-first}
 
-abbrev pub ridesOf : List Valued → List Ride
-ridesOf vs = map (λ (v : Valued). v .ride) vs
-
-pub ordered-rising : {vs : List Valued} → Ordered vs → Rising (ridesOf vs)
-ordered-rising nobody = safe.none
+pub ordered-rising : {vs : List Valued} → Ordered vs → ByBoardingRow (ridesOf vs)
+ordered-rising nobody = no-rides
 ordered-rising (ahead {v} {vs} before o) =
-    safe.one (λ next m. let found = mapped-from (λ (u : Valued). u .ride) vs m in
+    before-all (λ next m. let found = mapped-from (λ (u : Valued). u .ride) vs m in
     subst (λ (r : Ride). v .ride .board < r .board) (sym (found .2)) (before (found .0) (found .1) .rows)) (ordered-rising o)
 
 -- after each ride not ending at the target, one boards at its landing stop at or after a + M
@@ -54,7 +51,7 @@ own-goes-on target (own.ahead {v = u} {vs = us} moves worth on rest) v m away =
     Next = (next : Valued) × List·Memᴰ next (u ∷ us) × (boards (next .ride) (v .ride .to) (latest (v .ride)) ≡ true)
 
 module _ (t : Timetable) (timely : Timely t) (q : Query) (p : Plan) (made : Made t q p) where
-  pub plan-rising : Rising (ridesOf (p .rides))
+  pub plan-rising : ByBoardingRow (ridesOf (p .rides))
   plan-rising = ordered-rising (plan-ordered t timely q p made)
 
   -- its worths are those that its own rides give
@@ -64,7 +61,8 @@ module _ (t : Timetable) (timely : Timely t) (q : Query) (p : Plan) (made : Made
   pub plan-expected : expectedOf q (ridesOf (p .rides)) ≡ some (p .expected)
   unfolding expectedOf
   plan-expected =
-      ap (λ (l : List Valued). worthOf (firstOpen l (q .source) (q .minute))) plan-valued
+      ap (λ (l : List Ride). worthOf (firstOpen (valued (q .target) l) (q .source) (q .minute))) (sorted-same plan-rising)
+      ∙ ap (λ (l : List Valued). worthOf (firstOpen l (q .source) (q .minute))) plan-valued
       ∙ ap worthOf (plan-first t timely q p made) ∙ worth-of (made .first) ∙ ap some (sym (made .worth))
 
   -- its latest minute is the largest a + M of its rides

@@ -1,18 +1,16 @@
 -- Whatever the delays, a ride is always there until the target is reached, by the latest minute. Assumes nothing.
-use Prim.Native.Nat.{ℕ, zero, suc, _+_, _≤_, _<_, max}
+use Prim.Native.Nat.{ℕ, zero, suc, _+_, _≤_, _<_}
 use mathlib.Core.Bool.{true, cond, false≢true}
 use mathlib.Core.List.{List, [], _∷_, List·Memᴰ, List·Memᴰ·head, List·Memᴰ·tail, List·Memᴰ·not-nil, Memᴰ·map}
 use mathlib.Core.Logic.{_≢_}
 use mathlib.Core.Option.{Option, none, some}
-use mathlib.Core.Path.{_≡_, refl, sym, _∙_, ap, subst}
-use native.Mathlib.Nat.{le-trans, le-max-left, le-max-right}
+use mathlib.Core.Path.{_≡_, refl, sym, _∙_, ap}
+use native.Mathlib.Nat.{le-trans}
 use native.Mathlib.Omega.{arith}
 use lib.Dec.{eqb}
 use lib.ListN.{length}
 use Rattle.laws.proofs.Tests.{ifb, T-true}
 use Rattle.plans.specs.Rides.{Ride, boards, latest}
-use Rattle.plans.specs.Worth.{Valued}
-use Rattle.plans.specs.Plan.{latestOf}
 use Rattle.demands.specs.Walk.{Sailed, Standing, firstSailed, landed, step, steps}
 use Rattle.demands.proofs.Forward.{Served, over, onward, Forward, served-sooner, served-behind, delay-latest}
 use Rattle.demands.proofs.Course.{ridesSailed, course, found-sailed, steps-keep}
@@ -108,12 +106,3 @@ steps-count target sailed (suc k) at =
     one-more =
         ifb (λ b. cond b at (landed at (firstSailed sailed (at .stop) (at .minute))) .boarded ≤ suc (at .boarded))
         (eqb (at .stop) target) (λ there. omega arith) (λ onward. go (firstSailed sailed (at .stop) (at .minute)))
-
--- each ride lands by the plan's latest minute
-pub latest-most : (vs : List Valued) (v : Valued) → List·Memᴰ v vs → latest (v .ride) ≤ latestOf vs
-unfolding latestOf
-latest-most (u ∷ vs) v (List·Memᴰ·head same) =
-    subst (λ (x : Valued). latest (x .ride) ≤ max (latest (u .ride)) (latestOf vs)) (sym same)
-    (le-max-left (latest (u .ride)) (latestOf vs))
-latest-most (u ∷ vs) v (List·Memᴰ·tail among) =
-    le-trans (latest-most vs v among) (le-max-right (latest (u .ride)) (latestOf vs))

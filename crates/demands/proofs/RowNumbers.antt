@@ -11,7 +11,8 @@ use Rattle.query.specs.declared.Query.{Query}
 use Rattle.plans.specs.Rides.{Ride, boards}
 use Rattle.plans.specs.Worth.{Valued, up, weigh, firstOpen, caught, worthOr, arrivalWorth, changeWorth, landWorth, valued}
 use Rattle.plans.specs.Chosen.{worthOf}
-use Rattle.demands.specs.SafePlan.{expectedOf}
+use Rattle.demands.specs.SafePlan.{ByBoardingRow, expectedOf}
+use Rattle.demands.proofs.Sorting.{sorted-same}
 
 -- a ride without its row numbers
 abbrev pub unnumbered : Ride → Ride
@@ -73,12 +74,18 @@ same-worths target rides others same =
     worths : (x : List Ride) → map (λ v. v .worth) (valued target (map unnumbered x)) ≡ map (λ v. v .worth) (valued target x)
     worths x = ap (map (λ v. v .worth)) (valued-bare target x) ∙ map-map (λ v. v .worth) bare (valued target x)
 
--- and plans of such rides the same expected arrival
-pub same-expected : (q : Query) (rides others : List Ride) → map unnumbered rides ≡ map unnumbered others → expectedOf q rides ≡ expectedOf q others
+-- and plans of such rides, each by boarding row rising, the same expected arrival
+pub same-expected :
+    (q : Query) (rides others : List Ride) → ByBoardingRow rides → ByBoardingRow others → map unnumbered rides ≡ map unnumbered others
+    → expectedOf q rides ≡ expectedOf q others
 unfolding expectedOf
-same-expected q rides others same = sym (expects rides) ∙ ap (expectedOf q) same ∙ expects others
+same-expected q rides others rise rise' same =
+    ap arrival (sorted-same rise) ∙ sym (bared rides) ∙ ap arrival same ∙ bared others ∙ sym (ap arrival (sorted-same rise'))
   where
-    expects : (x : List Ride) → expectedOf q (map unnumbered x) ≡ expectedOf q x
-    expects x =
+    arrival : List Ride → Option ℕ
+    arrival x = worthOf (firstOpen (valued (q .target) x) (q .source) (q .minute))
+
+    bared : (x : List Ride) → arrival (map unnumbered x) ≡ arrival x
+    bared x =
         ap (λ vs. worthOf (firstOpen vs (q .source) (q .minute))) (valued-bare (q .target) x)
         ∙ first-worth (valued (q .target) x) (q .source) (q .minute)

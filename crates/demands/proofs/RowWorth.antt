@@ -1,22 +1,23 @@
 -- A row's worth, and where its ride leaves, are what document 01's words say. Uses rising departures and rows that arrive after they depart.
 use Prim.Native.Nat.{ℕ, suc, zero-le, _≤_, _<_}
-use native.Mathlib.Nat.{eq-or-lt-of-le, le-of-eq, lt-of-not-le}
+use native.Mathlib.Nat.{eq-or-lt-of-le, le-refl, le-of-eq, lt-of-not-le}
 use native.Mathlib.Omega.{arith}
 use mathlib.Core.List.{List}
-use mathlib.Core.Logic.{⊎-elim, _↔_}
+use mathlib.Core.Logic.{⊎-elim, _≢_, _↔_}
 use mathlib.Core.Option.{none, some}
-use mathlib.Core.Path.{_≡_, sym, ap, subst, _∙_}
+use mathlib.Core.Path.{_≡_, refl, sym, ap, ap₂, subst, _∙_}
+use lib.Dec.{eqb}
 use lib.ListN.{length}
-use borrow.Author.Tests.{eq-eqb, ne-eqb}
+use borrow.Author.Tests.{eqb-true, eqb-false, eq-eqb, ne-eqb}
 use Rattle.laws.proofs.Options.{absent, present-or-absent}
-use Rattle.laws.proofs.Tests.{T-true, true-T, cond-true, cond-false}
+use Rattle.laws.proofs.Tests.{ifb, T-true, true-T, cond-true, cond-false}
 use Rattle.laws.proofs.Downward.{downward, from-greater}
 use Rattle.timetable.specs.Timetable.{Timetable, rowOf}
 use Rattle.plans.specs.declared.Goal.{Goal}
 use Rattle.plans.specs.Sound.{Timely}
-use Rattle.plans.specs.Rides.{rideOf, latest}
+use Rattle.plans.specs.Rides.{Ride, IsRide, rideOf, latest}
 use Rattle.plans.specs.Worth.{Valued, firstOpen, changeWorth}
-use Rattle.plans.specs.Chosen.{Aim, inTicks}
+use Rattle.plans.specs.Chosen.{Aim, inTicks, worthOf}
 use Rattle.plans.specs.Plan.{chosenFor}
 use Rattle.demands.specs.Words.{HasWorth, bestRide}
 use Rattle.plans.specs.Trips.{NextOfTrip}
@@ -24,9 +25,10 @@ use Rattle.demands.specs.RowWords.{OpenWay, off-at-target, off-elsewhere
 use Rattle.plans.proofs.Open.{finds, found-member, found-boards}
 use Rattle.plans.proofs.AtMost.{AtMost, is-at-most, worth-at-most, found-at-most}
 use Rattle.plans.proofs.FromRow.{bestAt, nextFrom, offAt, next-row}
-use Rattle.plans.proofs.BestRides.{Source, off-here, stays, best-source, best-boards, row-is-ride}
+use Rattle.plans.proofs.BestRides.{Source, off-here, stays, best-source, best-boards, best-is-ride, row-is-ride}
 use Rattle.plans.proofs.Staying.{row-off, stay-on}
 use Rattle.plans.proofs.RideMinutes.{ride-delays}
+use Rattle.plans.proofs.EarliestSafe.{worth-of}
 use Rattle.plans.proofs.InTicks.{chosenInTicks, bestInTicks, Off, arrives, goes-on, off-is, ticks-at-target, ticks-elsewhere}
 use Rattle.plans.proofs.Weighing.{change-same}
 use Rattle.plans.proofs.ChosenWorth.{landing-sees}
@@ -45,6 +47,67 @@ module _ (aim : Aim) (t : Timetable) where
     where
       trip : ℕ
       trip = rowOf (t .rows) i .trip
+
+-- the trip's first row from row k on, where a later row is of that trip
+record FirstFrom (t : Timetable) (trip k last : ℕ) : Type 0 where
+  row : ℕ
+  later : k ≤ row
+  by-last : row ≤ last
+  one-trip : rowOf (t .rows) row .trip ≡ trip
+  first : (m : ℕ) → k ≤ m → m < row → rowOf (t .rows) m .trip ≢ trip
+
+first-from : (t : Timetable) (trip last : ℕ) → rowOf (t .rows) last .trip ≡ trip → (k : ℕ) → k ≤ last → FirstFrom t trip k last
+first-from t trip last same =
+    downward (λ k. FirstFrom t trip k last) last
+    (record { row = last; later = le-refl last; by-last = le-refl last; one-trip = same; first = λ m a b. absurd (let z : ⊥ = omega arith in z) })
+    (λ k h further. ifb (λ b. eqb (rowOf (t .rows) k .trip) trip ≡ b → FirstFrom t trip k last) (eqb (rowOf (t .rows) k .trip) trip)
+    (λ e _. record {
+      row = k;
+      later = le-refl k;
+      by-last = (let z : k ≤ last = omega arith in z);
+      one-trip = eqb-true (rowOf (t .rows) k .trip) trip e;
+      first = λ m a b. absurd (let z : ⊥ = omega arith in z);
+    })
+    (λ e _. record {
+      row = further .row;
+      later = (let z : k ≤ further .row = omega (arith, further .later) in z);
+      by-last = further .by-last;
+      one-trip = further .one-trip;
+      first = λ m a b. ⊎-elim (λ q. subst (λ x. rowOf (t .rows) x .trip ≢ trip) q (eqb-false (rowOf (t .rows) k .trip) trip e))
+          (λ c. further .first m c b) (eq-or-lt-of-le a);
+    }) refl)
+
+-- of two rides from one row that stay aboard alike, none leaves later
+leaves-no-later :
+    (t : Timetable) (goal : Goal) (v u : Valued) → IsRide t (v .ride) → IsRide t (u .ride) → v .ride .board ≡ u .ride .board → v .worth ≡ u .worth
+    → StaysAboard t goal v → StaysAboard t goal u → u .ride .leave ≤ v .ride .leave
+leaves-no-later t goal v u is is' board worth aboard aboard' =
+    let not-later : u .ride .leave < suc (v .ride .leave) = lt-of-not-le
+    (λ later. let same : rowOf (t .rows) (u .ride .leave) .trip ≡ rowOf (t .rows) (v .ride .leave) .trip = sym (is' .one-trip)
+    ∙ ap (λ k. rowOf (t .rows) k .trip) (sym board) ∙ is .one-trip in
+    let next = first-from t (rowOf (t .rows) (v .ride .leave) .trip) (u .ride .leave) same (suc (v .ride .leave)) later in
+    aboard .not-longer (next .row)
+    (record {
+      later = next .later;
+      inside = (let z : next .row < length (t .rows) = omega (arith, next .by-last, is' .inside) in z);
+      one-trip = next .one-trip;
+      first = next .first;
+    })
+    (subst (λ w. HasWorth t goal (next .row) w) (sym worth)
+    (aboard' .while-equal (next .row) (let z : u .ride .board ≤ next .row = omega (arith, next .later, is .onward) in z) (next .by-last)
+    (next .one-trip ∙ sym (is .one-trip) ∙ ap (λ k. rowOf (t .rows) k .trip) board)))) in
+    omega arith
+
+-- so they are one ride
+pub aboard-alike :
+    (t : Timetable) (goal : Goal) (v u : Valued) → IsRide t (v .ride) → IsRide t (u .ride) → v .ride .board ≡ u .ride .board → v .worth ≡ u .worth
+    → StaysAboard t goal v → StaysAboard t goal u → v ≡ u
+aboard-alike t goal v u is is' board worth aboard aboard' =
+    let one : u .ride .leave ≤ v .ride .leave = leaves-no-later t goal v u is is' board worth aboard aboard' in
+    let other : v .ride .leave ≤ u .ride .leave = leaves-no-later t goal u v is' is (sym board) (sym worth) aboard' aboard in
+    let leave : v .ride .leave ≡ u .ride .leave = omega arith in
+    let ride : v .ride ≡ u .ride = is .as-timed ∙ ap₂ (rideOf t) board leave ∙ sym (is' .as-timed) in
+    ap₂ (λ (r : Ride) (w : ℕ). record { ride = r; worth = w }) ride worth
 
 module _ (t : Timetable) (timely : Timely t) (goal : Goal) where
   -- who lands where row i does finds among all chosen rows what the scan finds behind the row
@@ -143,3 +206,22 @@ module _ (t : Timetable) (timely : Timely t) (goal : Goal) where
       all =
           from-greater (λ i. (v : Valued) → bestInTicks t goal i ≡ some v → StaysAboard t goal v) (length (t .rows))
           (λ i h later v e. aboard-by i h later v e (best-source (inTicks goal) t i h v e))
+
+  -- the best ride of a row is the ride from there that has the row's worth and stays aboard so
+  pub ride-in-words :
+      (i : ℕ) (v : Valued) → (bestRide t goal i ≡ some v)
+      ↔ (IsRide t (v .ride) × (v .ride .board ≡ i) × HasWorth t goal i (v .worth) × StaysAboard t goal v)
+  ride-in-words i v = (
+    λ e. let worth : HasWorth t goal i (v .worth) = ap worthOf e ∙ worth-of v in
+        let found = weighs t goal i (v .worth) worth in
+        let best : bestInTicks t goal i ≡ some v = sym (best-ride t goal i (found .inside)) ∙ e in (
+          best-is-ride (inTicks goal) t i (found .inside) v best,
+          best-boards (inTicks goal) t i (found .inside) v best .row,
+          worth,
+          stays-aboard i (found .inside) v e,
+        ),
+    λ words. let found = weighs t goal i (v .worth) (words .2) in
+        let best : bestRide t goal i ≡ some (found .ride) = best-ride t goal i (found .inside) ∙ found .best in
+        best ∙ ap some (aboard-alike t goal (found .ride) v (best-is-ride (inTicks goal) t i (found .inside) (found .ride) (found .best)) (words .0)
+        (found .at .row ∙ sym (words .1)) (found .worth) (stays-aboard i (found .inside) (found .ride) best) (words .3)),
+  )

@@ -11,9 +11,10 @@ use Rattle.laws.proofs.Tests.{ifb, T-true}
 use Rattle.timetable.specs.Timetable.{Timetable}
 use Rattle.query.specs.declared.Query.{Query}
 use Rattle.plans.specs.Rides.{Ride, IsRide, latest, boards}
-use Rattle.demands.specs.SafePlan.{SafePlan, Rising}
+use Rattle.demands.specs.SafePlan.{SafePlan, ByBoardingRow, before-all, sorted}
 use Rattle.plans.specs.Sound.{Timely}
-use Rattle.demands.proofs.Forward.{Timed, Served, over, onward, Forward}
+use Rattle.demands.proofs.Forward.{Timed, AllTimed, Served, over, onward, Forward, forward-timed}
+use Rattle.demands.proofs.Sorting.{safe-sorted}
 use Rattle.plans.proofs.Open.{boards-minute}
 use Rattle.plans.proofs.RideMinutes.{ride-shares, departs-before, board-inside}
 
@@ -44,10 +45,10 @@ module _ {t : Timetable} (timely : Timely t) (q : Query) (bound : ℕ) (all : Li
       ((r : Ride) → List·Memᴰ r rides → List·Memᴰ r all)
       × ((r later : Ride) → List·Memᴰ r rides → List·Memᴰ later all → r .departs < later .departs → List·Memᴰ later rides)
 
-  part-forward : (rides : List Ride) → Rising rides → Closing rides → Forward (q .target) rides
+  part-forward : (rides : List Ride) → ByBoardingRow rides → Closing rides → Forward (q .target) rides
   unfolding Closing
   part-forward [] rising closing = Forward.none
-  part-forward (r ∷ rides) (Rising.one before rising) closing =
+  part-forward (r ∷ rides) (before-all before rising) closing =
       Forward.one timed (serves (plan-serves q bound all safe r here)) (part-forward rides rising (λ u among. closing .0 u (List·Memᴰ·tail among), keeps))
     where
       here : List·Memᴰ r all
@@ -85,6 +86,13 @@ module _ {t : Timetable} (timely : Timely t) (q : Query) (bound : ℕ) (all : Li
       keeps : (u later : Ride) → List·Memᴰ u rides → List·Memᴰ later all → u .departs < later .departs → List·Memᴰ later rides
       keeps u later u-among among after = behind later among (omega (arith, in-order u u-among))
 
-  pub safe-forward : Rising all → Forward (q .target) all
+  pub safe-forward : ByBoardingRow all → Forward (q .target) all
   unfolding Closing
   safe-forward rising = part-forward all rising (λ r among. among, λ r later _ among _. among)
+
+-- a safe plan's rides, taken by boarding row, depart in order and move forward
+pub safe-timed :
+    {t : Timetable} → Timely t → (q : Query) (bound : ℕ) (rides : List Ride) → SafePlan t q bound rides → AllTimed (q .target) (sorted rides)
+safe-timed {t} timely q bound rides safe =
+    let in-order = safe-sorted t q bound rides safe in
+    forward-timed (safe-forward timely q bound (sorted rides) (in-order .0) (in-order .1))

@@ -15,6 +15,7 @@ use Rattle.timetable.specs.Classes.{sum, whole}
 use Rattle.plans.specs.Rides.{Ride, boards}
 use Rattle.plans.specs.Worth.{ticks, up, weigh, firstOpen, worthOr, caught, landWorth, valued}
 use Rattle.demands.specs.Walk.{Sailed, Standing, landed}
+use Rattle.plans.proofs.RideMinutes.{shares-stand}
 use Rattle.plans.proofs.Weighing.{weigh-less}
 use Rattle.demands.proofs.Means.{standingWorth, weigh-scale, weigh-add, weigh-constant, weigh-shift, up-reaches, up-loses, land-mean}
 use Rattle.demands.proofs.Choices.{Delayed, late, total, total-cons, total-nil}
@@ -211,18 +212,13 @@ most-boarded r behind at most opens within minute from below sailed delayed =
     (subst (λ (b : Bool). cond b (course sailed (off at r (r .arrives + (minute - r .arrives)))) (course sailed at) .boarded ≤ most) opens
     (within (late r (minute - r .arrives) ∷ sailed) (Delayed.one refl (omega arith) delayed)))
 
-some-share : (shares : List ℕ) → sum shares ≡ whole → 0 < length shares
-unfolding sum
-some-share [] full = omega arith
-some-share (p ∷ shares) full = omega arith
-
 most-passed :
     (r : Ride) (behind : List Ride) (at : Standing) (most : ℕ) → sum (r .shares) ≡ whole → boards r (at .stop) (at .minute) ≡ false
     → AtMostRides (r ∷ behind) at most → AtMostRides behind at most
 unfolding course landed
 most-passed r behind at most full shut within sailed delayed =
     subst (λ (b : Bool). cond b (course sailed (off at r (r .arrives + 0))) (course sailed at) .boarded ≤ most) shut
-    (within (late r 0 ∷ sailed) (Delayed.one refl (some-share (r .shares) full) delayed))
+    (within (late r 0 ∷ sailed) (Delayed.one refl (let z : 0 < length (r .shares) = omega (arith, shares-stand (r .shares) full) in z) delayed))
 
 mean-above :
     (target most : ℕ) {rides : List Ride} → Forward target rides → (at : Standing) → Served target rides (at .stop) (at .minute)

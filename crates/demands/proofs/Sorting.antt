@@ -12,18 +12,9 @@ use Rattle.laws.proofs.Members.{head-or-later}
 use Rattle.timetable.specs.Timetable.{Timetable, rowOf}
 use Rattle.query.specs.declared.Query.{Query}
 use Rattle.plans.specs.Rides.{Ride}
-use Rattle.demands.specs.SafePlan.{SafePlan, Rising}
-use Rattle.demands.specs.SafePlan as safe
-
--- one more ride, at its place; one with its boarding row stands for it
-unfoldable pub insert : Ride → List Ride → List Ride
-insert r [] = r ∷ []
-insert r (x ∷ rides) =
-    let later = insert r rides in cond (ltb (r .board) (x .board)) (r ∷ x ∷ rides) (cond (eqb (r .board) (x .board)) (x ∷ rides) (x ∷ later))
-
-unfoldable pub sorted : List Ride → List Ride
-sorted [] = []
-sorted (r ∷ rides) = insert r (sorted rides)
+use Rattle.plans.specs.Worth.{valued, firstOpen}
+use Rattle.plans.specs.Chosen.{worthOf}
+use Rattle.demands.specs.SafePlan.{SafePlan, ByBoardingRow, no-rides, before-all, insert, sorted, expectedOf}
 
 -- the place of one more ride: before the head, at it, or behind it
 pub on-place {ℓ} :
@@ -66,24 +57,24 @@ insert-holds r (y ∷ rides) alone =
     (λ e h. subst (λ (l : List Ride). List·Memᴰ r l) (sym h) (List·Memᴰ·head (alone y (List·Memᴰ·head refl) e)))
     (λ _ h. subst (λ (l : List Ride). List·Memᴰ r l) (sym h) (List·Memᴰ·tail (insert-holds r rides (λ x n. alone x (List·Memᴰ·tail n)))))
 
-insert-rising : (r : Ride) {rides : List Ride} → Rising rides → Rising (insert r rides)
+insert-rising : (r : Ride) {rides : List Ride} → ByBoardingRow rides → ByBoardingRow (insert r rides)
 unfolding insert
-insert-rising r safe.none = safe.one (λ next m. absurd (List·Memᴰ·not-nil m)) safe.none
-insert-rising r (safe.one {r = y} {rides} before rising) =
-    on-place (Rising (insert r (y ∷ rides))) r y rides
-    (λ b h. subst (λ (l : List Ride). Rising l) (sym h)
-    (safe.one (λ next m. head-or-later (r .board < next .board) m (λ e. subst (λ (x : Ride). r .board < x .board) (sym e) b)
+insert-rising r no-rides = before-all (λ next m. absurd (List·Memᴰ·not-nil m)) no-rides
+insert-rising r (before-all {r = y} {rides} before rising) =
+    on-place (ByBoardingRow (insert r (y ∷ rides))) r y rides
+    (λ b h. subst (λ (l : List Ride). ByBoardingRow l) (sym h)
+    (before-all (λ next m. head-or-later (r .board < next .board) m (λ e. subst (λ (x : Ride). r .board < x .board) (sym e) b)
     (λ n. omega (arith, before next n)))
-    (safe.one before rising)))
-    (λ _ h. subst (λ (l : List Ride). Rising l) (sym h) (safe.one before rising))
-    (λ b h. subst (λ (l : List Ride). Rising l) (sym h)
-    (safe.one (λ next m. head-or-later (y .board < next .board) (insert-member r rides m) (λ e. subst (λ (x : Ride). y .board < x .board) (sym e) b)
+    (before-all before rising)))
+    (λ _ h. subst (λ (l : List Ride). ByBoardingRow l) (sym h) (before-all before rising))
+    (λ b h. subst (λ (l : List Ride). ByBoardingRow l) (sym h)
+    (before-all (λ next m. head-or-later (y .board < next .board) (insert-member r rides m) (λ e. subst (λ (x : Ride). y .board < x .board) (sym e) b)
     (λ n. before next n))
     (insert-rising r rising)))
 
-pub sorted-rising : (rides : List Ride) → Rising (sorted rides)
+pub sorted-rising : (rides : List Ride) → ByBoardingRow (sorted rides)
 unfolding sorted
-sorted-rising [] = safe.none
+sorted-rising [] = no-rides
 sorted-rising (r ∷ rides) = insert-rising r (sorted-rising rides)
 
 pub sorted-member : (rides : List Ride) (x : Ride) → List·Memᴰ x (sorted rides) → List·Memᴰ x rides
@@ -112,10 +103,16 @@ insert-first r (x ∷ rides) before =
     on-place (insert r (x ∷ rides) ≡ r ∷ x ∷ rides) r x rides (λ _ h. h) (λ e _. absurd (let z : ⊥ = omega arith in z))
     (λ b _. absurd (let z : ⊥ = omega arith in z))
 
-pub sorted-same : {rides : List Ride} → Rising rides → sorted rides ≡ rides
+pub sorted-same : {rides : List Ride} → ByBoardingRow rides → sorted rides ≡ rides
 unfolding sorted
-sorted-same safe.none = refl
-sorted-same (safe.one {r} {rides} before rising) = ap (insert r) (sorted-same rising) ∙ insert-first r rides before
+sorted-same no-rides = refl
+sorted-same (before-all {r} {rides} before rising) = ap (insert r) (sorted-same rising) ∙ insert-first r rides before
+
+-- so a set has the same worths and expected arrival in that order
+pub expected-sorted : (q : Query) (rides : List Ride) → expectedOf q (sorted rides) ≡ expectedOf q rides
+unfolding expectedOf
+expected-sorted q rides =
+    ap (λ (l : List Ride). worthOf (firstOpen (valued (q .target) l) (q .source) (q .minute))) (sorted-same (sorted-rising rides))
 
 module _ (t : Timetable) (q : Query) (bound : ℕ) where
   -- a safe plan is its set of rides
@@ -142,7 +139,7 @@ module _ (t : Timetable) (q : Query) (bound : ℕ) where
 
   pub safe-sorted :
       (rides : List Ride) → SafePlan t q bound rides
-      → SafePlan t q bound (sorted rides) × Rising (sorted rides) × ((r : Ride) → List·Memᴰ r (sorted rides) ↔ List·Memᴰ r rides)
+      → SafePlan t q bound (sorted rides) × ByBoardingRow (sorted rides) × ((r : Ride) → List·Memᴰ r (sorted rides) ↔ List·Memᴰ r rides)
   safe-sorted rides plan =
       let holds = sorted-holds rides (safe-alone rides plan) in
       (safe-members rides (sorted rides) holds (sorted-member rides) plan, sorted-rising rides, λ r. (sorted-member rides r, holds r))

@@ -1,24 +1,23 @@
 -- A safe plan's walk under any choice of delays, from the query's source and minute. Uses all that a sound timetable keeps.
-use Prim.Native.Nat.{ℕ, _+_, _*_, _^_, _≤_, _<_, max}
-use mathlib.Core.Bool.{true, cond}
-use mathlib.Core.List.{List, [], _∷_, map, List·Memᴰ, List·Memᴰ·head, List·Memᴰ·tail, Memᴰ·of-map}
+use Prim.Native.Nat.{ℕ, _+_, _*_, _^_, _≤_, _<_}
+use mathlib.Core.List.{List, [], _∷_, map, List·Memᴰ, Memᴰ·of-map}
 use mathlib.Core.Logic.{_≢_}
 use mathlib.Core.Option.{Option, none, some}
 use mathlib.Core.Path.{_≡_, refl, sym, _∙_, ap, subst}
-use native.Mathlib.Nat.{le-trans, le-of-eq, le-max-left, le-max-right}
+use native.Mathlib.Nat.{le-of-eq}
 use native.Mathlib.Omega.{arith}
 use borrow.Author.Tests.{ne-eqb}
 use lib.ListN.{length, length-map}
-use Rattle.laws.proofs.Tests.{ifb, T-true, cond-true, cond-false}
+use Rattle.laws.proofs.Tests.{T-true, cond-false}
 use Rattle.laws.proofs.Options.{absent, same-thing}
 use Rattle.timetable.specs.Timetable.{Timetable}
 use Rattle.timetable.specs.Classes.{whole}
 use Rattle.query.specs.declared.Query.{Query}
-use Rattle.plans.specs.Rides.{Ride, latest, boards}
-use Rattle.plans.specs.Worth.{ticks, Valued, valued, firstOpen, caught, worthOr, landWorth}
+use Rattle.plans.specs.Rides.{Ride, latest}
+use Rattle.plans.specs.Worth.{ticks, Valued, valued, firstOpen, caught, worthOr}
 use Rattle.plans.specs.Chosen.{worthOf}
 use Rattle.plans.specs.Plan.{latestOf}
-use Rattle.demands.specs.SafePlan.{SafePlan, Rising, expectedOf}
+use Rattle.demands.specs.SafePlan.{SafePlan, ByBoardingRow, expectedOf}
 use Rattle.plans.specs.Sound.{Timely}
 use Rattle.demands.specs.Walk.{Sailed, Standing, firstSailed, start, walked, choices, weightedArrivals, largest, longestWay}
 use Rattle.demands.specs.Passenger.{standsAfter}
@@ -28,8 +27,10 @@ use Rattle.demands.proofs.Forward.{Served, onward, Forward, forward-tim
 use Rattle.plans.proofs.Open.{boards-minute, boards-stop}
 use Rattle.plans.proofs.RideMinutes.{departs-before}
 use Rattle.demands.proofs.Course.{ridesSailed, course, steps-course}
-use Rattle.demands.proofs.Reached.{course-reaches, steps-served, served-finds, steps-in-time, steps-count, latest-most}
+use Rattle.demands.proofs.Reached.{course-reaches, steps-served, served-finds, steps-in-time, steps-count}
 use Rattle.demands.proofs.Sandwich.{mean, worthAt, AtMostRides, mean-within, mean-strictly-above}
+use Rattle.demands.proofs.Sorting.{sorted-same}
+use Rattle.demands.proofs.Largest.{none-larger, lands-by}
 use Rattle.demands.proofs.Safe.{plan-serves, safe-forward}
 
 -- the rides of a plan with its own worths are the plan's rides
@@ -38,40 +39,10 @@ unfolding valued
 valued-rides target [] = refl
 valued-rides target (r ∷ rides) = ap (λ rest. r ∷ rest) (valued-rides target rides)
 
--- a ride of the plan that opens gives the plan a first one
-valued-finds :
-    (target : ℕ) (rides : List Ride) (stop minute : ℕ) (next : Ride) → List·Memᴰ next rides → boards next stop minute ≡ true
-    → (x : ℕ) × (worthOf (firstOpen (valued target rides) stop minute) ≡ some x)
-unfolding valued firstOpen worthOf
-valued-finds target (r ∷ rides) stop minute next (List·Memᴰ·head same) opens = (
-  landWorth target r (valued target rides),
-  ap worthOf
-      (cond-true (some (record { ride = r; worth = landWorth target r (valued target rides) })) (firstOpen (valued target rides) stop minute)
-      (ap (λ x. boards x stop minute) (sym same) ∙ opens)),
-)
-valued-finds target (r ∷ rides) stop minute next (List·Memᴰ·tail among) opens =
-    ifb
-    (λ b. (x : ℕ)
-    × (worthOf
-    (cond b (some (record { ride = r; worth = landWorth target r (valued target rides) })) (firstOpen (valued target rides) stop minute)) ≡ some x))
-    (boards r stop minute) (λ here. (landWorth target r (valued target rides), refl))
-    (λ shut. valued-finds target rides stop minute next among opens)
-
-largest-most : (f : List Sailed → ℕ) (ways : List (List Sailed)) (sailed : List Sailed) → List·Memᴰ sailed ways → f sailed ≤ largest (map f ways)
-unfolding largest
-largest-most f (way ∷ ways) sailed (List·Memᴰ·head same) =
-    subst (λ (x : List Sailed). f x ≤ max (f way) (largest (map f ways))) (sym same) (le-max-left (f way) (largest (map f ways)))
-largest-most f (way ∷ ways) sailed (List·Memᴰ·tail there) =
-    le-trans (largest-most f ways sailed there) (le-max-right (f way) (largest (map f ways)))
-
 module _ {t : Timetable} (q : Query) (bound : ℕ) (rides : List Ride) (safe : SafePlan t q bound rides) where
   -- one begins away from the target, and is served
   pub begins-served : Served (q .target) rides (q .source) (q .minute)
   begins-served = onward (safe .begins .0) (safe .begins .1) (safe .begins .2)
-
-  pub plan-expects : (x : ℕ) × (expectedOf q rides ≡ some x)
-  unfolding expectedOf
-  plan-expects = valued-finds (q .target) rides (q .source) (q .minute) (safe .begins .0) (safe .begins .1) (T-true (safe .begins .2))
 
   pub begins-elsewhere : q .source ≢ q .target
   begins-elsewhere there =
@@ -92,7 +63,7 @@ module _ {t : Timetable} (q : Query) (bound : ℕ) (rides : List Ride) (safe : S
           subst (λ (x : List Ride). (r : Ride) → List·Memᴰ r x → Served (q .target) x (r .to) (latest r)) (sym (delayed-rides delayed))
           (plan-serves q bound rides safe)
 
-module _ {t : Timetable} (timely : Timely t) (q : Query) (bound : ℕ) (rides : List Ride) (safe : SafePlan t q bound rides) (rising : Rising rides) where
+module _ {t : Timetable} (timely : Timely t) (q : Query) (bound : ℕ) (rides : List Ride) (safe : SafePlan t q bound rides) (rising : ByBoardingRow rides) where
   forward : Forward (q .target) rides
   forward = safe-forward timely q bound rides safe rising
 
@@ -120,7 +91,7 @@ module _ {t : Timetable} (timely : Timely t) (q : Query) (bound : ℕ) (rides : 
       by-last : (r : Ride) → List·Memᴰ r rides → latest r ≤ latestOf vs
       by-last r among =
           let found = Memᴰ·of-map (λ v. v .ride) vs (subst (List·Memᴰ r) (sym same) among) in
-          subst (λ (x : Ride). latest x ≤ latestOf vs) (found .2) (latest-most vs (found .0) (found .1))
+          subst (λ (x : Ride). latest x ≤ latestOf vs) (found .2) (lands-by vs (found .0) (found .1))
 
       before : q .minute ≤ latestOf vs
       before =
@@ -147,7 +118,8 @@ module _ {t : Timetable} (timely : Timely t) (q : Query) (bound : ℕ) (rides : 
   expected-worth x e =
       cond-false (ticks * q .minute) (caught (valued (q .target) rides) (q .source) (q .minute))
       (ne-eqb (q .source) (q .target) (begins-elsewhere q bound rides safe))
-      ∙ go (firstOpen (valued (q .target) rides) (q .source) (q .minute)) e
+      ∙ go (firstOpen (valued (q .target) rides) (q .source) (q .minute))
+      (ap (λ (l : List Ride). worthOf (firstOpen (valued (q .target) l) (q .source) (q .minute))) (sym (sorted-same rising)) ∙ e)
     where
       go : (o : Option Valued) → worthOf o ≡ some x → worthOr 0 o ≡ x
       go none none-is = absent none-is
@@ -167,7 +139,7 @@ module _ {t : Timetable} (timely : Timely t) (q : Query) (bound : ℕ) (rides : 
   unfolding longestWay
   longest-most sailed delayed =
       subst (λ (at : Standing). at .boarded ≤ largest (map (λ sailed. walked q sailed .boarded) (choices rides))) (walk-course sailed delayed)
-      (largest-most (λ sailed. walked q sailed .boarded) (choices rides) sailed (delayed-choice delayed))
+      (none-larger (λ sailed. walked q sailed .boarded) (choices rides) sailed (delayed-choice delayed))
 
   pub sandwich-above :
       (x : ℕ) → expectedOf q rides ≡ some x → whole ^ length rides * x < weightedArrivals q rides + whole ^ length rides * longestWay q rides

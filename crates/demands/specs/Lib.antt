@@ -4,3 +4,4 @@ pub mod Passenger
 pub mod SafePlan
 pub mod Words
 pub mod RowWords
+pub mod SmallPlan

@@ -1,15 +1,16 @@
 -- Document 01, "Rides, safe journeys, plans": a safe plan, any set of rides that keeps these conditions.
 use Prim.Native.Nat.{ℕ, _<_}
+use mathlib.Core.Bool.{cond}
 use mathlib.Core.List.{List, [], _∷_, List·Memᴰ}
 use mathlib.Core.Logic.{_≢_}
 use mathlib.Core.Option.{Option}
 use mathlib.Core.Path.{_≡_}
-use lib.Dec.{T}
+use lib.Dec.{T, eqb, ltb}
 use Rattle.timetable.specs.Timetable.{Timetable}
 use Rattle.query.specs.declared.Query.{Query}
 use Rattle.plans.specs.Rides.{Ride, IsRide, latest, boards}
 use Rattle.plans.specs.Journeys.{within}
-use Rattle.plans.specs.Worth.{valued, firstOpen}
+use Rattle.plans.specs.Worth.{Valued, valued, firstOpen}
 use Rattle.plans.specs.Chosen.{worthOf}
 
 -- a finite set of rides, as a list in any order
@@ -27,11 +28,26 @@ pub record SafePlan (t : Timetable) (q : Query) (bound : ℕ) (rides : List Ride
   pub goes-on :
       (r : Ride) → List·Memᴰ r rides → r .to ≢ q .target → (next : Ride) × List·Memᴰ next rides × T (boards next (r .to) (latest r))
 
--- by boarding row rising: each such set is such a list
-pub data Rising : List Ride → Type 0 where
-  none : Rising []
-  one : {r : Ride} {rides : List Ride} → ((next : Ride) → List·Memᴰ next rides → r .board < next .board) → Rising rides → Rising (r ∷ rides)
+-- by boarding row rising
+pub data ByBoardingRow : List Ride → Type 0 where
+  no-rides : ByBoardingRow []
+  before-all :
+      {r : Ride} {rides : List Ride} → ((next : Ride) → List·Memᴰ next rides → r .board < next .board) → ByBoardingRow rides → ByBoardingRow (r ∷ rides)
+
+-- one more ride, at its place; one with its boarding row stands for it
+unfoldable pub insert : Ride → List Ride → List Ride
+insert r [] = r ∷ []
+insert r (x ∷ rides) =
+    let later = insert r rides in cond (ltb (r .board) (x .board)) (r ∷ x ∷ rides) (cond (eqb (r .board) (x .board)) (x ∷ rides) (x ∷ later))
+
+unfoldable pub sorted : List Ride → List Ride
+sorted [] = []
+sorted (r ∷ rides) = insert r (sorted rides)
+
+-- the rides of a set, by boarding row rising, each with what the set gives
+abbrev pub worthsOf : Query → List Ride → List Valued
+worthsOf q rides = valued (q .target) (sorted rides)
 
 -- Its expected arrival is that of its first ride from the source at or after T
 unfoldable pub expectedOf : Query → List Ride → Option ℕ
-expectedOf q rides = worthOf (firstOpen (valued (q .target) rides) (q .source) (q .minute))
+expectedOf q rides = worthOf (firstOpen (worthsOf q rides) (q .source) (q .minute))

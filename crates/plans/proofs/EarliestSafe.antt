@@ -3,7 +3,7 @@ use Prim.Native.Nat.{ℕ, suc, zero-le, _≤_, _<_}
 use native.Mathlib.Omega.{arith}
 use mathlib.Core.Bool.{true, cond}
 use mathlib.Core.List.{List, List·Memᴰ}
-use mathlib.Core.Logic.{_≢_}
+use mathlib.Core.Logic.{_≢_, _↔_}
 use mathlib.Core.Option.{Option, none, some}
 use mathlib.Core.Path.{_≡_, refl, sym, ap, subst, _∙_}
 use lib.Dec.{eqb}
@@ -15,7 +15,7 @@ use Rattle.timetable.specs.Timetable.{Timetable, rowOf}
 use Rattle.plans.specs.Sound.{Timely}
 use Rattle.query.specs.declared.Query.{Query}
 use Rattle.plans.specs.Rides.{Ride, IsRide, latest, boards}
-use Rattle.plans.specs.Journeys.{Onward, leaves, changes, Journey, IsEarliest}
+use Rattle.plans.specs.Journeys.{Begins, Onward, leaves, changes, Journey, IsEarliest}
 use Rattle.plans.specs.Worth.{Valued, firstOpen}
 use Rattle.plans.specs.Chosen.{Aim, inMinutes, offInMinutes, worthOf, rowRide, boardedAt}
 use Rattle.plans.specs.Plan.{earliest}
@@ -56,7 +56,7 @@ module _ (t : Timetable) (target : ℕ) where
   onward-ride (changes is b on) = is
 
   -- boarded earlier on its trip, it still goes on
-  onward-earlier : (i : ℕ) {r : Ride} {end : ℕ} → Onward t target r end → IsRide t (boardedAt i (rowOf (t .rows) i) r)
+  pub onward-earlier : (i : ℕ) {r : Ride} {end : ℕ} → Onward t target r end → IsRide t (boardedAt i (rowOf (t .rows) i) r)
       → Onward t target (boardedAt i (rowOf (t .rows) i) r) end
   onward-earlier i (leaves is e) is' = leaves is' e
   onward-earlier i (changes is b on) is' = changes is' b on
@@ -113,6 +113,14 @@ module _ (t : Timetable) (target : ℕ) where
         (r .to) (latest r) end (T-true b) (eqb-false (r .to) target q) (minutes-least on))
         (λ u e h. raised (ride-at-most (inMinutes target) t r is (minutes-landed target) (u .worth)
         (minutes-elsewhere target r _ (eqb-false (r .to) target q) u e)) h)) refl
+
+    -- a row has a best ride, in minutes, exactly if it begins a safe journey
+    pub begins-in-minutes : (i : ℕ) → i < length (t .rows) → ((v : Valued) × (bestAt (inMinutes target) t i ≡ some v)) ↔ Begins t target i
+    begins-in-minutes i h = (
+      λ best. (best .0 .ride, best .0 .worth, best-boards (inMinutes target) t i h (best .0) (best .1) .row, minutes-onward i h (best .0) (best .1)),
+      λ begun. found-at-most ((v : Valued) × (bestAt (inMinutes target) t i ≡ some v)) (minutes-least (begun .3))
+          (λ v e _. (v, ap (bestAt (inMinutes target) t) (sym (begun .2)) ∙ e)),
+    )
 
     pub journey-least :
         (s m : ℕ) → s ≢ target → (r : Ride) {end : ℕ} → boards r s m ≡ true → Onward t target r end

@@ -7,10 +7,10 @@ use mathlib.Core.List.{List, [], _∷_, _++_, List·Memᴰ, List·Memᴰ·head, 
 use mathlib.Core.Logic.{_⊎_, inl, inr, _≢_}
 use mathlib.Core.Option.{Option, some}
 use mathlib.Core.Path.{_≡_, refl, sym, ap, subst, _∙_}
-use lib.Dec.{eqb}
-use borrow.Author.Tests.{eqb-false, ne-eqb, le-leb}
+use lib.Dec.{eqb, leb}
+use borrow.Author.Tests.{eqb-false, ne-eqb, le-leb, leb-true}
 use Rattle.laws.proofs.Options.{same-thing}
-use Rattle.laws.proofs.Tests.{ifb, both, cond-true, cond-false}
+use Rattle.laws.proofs.Tests.{ifb, both, both-left, both-right, cond-true, cond-false}
 use Rattle.laws.proofs.Members.{head-or-later}
 use Rattle.laws.proofs.Alternatives.{or-left, or-right, or-map}
 use Rattle.plans.specs.Rides.{Ride, latest, boards}
@@ -21,6 +21,14 @@ use Rattle.plans.proofs.Order.{Before, Ordered, nobody, ahead, first-be
 use Rattle.plans.proofs.Weighing.{land-same}
 use Rattle.plans.proofs.OwnWorth.{Moves, OwnWorth}
 use Rattle.plans.proofs.OwnWorth as own
+
+pub window-boards : (w : Window) (r : Ride) → inWindow w r ≡ true → boards r (w .stop) (w .minute) ≡ true
+unfolding inWindow
+window-boards w r e = both-left (boards r (w .stop) (w .minute)) (leb (r .departs) (w .until)) e
+
+pub window-until : (w : Window) (r : Ride) → inWindow w r ≡ true → r .departs ≤ w .until
+unfolding inWindow
+window-until w r e = leb-true (r .departs) (w .until) (both-right (boards r (w .stop) (w .minute)) (leb (r .departs) (w .until)) e)
 
 -- a window more takes nothing away
 wanted-more : (ws us : List Window) (r : Ride) → wanted us r ≡ true → wanted (ws ++ us) r ≡ true

@@ -2,7 +2,7 @@
 use Prim.Native.Nat.{ℕ, suc, _≤_, _<_}
 use native.Mathlib.Omega.{arith}
 use mathlib.Core.Bool.{cond}
-use mathlib.Core.List.{List, [], _∷_, map, List·Memᴰ, List·Memᴰ·head, List·Memᴰ·tail}
+use mathlib.Core.List.{List, [], _∷_, List·Memᴰ, List·Memᴰ·head, List·Memᴰ·tail}
 use mathlib.Core.Logic.{_≢_}
 use mathlib.Core.Option.{some}
 use mathlib.Core.Path.{_≡_, refl, sym, ap, _∙_}
@@ -10,7 +10,7 @@ use lib.ListN.{length}
 use Rattle.laws.proofs.Tests.{ifb}
 use Rattle.timetable.specs.Timetable.{longest}
 use Rattle.plans.specs.Rides.{Ride, latest}
-use Rattle.plans.specs.Worth.{Valued, firstOpen, landWorth, valued}
+use Rattle.plans.specs.Worth.{Valued, ridesOf, firstOpen, landWorth, valued}
 use Rattle.plans.specs.Chosen.{others}
 use Rattle.plans.proofs.Open.{too-late}
 use Rattle.plans.proofs.Choice.{same-minute, others-first}
@@ -29,7 +29,7 @@ pub data OwnWorth (target : ℕ) : List Valued → Type 0 where
       → OwnWorth target (v ∷ vs)
 
 -- what its own plan gives
-pub own-valued : (target : ℕ) {vs : List Valued} → OwnWorth target vs → valued target (map (λ (v : Valued). v .ride) vs) ≡ vs
+pub own-valued : (target : ℕ) {vs : List Valued} → OwnWorth target vs → valued target (ridesOf vs) ≡ vs
 unfolding valued
 own-valued target nobody = refl
 own-valued target (ahead {v} {vs} moves worth on own) =

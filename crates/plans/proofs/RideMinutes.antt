@@ -20,7 +20,7 @@ use Rattle.plans.proofs.BestRides.{best-boards}
 use Rattle.plans.proofs.FirstLeast.{first-least}
 
 -- shares that sum to something are not empty
-shares-stand : (shares : List ℕ) → sum shares ≡ whole → length shares ≡ suc (longest shares)
+pub shares-stand : (shares : List ℕ) → sum shares ≡ whole → length shares ≡ suc (longest shares)
 unfolding sum
 shares-stand [] e = absurd (let z : ⊥ = omega arith in z)
 shares-stand (p ∷ shares) e = let z : suc (length shares) ≡ suc (pred (suc (length shares))) = omega arith in z

@@ -1,16 +1,21 @@
--- Laws on sums over delays: equal or lesser worths of what is caught give an equal or lesser sum. Assumes nothing.
+-- Laws on sums, and on sums over delays: equal or lesser worths of what is caught give an equal or lesser sum. Assumes nothing.
 use Prim.Native.Nat.{ℕ, suc, _+_, _*_, _≤_, _<_}
 use native.Mathlib.Nat.{mul-le-mul-left}
 use native.Mathlib.Omega.{arith}
 use mathlib.Core.Bool.{cond}
-use mathlib.Core.List.{List, [], _∷_}
+use mathlib.Core.List.{List, [], _∷_, _++_}
 use mathlib.Core.Path.{_≡_, refl, ap, ap₂}
 use lib.Dec.{eqb}
 use lib.ListN.{length}
 use Rattle.timetable.specs.Timetable.{longest}
-use Rattle.timetable.specs.Classes.{whole}
+use Rattle.timetable.specs.Classes.{sum, whole}
 use Rattle.plans.specs.Rides.{Ride, latest}
 use Rattle.plans.specs.Worth.{Valued, weigh, up, firstOpen, caught, worthOr, changeWorth, arrivalWorth, landWorth}
+
+pub sum-append : (xs ys : List ℕ) → sum (xs ++ ys) ≡ sum xs + sum ys
+unfolding sum
+sum-append [] ys = omega arith
+sum-append (x ∷ xs) ys = omega (arith, sum-append xs ys)
 
 pub weigh-same : (shares : List ℕ) (a : ℕ) (f g : ℕ → ℕ) → ((m : ℕ) → a ≤ m → m < a + length shares → f m ≡ g m) → weigh shares a f ≡ weigh shares a g
 unfolding weigh

@@ -19,14 +19,14 @@ abbrev pub Hold : List Case → Type 0
 Hold [] = Unit {0}
 Hold (c ∷ cases) = (c .answered ≡ c .expected) × Hold cases
 
-unfoldable pub ridesOf : List Valued → List ℕ
-ridesOf [] = []
-ridesOf (v ∷ rides) = v .ride .board ∷ v .ride .leave ∷ v .worth ∷ ridesOf rides
+unfoldable pub toldRides : List Valued → List ℕ
+toldRides [] = []
+toldRides (v ∷ rides) = v .ride .board ∷ v .ride .leave ∷ v .worth ∷ toldRides rides
 
 -- a plan: ride count, expected ticks, latest minute, bound, then three numbers a ride; refusal 8: nothing
 unfoldable pub told : Option Plan → List ℕ
 told none = []
-told (some p) = length (p .rides) ∷ p .expected ∷ p .last ∷ p .bound ∷ ridesOf (p .rides)
+told (some p) = length (p .rides) ∷ p .expected ∷ p .last ∷ p .bound ∷ toldRides (p .rides)
 
 abbrev pub query : (source target minute code : ℕ) → Query
 query source target minute code = record { source = source; target = target; minute = minute; code = code }

@@ -1,6 +1,7 @@
 -- Document 01, "Rides, safe journeys, plans": a safe journey, the earliest safe arrival E and the bound.
 use Prim.Native.Nat.{ℕ, _+_, _-_, _*_, _/_, _≤_}
 use mathlib.Core.Bool.{Bool, cond, _||_}
+use mathlib.Core.Logic.{_⊎_}
 use mathlib.Core.Path.{_≡_}
 use lib.Dec.{T, leb, eqb}
 use Rattle.timetable.specs.Timetable.{Timetable}
@@ -15,7 +16,7 @@ pub data Onward (t : Timetable) (target : ℕ) : Ride → ℕ → Type 0 where
   changes : {r next : Ride} {end : ℕ} → IsRide t r → T (boards next (r .to) (latest r)) → Onward t target next end → Onward t target r end
 
 -- row i begins a safe journey to the target
-pub Begins : Timetable → ℕ → ℕ → Type 0
+abbrev pub Begins : Timetable → (target i : ℕ) → Type 0
 Begins t target i = (r : Ride) × (end : ℕ) × (r .board ≡ i) × Onward t target r end
 
 -- A safe journey boards first at the source, at or after query minute T
@@ -29,7 +30,11 @@ pub record IsEarliest (t : Timetable) (q : Query) (e : ℕ) : Type 0 where
   pub reached : Journey t q e
   pub least : (end : ℕ) → Journey t q end → e ≤ end
 
--- Bound code q is 0 (no bound) or counts quarters: T + q(E − T)/4 rounded down; 0 stands for no bound
+-- Bound code q is 0 (no bound) or 4 to 16 (quarters)
+abbrev pub CodeStands : ℕ → Type 0
+CodeStands code = (code ≡ 0) ⊎ (4 ≤ code)
+
+-- The bound is T + q(E − T)/4 rounded down; 0 stands for no bound
 abbrev pub boundOf : Query → ℕ → ℕ
 boundOf q e = cond (eqb (q .code) 0) 0 (q .minute + q .code * (e - q .minute) / 4)
 

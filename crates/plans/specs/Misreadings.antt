@@ -2,7 +2,7 @@
 -- must-fail/ make each reading in turn, and are refused here.
 use mathlib.Core.List.{List, [], _∷_}
 use Rattle.timetable.specs.Timetable.{Timetable}
-use Rattle.plans.specs.Examples.{Case, query, planOf, row, onTime, upToTen, timetable, wWith, wTwice, wPlan}
+use Rattle.plans.specs.Examples.{Case, query, planOf, row, onTime, upToTen, timetable, wWith, w, wTwice, wPlan}
 
 -- a late boat with an early planned arrival, and one on time
 abbrev pub lateOrOnTime : Timetable
@@ -51,4 +51,6 @@ misreadings =
       answered = planOf wTwice (query 0 2 590 0);
       expected = 3 ∷ 172800 ∷ 690 ∷ 0 ∷ 0 ∷ 0 ∷ 172800 ∷ 1 ∷ 1 ∷ 168960 ∷ 4 ∷ 4 ∷ 176640 ∷ [];
     }
+    -- the bound rounded up, 715 for 714: T 591, E 690 and q 5 give 591 + 123 and three quarters
+    ∷ record { answered = planOf w (query 0 2 591 5); expected = wPlan 714 }
     ∷ []

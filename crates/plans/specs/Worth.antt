@@ -1,7 +1,7 @@
 -- Document 01, "Expected arrival in ticks": what a ride is worth, given what the rides behind it are worth.
 use Prim.Native.Nat.{ℕ, suc, pred, _+_, _*_, _/_}
 use mathlib.Core.Bool.{cond}
-use mathlib.Core.List.{List, [], _∷_}
+use mathlib.Core.List.{List, [], _∷_, map}
 use mathlib.Core.Option.{Option, none, some}
 use lib.Dec.{eqb}
 use Rattle.timetable.specs.Classes.{whole}
@@ -24,6 +24,9 @@ weigh (p ∷ shares) minute f = p * f minute + weigh shares (suc minute) f
 pub record Valued : Type 0 where
   pub ride : Ride
   pub worth : ℕ
+
+abbrev pub ridesOf : List Valued → List Ride
+ridesOf vs = map (λ (v : Valued). v .ride) vs
 
 -- the first ride of a list that one who stands at `stop` at `minute` can board
 unfoldable pub firstOpen : List Valued → ℕ → ℕ → Option Valued

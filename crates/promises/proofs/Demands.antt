@@ -21,15 +21,13 @@ use Rattle.file_layout.proofs.Refusals.{refused-placed}
 use Rattle.query.specs.declared.Query.{Query}
 use Rattle.plans.specs.Sound.{Timely}
 use Rattle.plans.specs.Rides.{Ride, latest}
-use Rattle.plans.specs.Journeys.{goalOf, Journey, IsEarliest, boundOf}
-use Rattle.plans.specs.Worth.{Valued}
-use Rattle.demands.specs.SafePlan.{SafePlan, Rising, expectedOf}
+use Rattle.plans.specs.Journeys.{goalOf, Journey, IsEarliest, boundOf, CodeStands}
+use Rattle.plans.specs.Worth.{Valued, ridesOf}
+use Rattle.demands.specs.SafePlan.{SafePlan, ByBoardingRow, expectedOf}
 use Rattle.demands.specs.Words.{InPlan}
 use Rattle.demands.specs.Walk.{Sailed, start, choices, Boards}
 use Rattle.demands.specs.Passenger.{Carries}
 use Rattle.plans.specs.Plan.{Plan, planned, chosenFor}
-use Rattle.demands.proofs.PlanExists.{CodeStands}
-use Rattle.demands.proofs.PlanIsSafe.{ridesOf}
 use Rattle.demands.proofs.Demand2 as demand2
 use Rattle.demands.proofs.Demand3 as demand3
 use Rattle.plan_rows.proofs.Standing.{timely}
@@ -257,7 +255,7 @@ module _ (file : List ℕ) (q : Query) (work plan : List ℕ) where
           pub bounded : (e : ℕ) × IsEarliest t q e × (p .bound ≡ boundOf q e)
           bounded = demand2.bounded t is-timely q p is-plan
 
-          pub safe-plan : SafePlan t q (p .bound) (ridesOf (p .rides)) × Rising (ridesOf (p .rides))
+          pub safe-plan : SafePlan t q (p .bound) (ridesOf (p .rides)) × ByBoardingRow (ridesOf (p .rides))
           safe-plan = (demand2.safe-plan t is-timely q p is-plan, demand2.rising t is-timely q p is-plan)
 
           pub its-rides : (v : Valued) → List·Memᴰ v (p .rides) ↔ InPlan q (chosenFor t (goalOf q (p .bound))) v
@@ -271,8 +269,7 @@ module _ (file : List ℕ) (q : Query) (work plan : List ℕ) where
           pub expected-arrival : expectedOf q (ridesOf (p .rides)) ≡ some (p .expected)
           expected-arrival = demand2.own-expected t is-timely q p is-plan
 
-          pub minimum :
-              (rides : List Ride) → SafePlan t q (p .bound) rides → Rising rides → (x : ℕ) → expectedOf q rides ≡ some x → p .expected ≤ x
+          pub minimum : (rides : List Ride) → SafePlan t q (p .bound) rides → (x : ℕ) → expectedOf q rides ≡ some x → p .expected ≤ x
           minimum = demand2.minimum t is-timely q p is-plan
 
           -- demand 3: it carries every passenger by its latest minute, with its expected ticks

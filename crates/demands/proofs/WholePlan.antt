@@ -1,0 +1,64 @@
+-- In a plan by boarding row rising, who lands finds in the whole plan what stands behind the ride. Assumes nothing.
+use Prim.Native.Nat.{ℕ, _≤_, _<_}
+use native.Mathlib.Omega.{arith}
+use mathlib.Core.Bool.{true, false≢true}
+use mathlib.Core.List.{List, [], _∷_, List·Memᴰ, List·Memᴰ·head, List·Memᴰ·tail, List·Memᴰ·not-nil}
+use mathlib.Core.Option.{some}
+use mathlib.Core.Path.{_≡_, refl, sym, ap, subst, _∙_}
+use Rattle.laws.proofs.Options.{same-thing}
+use Rattle.laws.proofs.Members.{head-or-later}
+use Rattle.plans.specs.Rides.{Ride, boards}
+use Rattle.plans.specs.Worth.{Valued, firstOpen, landWorth, valued}
+use Rattle.plans.proofs.Open.{too-late, first-further, on-head}
+use Rattle.plans.proofs.Weighing.{land-same}
+use Rattle.plans.proofs.RideMinutes.{shares-stand}
+use Rattle.demands.proofs.Forward.{AllTimed, one}
+use Rattle.demands.proofs.Optimal.{valued-ride}
+
+module _ (target : ℕ) (all : List Valued) where
+  -- a list that ends the plan: who lands after a ride of it finds there what they find in the whole plan
+  Ends : List Ride → Type 0
+  Ends rides = (r : Ride) → List·Memᴰ r rides → (s m : ℕ) → r .departs < m → firstOpen (valued target rides) s m ≡ firstOpen all s m
+
+  worths-whole :
+      (rides : List Ride) → AllTimed target rides → Ends rides → (v : Valued) → List·Memᴰ v (valued target rides)
+      → v .worth ≡ landWorth target (v .ride) all
+  unfolding valued Ends
+  worths-whole [] timed ends v m = absurd (List·Memᴰ·not-nil m)
+  worths-whole (r ∷ rides) (one timed rest) ends v m =
+      head-or-later (v .worth ≡ landWorth target (v .ride) all) m
+      (λ q. subst (λ (x : Valued). x .worth ≡ landWorth target (x .ride) all) (sym q)
+      (land-same target r behind all (shares-stand (r .shares) (timed .full))
+      (λ k late _. sym (passed (r .to) k (omega (arith, timed .forward))) ∙ ends r (List·Memᴰ·head refl) (r .to) k (omega (arith, timed .forward)))))
+      (λ n. worths-whole rides rest
+      (λ u k s m late. sym (passed s m (omega (arith, timed .in-order u k))) ∙ ends u (List·Memᴰ·tail k) s m late) v n)
+    where
+      behind : List Valued
+      behind = valued target rides
+
+      passed : (s m : ℕ) → r .departs < m → firstOpen (valued target (r ∷ rides)) s m ≡ firstOpen behind s m
+      passed s m gone = first-further (record { ride = r; worth = landWorth target r behind }) behind s m (too-late r s m gone)
+
+-- each ride is worth what the rides caught after it in the whole plan give
+pub worth-in-whole :
+    (target : ℕ) (rides : List Ride) → AllTimed target rides → (v : Valued) → List·Memᴰ v (valued target rides)
+    → v .worth ≡ landWorth target (v .ride) (valued target rides)
+unfolding Ends
+worth-in-whole target rides timed = worths-whole target (valued target rides) rides timed (λ _ _ _ _ _. refl)
+
+-- the ride caught is the first to depart of those that can be
+pub caught-departs :
+    (target : ℕ) (rides : List Ride) → AllTimed target rides → (s m : ℕ) (v u : Valued) → firstOpen (valued target rides) s m ≡ some v
+    → List·Memᴰ u (valued target rides) → boards (u .ride) s m ≡ true → v .ride .departs ≤ u .ride .departs
+unfolding valued
+caught-departs target [] timed s m v u e among opens = absurd (List·Memᴰ·not-nil among)
+caught-departs target (r ∷ rides) (one timed rest) s m v u e among opens =
+    let first : Valued = record { ride = r; worth = landWorth target r (valued target rides) } in
+    on-head (v .ride .departs ≤ u .ride .departs) first (valued target rides) s m
+    (λ _ h. let same : v ≡ first = same-thing (sym e ∙ h) in
+    subst (λ (x : Valued). x .ride .departs ≤ u .ride .departs) (sym same)
+    (head-or-later (r .departs ≤ u .ride .departs) among (λ q. omega (arith, ap (λ (x : Valued). x .ride .departs) q))
+    (λ n. timed .in-order (u .ride) (valued-ride target rides n))))
+    (λ shut h. caught-departs target rides rest s m v u (sym h ∙ e)
+    (head-or-later (List·Memᴰ u (valued target rides)) among
+    (λ q. absurd (false≢true (sym shut ∙ subst (λ (x : Valued). boards (x .ride) s m ≡ true) q opens))) (λ n. n)) opens)

@@ -1,0 +1,42 @@
+-- Demand 3's numbers of a small plan: a boat that lands at 630, seldom a minute later, and the two boats that it catches then.
+use Prim.Native.Nat.{ℕ, _*_, _^_}
+use mathlib.Core.List.{List, [], _∷_, map}
+use mathlib.Core.Option.{Option, none, some}
+use lib.ListN.{length}
+use Rattle.timetable.specs.Timetable.{Timetable}
+use Rattle.timetable.specs.Classes.{whole}
+use Rattle.query.specs.declared.Query.{Query}
+use Rattle.plans.specs.Rides.{Ride, rideOf}
+use Rattle.plans.specs.Examples.{Case, query, planOf, row, onTime, timetable}
+use Rattle.demands.specs.SafePlan.{expectedOf}
+use Rattle.demands.specs.Walk.{choices, weight, weightedArrivals, longestWay}
+
+abbrev pub small : Timetable
+small = timetable (row 0 1 600 630 0 1 ∷ row 1 2 630 660 1 0 ∷ row 1 2 631 690 2 0 ∷ []) (onTime ∷ (4095 ∷ 1 ∷ []) ∷ [])
+
+abbrev pub asked : Query
+asked = query 0 2 590 0
+
+abbrev pub smallRides : List Ride
+smallRides = rideOf small 0 0 ∷ rideOf small 1 1 ∷ rideOf small 2 2 ∷ []
+
+abbrev pub turnedRound : List Ride
+turnedRound = rideOf small 2 2 ∷ rideOf small 1 1 ∷ rideOf small 0 0 ∷ []
+
+unfoldable pub expectedIn : Option ℕ → List ℕ
+expectedIn none = []
+expectedIn (some x) = x ∷ []
+
+unfoldable pub smallCases : List Case
+smallCases =
+    record { answered = planOf small asked; expected = 3 ∷ 168962 ∷ 690 ∷ 0 ∷ 0 ∷ 0 ∷ 168962 ∷ 1 ∷ 1 ∷ 168960 ∷ 2 ∷ 2 ∷ 176640 ∷ [] }
+    -- X, whatever order the rides are listed in
+    ∷ record { answered = expectedIn (expectedOf asked smallRides); expected = 168962 ∷ [] }
+    ∷ record { answered = expectedIn (expectedOf asked turnedRound); expected = 168962 ∷ [] }
+    -- two choices, of 68,702,699,520 and 16,777,216 parts in 4,096^3
+    ∷ record { answered = map weight (choices smallRides); expected = 68702699520 ∷ 16777216 ∷ [] }
+    -- A, then 4,096^R × X, which is a little more
+    ∷ record { answered = weightedArrivals asked smallRides ∷ whole ^ length smallRides * 168962 ∷ []; expected = 11610971638333440 ∷ 11610980228268032 ∷ [] }
+    -- L: two of the three rides are boarded, in time or late
+    ∷ record { answered = longestWay asked smallRides ∷ []; expected = 2 ∷ [] }
+    ∷ []
