@@ -1,0 +1,152 @@
+/* Case W and its faults through the booking desk's call, against document 01's numbers as literals. */
+#include <stdio.h>
+#include <string.h>
+
+#include "sayurimpak.h"
+
+_Static_assert(SAYURIMPAK_REFUSED == 10000, "10,000 plus the refusal");
+_Static_assert(SAYURIMPAK_RIDE_BYTES == 12, "12 bytes a ride");
+_Static_assert(SAYURIMPAK_MOST_BYTES == 24000, "12 bytes for each of 2,000 rows");
+_Static_assert(SAYURIMPAK_BOARDING_ROW == 0, "boarding row first");
+_Static_assert(SAYURIMPAK_LEAVING_ROW == 4, "leaving row next, four bytes on");
+_Static_assert(SAYURIMPAK_WORTH == 8, "then the worth");
+
+enum { W_BYTES = 92, W_ROOM = 48, DIRT = 0xa5, LENT = 24000, LONGEST = 27920 };
+
+static uint8_t w[W_BYTES];
+static uint8_t file[LONGEST + 1];
+static uint8_t out[LENT];
+static int calls, failed;
+
+/* The sheet's three rides: boarding row, leaving row, worth in ticks (172,800, 168,960 and 176,640). */
+static const uint8_t W_PLAN[36] = {0, 0, 0, 0, 0, 0, 0, 0, 0x00, 0xa3, 0x02, 0,
+                                   1, 0, 0, 0, 1, 0, 0, 0, 0x00, 0x94, 0x02, 0,
+                                   3, 0, 0, 0, 3, 0, 0, 0, 0x00, 0xb2, 0x02, 0};
+
+struct asked {
+  uint32_t source, target, minute, code;
+};
+
+static const struct asked W_ASKED = {0, 2, 590, 0};
+
+/* One call with this much room: the answer, and that all bytes of `out` are as they must be. */
+static void expect(const char *what, size_t length, struct asked asked, size_t room, uint32_t wanted) {
+  static uint8_t left[LENT];
+  memset(out, DIRT, sizeof out);
+  memset(left, DIRT, sizeof left);
+  if (wanted == 3) memcpy(left, W_PLAN, sizeof W_PLAN);
+  const uint32_t answer = sayurimpak_plan(file, length, asked.source, asked.target, asked.minute, asked.code, out, room);
+  calls++;
+  if (answer == wanted && memcmp(out, left, sizeof out) == 0) return;
+  failed++;
+  printf("%s: answered %u and not %u%s\n", what, (unsigned)answer, (unsigned)wanted,
+         memcmp(out, left, sizeof out) == 0 ? "" : ", and other bytes than must be");
+}
+
+/* W with two bytes from `at` on changed to a number, or W as it is. */
+static void put_w(void) { memcpy(file, w, W_BYTES); }
+
+static void put_number(size_t at, uint32_t number) {
+  put_w();
+  file[at] = (uint8_t)(number & 255);
+  file[at + 1] = (uint8_t)(number >> 8);
+}
+
+static void rooms(void) {
+  put_w();
+  expect("W, room for 12n bytes", W_BYTES, W_ASKED, 48, 3);
+  expect("W, room for 12n - 1 bytes", W_BYTES, W_ASKED, 47, 10007);
+  expect("W, no room", W_BYTES, W_ASKED, 0, 10007);
+  expect("W, room for three rides", W_BYTES, W_ASKED, 36, 10007);
+  expect("W, room for 2,000 rows", W_BYTES, W_ASKED, LENT, 3);
+}
+
+/* Rows are at byte 0, class 0 at 48 (its share at 50), class 1 at 52, the trailer at 76. */
+static void faults(void) {
+  put_number(76, 2);
+  expect("version 2", W_BYTES, W_ASKED, W_ROOM, 10001);
+  put_number(78, 201);
+  expect("201 stops", W_BYTES, W_ASKED, W_ROOM, 10001);
+  put_number(80, 2001);
+  expect("2,001 rows", W_BYTES, W_ASKED, W_ROOM, 10001);
+  put_number(82, 17);
+  expect("17 classes", W_BYTES, W_ASKED, W_ROOM, 10001);
+  put_number(88, 76);
+  expect("class blocks from the trailer's start on", W_BYTES, W_ASKED, W_ROOM, 10002);
+  put_number(84, 12);
+  expect("rows that do not join", W_BYTES, W_ASKED, W_ROOM, 10002);
+  put_number(50, 4095);
+  expect("shares that sum to 4,095", W_BYTES, W_ASKED, W_ROOM, 10003);
+  put_number(52, 121);
+  expect("a maximum delay of 121", W_BYTES, W_ASKED, W_ROOM, 10003);
+  put_number(2, 0);
+  expect("a row that lands where it boards", W_BYTES, W_ASKED, W_ROOM, 10004);
+  put_number(42, 10080);
+  expect("a row that arrives at 10,080", W_BYTES, W_ASKED, W_ROOM, 10004);
+  put_number(40, 635);
+  expect("departures that fall", W_BYTES, W_ASKED, W_ROOM, 10005);
+}
+
+static void lengths(void) {
+  put_w();
+  memmove(file, file + W_BYTES - 19, 19);
+  expect("19 bytes", 19, W_ASKED, W_ROOM, 10001);
+  put_w();
+  expect("no bytes", 0, W_ASKED, W_ROOM, 10001);
+  memset(file, 0, sizeof file);
+  memcpy(file + LONGEST + 1 - W_BYTES, w, W_BYTES);
+  expect("27,921 bytes that end like W", LONGEST + 1, W_ASKED, LENT, 10001);
+}
+
+static void queries(void) {
+  static const struct {
+    struct asked asked;
+    uint32_t wanted;
+  } ASKED[] = {
+      {{3, 2, 590, 0}, 10006},     {{0, 3, 590, 0}, 10006},      {{2, 2, 590, 0}, 10006},  {{0, 2, 10080, 0}, 10006},
+      {{0, 2, 590, 1}, 10006},     {{0, 2, 590, 3}, 10006},      {{0, 2, 590, 17}, 10006}, {{65536, 2, 590, 0}, 10006},
+      {{0, 65538, 590, 0}, 10006}, {{0, 2, 66126, 0}, 10006},    {{0, 2, 590, 65536}, 10006},
+      {{0, 2, 590, 4}, 3},         {{0, 2, 590, 16}, 3},         {{0, 2, 600, 0}, 3},
+      {{0, 2, 601, 0}, 10008},     {{0, 2, 10079, 0}, 10008},    {{2, 0, 590, 0}, 10008},
+  };
+  char what[80];
+  put_w();
+  for (size_t k = 0; k < sizeof ASKED / sizeof ASKED[0]; k++) {
+    const struct asked asked = ASKED[k].asked;
+    snprintf(what, sizeof what, "query %u %u %u %u", (unsigned)asked.source, (unsigned)asked.target, (unsigned)asked.minute,
+             (unsigned)asked.code);
+    expect(what, W_BYTES, asked, W_ROOM, ASKED[k].wanted);
+  }
+}
+
+/* 6 before 7 before 8, and a file's own fault before all. */
+static void order(void) {
+  const struct asked wrong = {0, 2, 590, 3}, none = {0, 2, 601, 0};
+  put_w();
+  expect("6 before 7", W_BYTES, wrong, 47, 10006);
+  expect("7 before 8", W_BYTES, none, 47, 10007);
+  put_number(40, 635);
+  expect("5 before 6 and 7", W_BYTES, wrong, 47, 10005);
+  /* no rows: the class blocks alone, from byte 0 */
+  put_w();
+  memmove(file, file + 48, W_BYTES - 48);
+  memset(file + 28 + 4, 0, 2);
+  memset(file + 28 + 8, 0, 8);
+  expect("no rows want no room", W_BYTES - 48, W_ASKED, 0, 10008);
+}
+
+int main(int count, char **words) {
+  FILE *sailings = count == 2 ? fopen(words[1], "rb") : NULL;
+  if (sailings == NULL || fread(w, 1, W_BYTES, sailings) != W_BYTES || fgetc(sailings) != EOF) {
+    puts("no file of 92 bytes");
+    return 2;
+  }
+  fclose(sailings);
+  rooms();
+  faults();
+  lengths();
+  queries();
+  order();
+  printf("desk: %d calls, %d differences\n", calls, failed);
+  return failed > 0;
+}
