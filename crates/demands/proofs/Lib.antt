@@ -24,3 +24,4 @@ pub mod WholePlan
 pub mod PlanExists
 pub mod PlanIsSafe
 pub mod Largest
+pub mod Demanded

@@ -5,3 +5,4 @@ pub mod SafePlan
 pub mod Words
 pub mod RowWords
 pub mod SmallPlan
+pub mod Demanded

@@ -1,0 +1,38 @@
+-- Demands 2 and 3 in one record: what must be true of a plan's rides, with its expected ticks, latest minute and bound.
+use Prim.Native.Nat.{ℕ, _≤_}
+use mathlib.Core.List.{List, List·Memᴰ}
+use mathlib.Core.Logic.{_↔_}
+use mathlib.Core.Option.{some}
+use mathlib.Core.Path.{_≡_}
+use Rattle.timetable.specs.Timetable.{Timetable}
+use Rattle.query.specs.declared.Query.{Query}
+use Rattle.plans.specs.Rides.{Ride, latest}
+use Rattle.plans.specs.Journeys.{IsEarliest, boundOf, goalOf}
+use Rattle.plans.specs.Worth.{Valued, valued, ridesOf}
+use Rattle.plans.specs.Plan.{chosenFor}
+use Rattle.demands.specs.SafePlan.{SafePlan, ByBoardingRow, expectedOf}
+use Rattle.demands.specs.Words.{InPlan}
+use Rattle.demands.specs.Walk.{Sailed, start, choices, Boards}
+use Rattle.demands.specs.Passenger.{Carries}
+
+pub record Demanded (t : Timetable) (q : Query) (rides : List Valued) (expected last bound : ℕ) : Type 0 where
+  -- the bound is that of E, the least a + M of a safe journey's last ride
+  pub bounded : (e : ℕ) × IsEarliest t q e × (bound ≡ boundOf q e)
+  -- a safe plan within the bound, by boarding row rising, with the worths that its own rides give
+  pub safe : SafePlan t q bound (ridesOf rides)
+  pub by-boarding-row : ByBoardingRow (ridesOf rides)
+  pub own-worths : valued (q .target) (ridesOf rides) ≡ rides
+  -- the rides of the extraction rule over the chosen rows, and nothing else
+  pub its-rides : (v : Valued) → List·Memᴰ v rides ↔ InPlan q (chosenFor t (goalOf q bound)) v
+  -- the latest minute is the largest a + M of its rides
+  pub latest-minute :
+      ((v : Valued) → List·Memᴰ v rides → latest (v .ride) ≤ last) × ((v : Valued) × List·Memᴰ v rides × (latest (v .ride) ≡ last))
+  -- the expected arrival is its own, and no other safe plan within the same bound has a smaller one
+  pub expects : expectedOf q (ridesOf rides) ≡ some expected
+  pub minimum : (others : List Ride) → SafePlan t q bound others → (x : ℕ) → expectedOf q others ≡ some x → expected ≤ x
+  -- it carries every passenger by the latest minute, whatever delays up to their maximum its rides have
+  pub carries : Carries q (ridesOf rides) last expected
+  -- and every ride is boarded under some such delays
+  pub every-ride-boarded :
+      (v : Valued) → List·Memᴰ v rides
+      → (sailed : List Sailed) × List·Memᴰ sailed (choices (ridesOf rides)) × Boards (q .target) sailed (start q) (v .ride)
