@@ -4,8 +4,8 @@ use Rattle.timetable.specs.Rows.{ownRule, departureRule, lastOfTrip, follows, t
 use Rattle.timetable.specs.Classes.{sum, sharesRule}
 use Rattle.numbers.specs.Numbers.{u16Bytes, u32Bytes, u16At, u32At}
 use Rattle.file_encoding.specs.Encode.{encode, rowsBytes, rowBytes, tablesBytes, tableBytes, sharesBytes, trailerBytes}
-use Rattle.file_layout.specs.Decode.{decode, headOf, headAt, trailerAt, rowsFrom, rowAt, tablesFrom, tableAt, sharesFrom, blockEnd, tablesEnd}
-use Rattle.file_layout.specs.Check.{checked, checkedAs, fileVerdict, headVerdict, lengthRule, headRule, classVerdict, classesVerdict, joined, sectionsJoin, rangesOf, answered, answerOf}
+use Rattle.file_layout.specs.Decode.{decode, trailerOf, trailerAt, trailerStart, rowsFrom, rowAt, tablesFrom, tableAt, sharesFrom, blockEnd, tablesEnd}
+use Rattle.file_layout.specs.Check.{checked, checkedAs, fileVerdict, sectionsVerdict, lengthRule, trailerRule, classVerdict, classesVerdict, joined, sectionsJoin, rangesOf, answered, answerOf}
 use Rattle.house.specs.House.{cumulative, between}
 use Rattle.plans.specs.Worth.{weigh, firstOpen, worthOr, caught, arrivalWorth, changeWorth}
 use Rattle.plans.specs.Chosen.{whenSafe, offInTicks, worthOf, offInMinutes, nextOf, getOff, stayOn, least, firstAt, leads, others, choose, bestOf, scan, scanned}
@@ -14,6 +14,6 @@ use Rattle.plans.specs.Examples.{Hold, toldRides, told}
 use Rattle.cases.specs.Cases.{cases, wBytes, checkOf, numberOf, worthsTo, joinedUp, chosenTo}
 
 pub cases-hold : Hold cases
-unfolding cases cumulative between wBytes checkOf toldRides told numberOf worthsTo joinedUp chosenTo encode rowsBytes rowBytes tablesBytes tableBytes sharesBytes trailerBytes u16Bytes u32Bytes checked checkedAs fileVerdict headVerdict lengthRule headRule classVerdict classesVerdict joined sectionsJoin rangesOf answered answerOf decode headOf headAt trailerAt rowsFrom rowAt tablesFrom tableAt sharesFrom blockEnd tablesEnd u16At u32At ownRule departureRule lastOfTrip follows tripRule rowVerdict rowsVerdict sum sharesRule planned planBefore earliest weigh firstOpen worthOr caught arrivalWorth changeWorth whenSafe offInTicks worthOf offInMinutes nextOf getOff stayOn least firstAt leads others choose bestOf scan scanned chosenFor inWindow wanted upTo windowsOf extract ridesFrom latestOf planWithin
+unfolding cases cumulative between wBytes checkOf toldRides told numberOf worthsTo joinedUp chosenTo encode rowsBytes rowBytes tablesBytes tableBytes sharesBytes trailerBytes u16Bytes u32Bytes checked checkedAs fileVerdict lengthRule classVerdict classesVerdict joined sectionsJoin answered answerOf decode trailerAt rowsFrom rowAt tablesFrom tableAt sharesFrom blockEnd tablesEnd u16At u32At ownRule departureRule lastOfTrip follows tripRule rowVerdict rowsVerdict sum sharesRule planned planBefore earliest weigh firstOpen worthOr caught arrivalWorth changeWorth whenSafe offInTicks worthOf offInMinutes nextOf getOff stayOn least firstAt leads others choose bestOf scan scanned chosenFor inWindow wanted upTo windowsOf extract ridesFrom latestOf planWithin sectionsVerdict trailerRule trailerOf trailerStart
 cases-hold =
     (refl, (refl, (refl, (refl, (refl, (refl, (refl, (refl, (refl, (refl, (refl, (refl, (refl, (refl, (refl, (refl, (refl, (refl, (refl, (refl, tt))))))))))))))))))))

@@ -2,8 +2,8 @@
 ghost use mathlib.Core.Path.{_≡_};
 ghost use Prim.Native.Nat.{_-_, _<_};
 ghost use lib.ListN.{length};
-ghost use Rattle.file_layout.specs.Small.{SmallHead, SmallRow};
-use file_layout::Head;
+ghost use Rattle.file_layout.specs.Small.{SmallTrailer, SmallRow};
+use file_layout::Trailer;
 use file_layout::VERSION_ONE;
 use timetable::Row;
 
@@ -31,11 +31,11 @@ pub fn trailer_start(file: &[u8]) -> usize
 }
 
 // The trailer's numbers.
-pub fn head_in(file: &[u8]) -> Head
-    ensures { λ r. ⌜ SmallHead r ⌝ }
+pub fn trailer_in(file: &[u8]) -> Trailer
+    ensures { λ r. ⌜ SmallTrailer r ⌝ }
 {
     if file.len() < VERSION_ONE.trailer {
-        return Head {
+        return Trailer {
             version: 0,
             stops: 0,
             rows: 0,
@@ -44,7 +44,7 @@ pub fn head_in(file: &[u8]) -> Head
             tablestart: 0,
         };
     }
-    file_layout::head_at(file, file.len() - VERSION_ONE.trailer)
+    file_layout::trailer_at(file, file.len() - VERSION_ONE.trailer)
 }
 
 // The row of that number, the rows starting at `start`.

@@ -1,12 +1,12 @@
 // Refusals 2 and 3: the class blocks, one by one, and how the sections join.
 ghost use Prim.Native.Nat.{_-_, _≤_, _<_};
 ghost use lib.ListN.{length};
-ghost use Rattle.file_layout.specs.Small.{SmallHead};
+ghost use Rattle.file_layout.specs.Small.{SmallTrailer};
 use crate::broken::number_at;
 use crate::broken::trailer_start;
 use explain_words::say;
 use explain_words::say_number;
-use file_layout::Head;
+use file_layout::Trailer;
 use file_layout::VERSION_ONE;
 
 // A class by its number, and where its block starts.
@@ -16,28 +16,31 @@ struct Block {
 }
 
 // 2: the class block that does not fit, or the sections that do not join.
-pub fn print_layout_fault(file: &[u8], head: Head)
-    requires { ⌜ SmallHead head ⌝ }
+pub fn print_layout_fault(file: &[u8], trailer: Trailer)
+    requires { ⌜ SmallTrailer trailer ⌝ }
 {
     let end = trailer_start(file);
-    let block = block_behind(file, end, head.tablestart, head.classes);
-    if block.class < head.classes {
+    let block = block_behind(file, end, trailer.tablestart, trailer.classes);
+    if block.class < trailer.classes {
         say_number(b"Class ", block.class);
         say_number(b": its block, from byte ", block.at);
         say_number(b" on, does not fit before the trailer at byte ", end);
         say(b".\n");
         return;
     }
-    print_join_fault(head, block.at, end);
+    print_join_fault(trailer, block.at, end);
 }
 
 // The sections of rows and of class blocks, which end at `tables_end`, do not fill the bytes up to `end`.
-fn print_join_fault(head: Head, tables_end: usize, end: usize)
-    requires { ⌜ SmallHead head ⌝ }
+fn print_join_fault(trailer: Trailer, tables_end: usize, end: usize)
+    requires { ⌜ SmallTrailer trailer ⌝ }
 {
-    say_number(b"The rows take bytes ", head.rowstart);
-    say_number(b" up to ", head.rowstart + VERSION_ONE.width * head.rows);
-    say_number(b", the class blocks bytes ", head.tablestart);
+    say_number(b"The rows take bytes ", trailer.rowstart);
+    say_number(
+        b" up to ",
+        trailer.rowstart + VERSION_ONE.width * trailer.rows,
+    );
+    say_number(b", the class blocks bytes ", trailer.tablestart);
     say_number(b" up to ", tables_end);
     say_number(b", and the trailer starts at byte ", end);
     say(
@@ -79,8 +82,8 @@ fn block_length(file: &[u8], end: usize, at: usize) -> usize
 }
 
 // 3: maximum delay, sum or last share of a class.
-pub fn print_class_fault(file: &[u8], head: Head, class: usize) {
-    let block = block_behind(file, trailer_start(file), head.tablestart, class);
+pub fn print_class_fault(file: &[u8], trailer: Trailer, class: usize) {
+    let block = block_behind(file, trailer_start(file), trailer.tablestart, class);
     let at = block.at;
     say_number(b"Class ", class);
     if at < file.len() {

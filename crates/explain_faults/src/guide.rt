@@ -1,7 +1,7 @@
 // A plan in words that a clerk can follow.
 ghost use Rattle.file_layout.specs.Small.{SmallRow};
-use crate::broken::head_in;
 use crate::broken::row_in;
+use crate::broken::trailer_in;
 use explain_words::say;
 use explain_words::say_number;
 use explain_words::say_time;
@@ -16,12 +16,12 @@ struct Ride {
 
 // The first ride of a plan, then for each stop what to take there. `plan` has three numbers a ride.
 pub fn print_plan(file: &[u8], plan: &[u32], rides: usize) {
-    let head = head_in(file);
-    let first = ride_in(file, head.rowstart, plan, 0);
+    let trailer = trailer_in(file);
+    let first = ride_in(file, trailer.rowstart, plan, 0);
     say_number(b"From stop ", first.board.board);
     print_ride(first);
     say(b".\n");
-    print_landings(file, head.rowstart, plan, rides, head.stops);
+    print_landings(file, trailer.rowstart, plan, rides, trailer.stops);
 }
 
 // Ride number `place` of the plan.

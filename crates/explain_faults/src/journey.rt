@@ -40,9 +40,12 @@ fn say_no_stop(end: &[u8], stop: usize, stops: usize) {
 
 // The minute T or else the bound code q.
 fn print_when_fault(minute: usize, code: usize) {
-    if VERSION_ONE.latest < minute {
+    if VERSION_ONE.lastminute < minute {
         say_number(b"The query's minute is ", minute);
-        say_number(b", past the last minute of the week, ", VERSION_ONE.latest);
+        say_number(
+            b", past the last minute of the week, ",
+            VERSION_ONE.lastminute,
+        );
         say(b".\n");
         return;
     }

@@ -12,12 +12,12 @@ pub use journey::print_query_fault;
 
 // The reason for a refusal of the check, by its number and place.
 pub fn print_file_fault(file: &[u8], number: usize, place: usize) {
-    let head = broken::head_in(file);
+    let trailer = broken::trailer_in(file);
     match number {
-        1 => sizes::print_size_fault(file.len(), head),
-        2 => classes::print_layout_fault(file, head),
-        3 => classes::print_class_fault(file, head, place),
-        4 => rows::print_own_fault(file, head, place),
-        _ => rows::print_order_fault(file, head, place),
+        1 => sizes::print_size_fault(file.len(), trailer),
+        2 => classes::print_layout_fault(file, trailer),
+        3 => classes::print_class_fault(file, trailer, place),
+        4 => rows::print_own_fault(file, trailer, place),
+        _ => rows::print_order_fault(file, trailer, place),
     }
 }

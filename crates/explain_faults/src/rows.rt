@@ -4,21 +4,21 @@ use crate::broken::row_in;
 use explain_words::say;
 use explain_words::say_number;
 use explain_words::say_time;
-use file_layout::Head;
+use file_layout::Trailer;
 use file_layout::VERSION_ONE;
 use timetable::Row;
 use timetable::TRIPS;
 
 // 4: the first rule about itself alone that the row breaks.
-pub fn print_own_fault(file: &[u8], head: Head, place: usize) {
-    let row = row_in(file, head.rowstart, place);
+pub fn print_own_fault(file: &[u8], trailer: Trailer, place: usize) {
+    let row = row_in(file, trailer.rowstart, place);
     say_number(b"Row ", place);
-    if head.stops <= row.board {
-        say_too_high(b": boarding stop ", row.board, head.stops, b" stops");
+    if trailer.stops <= row.board {
+        say_too_high(b": boarding stop ", row.board, trailer.stops, b" stops");
         return;
     }
-    if head.stops <= row.land {
-        say_too_high(b": landing stop ", row.land, head.stops, b" stops");
+    if trailer.stops <= row.land {
+        say_too_high(b": landing stop ", row.land, trailer.stops, b" stops");
         return;
     }
     if row.board == row.land {
@@ -32,7 +32,7 @@ pub fn print_own_fault(file: &[u8], head: Head, place: usize) {
         say(b", not later.\n");
         return;
     }
-    if VERSION_ONE.latest < row.arrival {
+    if VERSION_ONE.lastminute < row.arrival {
         print_past_week(row);
         return;
     }
@@ -40,7 +40,7 @@ pub fn print_own_fault(file: &[u8], head: Head, place: usize) {
         say_too_high(b": trip ", row.trip, TRIPS, b" trips");
         return;
     }
-    say_too_high(b": class ", row.class, head.classes, b" classes");
+    say_too_high(b": class ", row.class, trailer.classes, b" classes");
 }
 
 // Numbers count from 0, so they stay below how many there are.
@@ -54,21 +54,24 @@ fn say_too_high(name: &[u8], found: usize, count: usize, things: &[u8]) {
 fn print_past_week(row: Row)
     requires { ⌜ SmallRow row ⌝ }
 {
-    if VERSION_ONE.latest < row.departure {
+    if VERSION_ONE.lastminute < row.departure {
         say_time(b" departs at ", row.departure);
     } else {
         say_time(b" arrives at ", row.arrival);
     }
-    say_time(b", past the last minute of the week, ", VERSION_ONE.latest);
+    say_time(
+        b", past the last minute of the week, ",
+        VERSION_ONE.lastminute,
+    );
     say(b".\n");
 }
 
 // 5: the row departs before the one ahead of it, or its trip breaks off.
-pub fn print_order_fault(file: &[u8], head: Head, place: usize) {
-    let row = row_in(file, head.rowstart, place);
+pub fn print_order_fault(file: &[u8], trailer: Trailer, place: usize) {
+    let row = row_in(file, trailer.rowstart, place);
     say_number(b"Row ", place);
     if 0 < place {
-        let ahead = row_in(file, head.rowstart, place - 1);
+        let ahead = row_in(file, trailer.rowstart, place - 1);
         if row.departure < ahead.departure {
             say_time(b" departs at ", row.departure);
             say_number(b", before row ", place - 1);
@@ -77,7 +80,7 @@ pub fn print_order_fault(file: &[u8], head: Head, place: usize) {
             return;
         }
     }
-    print_trip_fault(file, head.rowstart, place, row);
+    print_trip_fault(file, trailer.rowstart, place, row);
 }
 
 // The trip leaves from another stop than where it last landed, or before it lands.

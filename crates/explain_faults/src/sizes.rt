@@ -1,11 +1,11 @@
 // Refusal 1: file length, version, S, n or K outside its range.
 use explain_words::say;
 use explain_words::say_number;
-use file_layout::Head;
+use file_layout::Trailer;
 use file_layout::VERSION_ONE;
 
 // The first number that is out of its range.
-pub fn print_size_fault(length: usize, head: Head) {
+pub fn print_size_fault(length: usize, trailer: Trailer) {
     if length == 0 {
         say(b"The file sailings is missing or empty.\n");
         return;
@@ -28,30 +28,30 @@ pub fn print_size_fault(length: usize, head: Head) {
         );
         return;
     }
-    if head.version != VERSION_ONE.version {
-        say_number(b"The version is ", head.version);
+    if trailer.version != VERSION_ONE.version {
+        say_number(b"The version is ", trailer.version);
         say_number(b", but only version ", VERSION_ONE.version);
         say(b" is known.\n");
         return;
     }
-    print_count_fault(head);
+    print_count_fault(trailer);
 }
 
 // The first of S, n and K that is out of its range.
-fn print_count_fault(head: Head) {
-    if head.stops < 2 {
-        say_range(b"number of stops", head.stops, 2, 200);
+fn print_count_fault(trailer: Trailer) {
+    if trailer.stops < 2 {
+        say_range(b"number of stops", trailer.stops, 2, 200);
         return;
     }
-    if 200 < head.stops {
-        say_range(b"number of stops", head.stops, 2, 200);
+    if 200 < trailer.stops {
+        say_range(b"number of stops", trailer.stops, 2, 200);
         return;
     }
-    if 2000 < head.rows {
-        say_range(b"number of rows", head.rows, 0, 2000);
+    if 2000 < trailer.rows {
+        say_range(b"number of rows", trailer.rows, 0, 2000);
         return;
     }
-    say_range(b"number of classes", head.classes, 1, 16);
+    say_range(b"number of classes", trailer.classes, 1, 16);
 }
 
 fn say_range(name: &[u8], found: usize, least: usize, most: usize) {

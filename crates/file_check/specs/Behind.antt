@@ -3,7 +3,7 @@ use Prim.Native.Nat.{ℕ, zero, suc, _+_, _*_, _≤_}
 use mathlib.Core.List.{List, [], _∷_}
 use mathlib.Core.Option.{Option, none, some}
 use Rattle.timetable.specs.declared.Row.{Row}
-use Rattle.file_layout.specs.declared.Head.{Head}
+use Rattle.file_layout.specs.declared.Trailer.{Trailer}
 use Rattle.timetable.specs.Limits.{mostRows}
 use Rattle.file_layout.specs.Decode.{rowAt}
 use Rattle.file_check.specs.declared.Found.{Found}
@@ -20,7 +20,7 @@ found none = Nothing
 found (some r) = At r
 
 -- what reading the rows needs: they are few, each holds its numbers, and all lie within the file
-pub record RowsInside (width : ℕ) (h : Head) (end : ℕ) : Type 0 where
+pub record RowsInside (width : ℕ) (h : Trailer) (end : ℕ) : Type 0 where
   pub width-holds-row : 12 ≤ width
   pub few : h .rows ≤ mostRows
   pub inside : h .rowstart + width * h .rows ≤ end

@@ -1,4 +1,4 @@
-// Document 01, "Numbers returned on refusal": the check of a sailing file, its head and then row by row.
+// Document 01, "Numbers returned on refusal": the check of a sailing file, its sections and then row by row.
 ghost use mathlib.Core.Bool.{_&&_};
 ghost use mathlib.Core.List.{[]};
 ghost use mathlib.Core.Path.{_≡_};
@@ -12,11 +12,11 @@ ghost use Rattle.file_layout.specs.Check.{answered, checkedAs, checked};
 ghost use Rattle.file_check.specs.Behind.{rowsBehind, found, RowsInside};
 use file_layout::Checked;
 use file_layout::Format;
-use file_layout::Head;
-use file_sections::Headed;
+use file_layout::Trailer;
+use file_sections::Sections;
+use timetable::MOST_TRIPS;
 use timetable::Ranges;
 use timetable::Row;
-use timetable::TRIPS;
 
 // The nearest earlier row of a trip, if there is one.
 enum Found {
@@ -31,33 +31,33 @@ pub fn check(file: &[u8]) -> Checked
     check_as(file, file_layout::VERSION_ONE)
 }
 
-// The check of a file of a version: the head, then the rows.
-fn check_as(file: &[u8], f: Format) -> Checked
+// The check of a file of a version: trailer and sections, then the rows.
+pub fn check_as(file: &[u8], f: Format) -> Checked
     requires { ⌜ Readable f ⌝ }
     ensures { λ r. ⌜ r ≡ checkedAs f (now (file .entry)) ⌝ }
 {
-    let headed = file_sections::head(file, f);
-    match headed {
-        Headed::Bad { number, place } => Checked::Refused { number, place },
-        Headed::Good { head } => {
+    let sections = file_sections::read_sections(file, f);
+    match sections {
+        Sections::Fault { number, place } => Checked::Refused { number, place },
+        Sections::Joined { trailer } => {
             let ranges = Ranges {
-                stops: head.stops,
-                classes: head.classes,
-                latest: f.latest,
+                stops: trailer.stops,
+                classes: trailer.classes,
+                lastminute: f.lastminute,
             };
-            check_rows(file, head, f.width, ranges)
+            check_rows(file, trailer, f.width, ranges)
         }
     }
 }
 
 // Row by row, 4 before 5. `seen` has, for each trip, the number of rows up to its last one so far.
-fn check_rows(file: &[u8], head: Head, width: usize, ranges: Ranges) -> Checked
-    requires { ⌜ RowsInside width head (length (now file)) ⌝ }
-    ensures { λ r. ⌜ r ≡ answered head (rowsVerdict ranges [] 0 (rowsFrom width (now (file .entry)) (head .rowstart) (head .rows))) ⌝ }
+fn check_rows(file: &[u8], trailer: Trailer, width: usize, ranges: Ranges) -> Checked
+    requires { ⌜ RowsInside width trailer (length (now file)) ⌝ }
+    ensures { λ r. ⌜ r ≡ answered trailer (rowsVerdict ranges [] 0 (rowsFrom width (now (file .entry)) (trailer .rowstart) (trailer .rows))) ⌝ }
 {
-    let start = head.rowstart;
-    let count = head.rows;
-    let mut seen = [0u16; TRIPS];
+    let start = trailer.rowstart;
+    let count = trailer.rows;
+    let mut seen = [0u16; MOST_TRIPS];
     let mut departure = 0;
     let mut at = start;
     let mut i = 0;
@@ -81,11 +81,7 @@ fn check_rows(file: &[u8], head: Head, width: usize, ranges: Ranges) -> Checked
         i += 1;
         seen[trip] = i as u16;
     }
-    Checked::Sound {
-        stops: head.stops,
-        rows: count,
-        classes: head.classes,
-    }
+    Checked::Sound { trailer }
 }
 
 // The rule of departures, then that of the trip, whose earlier rows are among the first `count`.

@@ -8,19 +8,19 @@ use lib.ListN.{length, drop}
 use Rattle.laws.proofs.Lists.{drop-past}
 use Rattle.timetable.specs.Timetable.{Timetable}
 use Rattle.file_layout.specs.declared.Format.{Format}
-use Rattle.file_layout.specs.declared.Head.{Head}
+use Rattle.file_layout.specs.declared.Trailer.{Trailer}
 use Rattle.numbers.specs.Numbers.{u16At, u32At, u16Bytes, u32Bytes}
-use Rattle.file_layout.specs.Decode.{trailerAt, headAt, headOf, rowsFrom, tablesFrom, decode}
+use Rattle.file_layout.specs.Decode.{trailerStart, trailerAt, trailerOf, rowsFrom, tablesFrom, decode}
 use Rattle.file_encoding.specs.Encode.{rowsBytes, tablesBytes, trailerBytes, encode}
-use Rattle.file_encoding.specs.Writable.{Writable, tablesSize, fileSize, headFor}
+use Rattle.file_encoding.specs.Writable.{Writable, tablesSize, fileSize, trailerFor}
 use Rattle.numbers.proofs.Bytes.{u16-value, u32-value, u16-here, u16-from, u32-from}
 use Rattle.file_encoding.proofs.Sizes.{rows-size, tables-size, length-encode}
 use Rattle.file_encoding.proofs.Written.{rows-written, tables-written}
 
--- heads are equal by their six numbers
-pub same-head : (g h : Head) → g .version ≡ h .version → g .stops ≡ h .stops → g .rows ≡ h .rows → g .classes ≡ h .classes
+-- trailers are equal by their six numbers
+pub same-trailer : (g h : Trailer) → g .version ≡ h .version → g .stops ≡ h .stops → g .rows ≡ h .rows → g .classes ≡ h .classes
     → g .rowstart ≡ h .rowstart → g .tablestart ≡ h .tablestart → g ≡ h
-same-head g h version stops rows classes rowstart tablestart =
+same-trailer g h version stops rows classes rowstart tablestart =
     λ i. record {
       version = version i;
       stops = stops i;
@@ -30,9 +30,9 @@ same-head g h version stops rows classes rowstart tablestart =
       tablestart = tablestart i;
     }
 
-head-here : (s : List ℕ) (at : ℕ) → headAt s at ≡ headAt (drop at s) 0
-unfolding headAt
-head-here s at =
+trailer-from : (s : List ℕ) (at : ℕ) → trailerAt s at ≡ trailerAt (drop at s) 0
+unfolding trailerAt
+trailer-from s at =
     cc (u16-here s at, u16-from s at 2, u16-from s at 4, u16-from s at 6, u32-from s at 8, u32-from s at 12)
 
 -- a table offset, and that it never needs more than four bytes
@@ -42,12 +42,12 @@ rows-end f t w = ap (λ (n : ℕ). n * length (t .rows)) (w .plain .width)
 reach : (f : Format) (t : Timetable) → Writable f t → f .width * length (t .rows) < 4294967296
 reach f t w = omega (arith, rows-end f t w, w .rows)
 
-trailer-read : (f : Format) (t : Timetable) → Writable f t → headAt (trailerBytes f t) 0 ≡ headFor f t
-unfolding headAt u16At u32At trailerBytes u16Bytes u32Bytes headFor
+trailer-read : (f : Format) (t : Timetable) → Writable f t → trailerAt (trailerBytes f t) 0 ≡ trailerFor f t
+unfolding trailerAt u16At u32At trailerBytes u16Bytes u32Bytes trailerFor
 trailer-read f t w =
-    same-head
-    (headAt (trailerBytes f t) 0)
-    (headFor f t)
+    same-trailer
+    (trailerAt (trailerBytes f t) 0)
+    (trailerFor f t)
     (u16-value (f .version) (w .version))
     (u16-value (t .stops) (w .stops))
     (u16-value (length (t .rows)) (w .rows))
@@ -70,16 +70,16 @@ trailer-here f t =
     ∙ drop-past (encode f t) (12 * length (t .rows)) (tablesBytes (t .tables)) (trailerBytes f t) (tables-here f t)
 
 pub trailer-at : (f : Format) (t : Timetable) → Writable f t
-    → trailerAt f (encode f t) ≡ 12 * length (t .rows) + tablesSize (t .tables)
-unfolding trailerAt fileSize
+    → trailerStart f (encode f t) ≡ 12 * length (t .rows) + tablesSize (t .tables)
+unfolding trailerStart fileSize
 trailer-at f t w = omega (arith, length-encode f t, w .plain .trailer)
 
-pub head-encode : (f : Format) (t : Timetable) → Writable f t → headOf f (encode f t) ≡ headFor f t
-unfolding headOf
-head-encode f t w =
-    ap (headAt (encode f t)) (trailer-at f t w)
-    ∙ head-here (encode f t) (12 * length (t .rows) + tablesSize (t .tables))
-    ∙ ap (λ (l : List ℕ). headAt l 0) (trailer-here f t)
+pub trailer-encode : (f : Format) (t : Timetable) → Writable f t → trailerOf f (encode f t) ≡ trailerFor f t
+unfolding trailerOf
+trailer-encode f t w =
+    ap (trailerAt (encode f t)) (trailer-at f t w)
+    ∙ trailer-from (encode f t) (12 * length (t .rows) + tablesSize (t .tables))
+    ∙ ap (λ (l : List ℕ). trailerAt l 0) (trailer-here f t)
     ∙ trailer-read f t w
 
 pub rows-encode : (f : Format) (t : Timetable) → Writable f t → rowsFrom (f .width) (encode f t) 0 (length (t .rows)) ≡ t .rows
@@ -104,8 +104,8 @@ tables-encode f t w =
     (w .each-table)
     (tables-start f t w)
 
--- what a file with this head decodes to
-under : Format → List ℕ → Head → Timetable
+-- what a file with this trailer decodes to
+under : Format → List ℕ → Trailer → Timetable
 under f s h =
     record {
       stops = h .stops;
@@ -115,7 +115,7 @@ under f s h =
 
 -- what was written is read
 pub decode-encode : (f : Format) (t : Timetable) → Writable f t → decode f (encode f t) ≡ t
-unfolding decode under headFor
+unfolding decode under trailerFor
 decode-encode f t w =
-    ap (under f (encode f t)) (head-encode f t w)
+    ap (under f (encode f t)) (trailer-encode f t w)
     ∙ (λ i. record { stops = t .stops; rows = rows-encode f t w i; tables = tables-encode f t w i })

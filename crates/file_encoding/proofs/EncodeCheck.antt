@@ -1,4 +1,4 @@
--- What the check says of a written file: the head is fine, and the answer is the verdict on the timetable's own rows. Assumes nothing.
+-- What the check says of a written file: the trailer is fine, and the answer is the verdict on the timetable's own rows. Assumes nothing.
 use Prim.Native.Nat.{ℕ, suc, _+_, _*_, _<_, _≤_, suc-le-suc}
 use mathlib.Core.Bool.{true}
 use mathlib.Core.List.{List, [], _∷_, _++_}
@@ -15,18 +15,18 @@ use Rattle.timetable.specs.Verdict.{fine}
 use Rattle.timetable.specs.Classes.{sharesRule}
 use Rattle.timetable.specs.Rows.{rowsVerdict}
 use Rattle.file_layout.specs.declared.Format.{Format}
-use Rattle.file_layout.specs.declared.Head.{Head}
+use Rattle.file_layout.specs.declared.Trailer.{Trailer}
 use Rattle.file_layout.specs.declared.Checked.the-variants.{Sound}
 use Rattle.timetable.specs.Limits.{fewestStops, mostStops, mostRows, fewestClasses, mostClasses}
 use Rattle.numbers.specs.Numbers.{u16At}
-use Rattle.file_layout.specs.Decode.{trailerAt, headOf, tableAt, blockEnd, tablesEnd}
-use Rattle.file_layout.specs.Check.{lengthRule, headRule, classVerdict, classesVerdict, sectionsJoin, joined, headVerdict, rangesOf, fileVerdict, answered, checkedAs}
+use Rattle.file_layout.specs.Decode.{trailerStart, trailerOf, tableAt, blockEnd, tablesEnd}
+use Rattle.file_layout.specs.Check.{lengthRule, trailerRule, classVerdict, classesVerdict, sectionsJoin, joined, sectionsVerdict, rangesOf, fileVerdict, answered, checkedAs}
 use Rattle.file_encoding.specs.Encode.{tablesBytes, trailerBytes, encode}
-use Rattle.file_encoding.specs.Writable.{Writable, WritableTable, WithinLimits, blockSize, tablesSize, headFor}
+use Rattle.file_encoding.specs.Writable.{Writable, WritableTable, WithinLimits, blockSize, tablesSize, trailerFor}
 use Rattle.file_layout.proofs.Sound.{sound-checked}
 use Rattle.file_encoding.proofs.Sizes.{length-encode}
 use Rattle.file_encoding.proofs.Written.{BlockAt, first-block, tables-end}
-use Rattle.file_encoding.proofs.Encode.{rows-end, trailer-at, head-encode, tables-start, decode-encode}
+use Rattle.file_encoding.proofs.Encode.{rows-end, trailer-at, trailer-encode, tables-start, decode-encode}
 
 -- a class block that ends by `end` and keeps its rules is fine
 class-fine : (f : Format) (s : List ℕ) (end k at : ℕ) (shares rest : List ℕ)
@@ -78,9 +78,9 @@ length-fine f t r =
     (le-leb (f .shortest) (length (encode f t)) (omega (arith, r .not-short)))
     (le-leb (length (encode f t)) (f .longest) (omega (arith, r .not-long)))
 
-head-fine : (f : Format) (t : Timetable) → WithinLimits f t → headRule f (headFor f t) ≡ true
-unfolding headRule headFor
-head-fine f t r =
+ranges-fine : (f : Format) (t : Timetable) → WithinLimits f t → trailerRule f (trailerFor f t) ≡ true
+unfolding trailerRule trailerFor
+ranges-fine f t r =
     both
     (both
     (both
@@ -99,8 +99,8 @@ rows-first rowsEnd tables ends end p q =
     let finish = eq-eqb ends end q in
     cc
 
-join-fine : (f : Format) (t : Timetable) → Writable f t → joined f (encode f t) (headFor f t) ≡ true
-unfolding joined headFor
+join-fine : (f : Format) (t : Timetable) → Writable f t → joined f (encode f t) (trailerFor f t) ≡ true
+unfolding joined trailerFor
 join-fine f t w =
     let start = f .width * length (t .rows) in
     let ends = tables-end (t .tables) (encode f t) start (trailerBytes f t) (w .each-table) (tables-start f t w) in
@@ -108,18 +108,18 @@ join-fine f t w =
     (0 + start)
     start
     (tablesEnd (encode f t) start (length (t .tables)))
-    (trailerAt f (encode f t))
+    (trailerStart f (encode f t))
     (omega arith)
     (omega (arith, ends, rows-end f t w, trailer-at f t w))
 
 tables-fine : (f : Format) (t : Timetable) → Writable f t → WithinLimits f t
-    → classesVerdict f (encode f t) (trailerAt f (encode f t)) 0 (f .width * length (t .rows)) (length (t .tables)) ≡ fine
+    → classesVerdict f (encode f t) (trailerStart f (encode f t)) 0 (f .width * length (t .rows)) (length (t .tables)) ≡ fine
 tables-fine f t w r =
     classes-fine
     (t .tables)
     f
     (encode f t)
-    (trailerAt f (encode f t))
+    (trailerStart f (encode f t))
     0
     (f .width * length (t .rows))
     (trailerBytes f t)
@@ -129,51 +129,49 @@ tables-fine f t w r =
     (omega (arith, rows-end f t w, trailer-at f t w))
     (tables-start f t w)
 
--- a head whose every rule is kept is fine
-rules-kept : (f : Format) (s : List ℕ) (h : Head) → headOf f s ≡ h → lengthRule f s ≡ true → headRule f h ≡ true
-    → classesVerdict f s (trailerAt f s) 0 (h .tablestart) (h .classes) ≡ fine → joined f s h ≡ true → headVerdict f s ≡ fine
-unfolding headVerdict
-rules-kept f s h head sized ranged classes joins = cc
+-- a trailer whose every rule is kept is fine
+rules-kept : (f : Format) (s : List ℕ) (h : Trailer) → trailerOf f s ≡ h → lengthRule f s ≡ true → trailerRule f h ≡ true
+    → classesVerdict f s (trailerStart f s) 0 (h .tablestart) (h .classes) ≡ fine → joined f s h ≡ true → sectionsVerdict f s ≡ fine
+unfolding sectionsVerdict
+rules-kept f s h trailer sized ranged classes joins = cc
 
-pub head-accepted : (f : Format) (t : Timetable) → Writable f t → WithinLimits f t → headVerdict f (encode f t) ≡ fine
-unfolding headFor
-head-accepted f t w r =
+pub sections-accepted : (f : Format) (t : Timetable) → Writable f t → WithinLimits f t → sectionsVerdict f (encode f t) ≡ fine
+unfolding trailerFor
+sections-accepted f t w r =
     rules-kept
     f
     (encode f t)
-    (headFor f t)
-    (head-encode f t w)
+    (trailerFor f t)
+    (trailer-encode f t w)
     (length-fine f t r)
-    (head-fine f t r)
+    (ranges-fine f t r)
     (tables-fine f t w r)
     (join-fine f t w)
 
 pub verdict-encode : (f : Format) (t : Timetable) → Writable f t → WithinLimits f t
-    → fileVerdict f (encode f t) ≡ rowsVerdict (rangesOf f (headFor f t)) [] 0 (t .rows)
+    → fileVerdict f (encode f t) ≡ rowsVerdict (rangesOf f (trailerFor f t)) [] 0 (t .rows)
 unfolding fileVerdict
 verdict-encode f t w r =
-    let head = head-encode f t w in
-    let accepted = head-accepted f t w r in
+    let trailer = trailer-encode f t w in
+    let accepted = sections-accepted f t w r in
     let read = decode-encode f t w in
     cc
 
 -- the answer is the verdict on the timetable's own rows
 pub check-encode : (f : Format) (t : Timetable) → Writable f t → WithinLimits f t
-    → checkedAs f (encode f t) ≡ answered (headFor f t) (rowsVerdict (rangesOf f (headFor f t)) [] 0 (t .rows))
+    → checkedAs f (encode f t) ≡ answered (trailerFor f t) (rowsVerdict (rangesOf f (trailerFor f t)) [] 0 (t .rows))
 unfolding checkedAs
 check-encode f t w r =
-    let head = head-encode f t w in
+    let trailer = trailer-encode f t w in
     let verdict = verdict-encode f t w r in
     cc
 
 -- a written file is sound exactly if its rows are fine
 pub sound-encode : (f : Format) (t : Timetable) → Writable f t → WithinLimits f t
-    → (checkedAs f (encode f t) ≡ Sound (t .stops) (length (t .rows)) (length (t .tables)))
-    ↔ (rowsVerdict (rangesOf f (headFor f t)) [] 0 (t .rows) ≡ fine)
-unfolding answered headFor
+    → (checkedAs f (encode f t) ≡ Sound (trailerFor f t))
+    ↔ (rowsVerdict (rangesOf f (trailerFor f t)) [] 0 (t .rows) ≡ fine)
+unfolding answered trailerFor
 sound-encode f t w r = (
-  (λ sound.
-      sym (verdict-encode f t w r)
-      ∙ sound-checked f (encode f t) (t .stops) (length (t .rows)) (length (t .tables)) sound .0),
-  (λ rows. check-encode f t w r ∙ ap (answered (headFor f t)) rows),
+  (λ sound. sym (verdict-encode f t w r) ∙ sound-checked f (encode f t) (trailerFor f t) sound .0),
+  (λ rows. check-encode f t w r ∙ ap (answered (trailerFor f t)) rows),
 )

@@ -7,10 +7,10 @@ use native.Mathlib.Omega.{arith}
 use lib.ListN.{length, drop}
 use lib.Seq.{drop-length}
 use Rattle.timetable.specs.Timetable.{longest}
-use Rattle.file_layout.specs.declared.Head.{Head}
+use Rattle.file_layout.specs.declared.Trailer.{Trailer}
 use Rattle.numbers.specs.Bytes.{Bytes}
 use Rattle.numbers.specs.Numbers.{u16At, u32At, u16Bytes, u32Bytes}
-use Rattle.file_layout.specs.Decode.{headAt, rowAt, rowsFrom, sharesFrom, tableAt, blockEnd, tablesFrom, tablesEnd}
+use Rattle.file_layout.specs.Decode.{trailerAt, rowAt, rowsFrom, sharesFrom, tableAt, blockEnd, tablesFrom, tablesEnd}
 use Rattle.file_encoding.specs.Encode.{rowBytes, rowsBytes, sharesBytes, tableBytes, tablesBytes}
 use Rattle.file_layout.proofs.Blocks.{shares-length, tables-forward}
 use Rattle.numbers.proofs.Bytes.{u16-again, u32-again}
@@ -71,14 +71,14 @@ tables-again s at (suc k) b h =
     ∙ table-again s at b (omega (arith, tables-forward s next k))
 
 -- the trailer's bytes from its numbers
-unfoldable pub headBytes : Head → List ℕ
-headBytes h =
+unfoldable pub bytesOfTrailer : Trailer → List ℕ
+bytesOfTrailer h =
     u16Bytes (h .version) ++ (u16Bytes (h .stops) ++ (u16Bytes (h .rows) ++ (u16Bytes (h .classes)
     ++ (u32Bytes (h .rowstart) ++ u32Bytes (h .tablestart)))))
 
-pub head-again : (s : List ℕ) (at : ℕ) → Bytes s → at + 16 ≡ length s → headBytes (headAt s at) ≡ drop at s
-unfolding headBytes headAt
-head-again s at b e =
+pub trailer-reread : (s : List ℕ) (at : ℕ) → Bytes s → at + 16 ≡ length s → bytesOfTrailer (trailerAt s at) ≡ drop at s
+unfolding bytesOfTrailer trailerAt
+trailer-reread s at b e =
     let nothing : [] ≡ drop (at + 16) s = sym (drop-length s) ∙ ap (λ (n : ℕ). drop n s) (sym e) in
     u16-again s at (at + 2) b refl (omega arith)
     (u16-again s (at + 2) (at + 4) b (omega arith) (omega arith)

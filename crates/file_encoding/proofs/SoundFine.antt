@@ -15,23 +15,21 @@ use Rattle.timetable.specs.Rows.{rowsVerdict}
 use Rattle.timetable.proofs.Verdicts.{both-fine, holding-fine}
 use Rattle.timetable.proofs.RowsFine.{rows-fine}
 use Rattle.file_layout.specs.declared.Format.{Format}
-use Rattle.file_layout.specs.declared.Head.{Head}
+use Rattle.file_layout.specs.declared.Trailer.{Trailer}
 use Rattle.timetable.specs.Limits.{fewestStops, mostStops, mostRows, fewestClasses, mostClasses}
 use Rattle.numbers.specs.Numbers.{u16At}
-use Rattle.file_layout.specs.Decode.{trailerAt, headOf, tableAt, blockEnd, tablesEnd, decode}
-use Rattle.file_layout.specs.Check.{lengthRule, headRule, classVerdict, classesVerdict, sectionsJoin, joined, headVerdict, rangesOf, fileVerdict}
-use Rattle.file_layout.proofs.Blocks.{blockAt, ClassSound}
-use Rattle.file_layout.proofs.HeadSound.{InRange, Sections, HeadSound}
-use Rattle.file_layout.proofs.Sound.{SoundFile, heldTo}
+use Rattle.file_layout.specs.Decode.{trailerStart, trailerOf, tableAt, blockEnd, tablesEnd, decode}
+use Rattle.file_layout.specs.Check.{lengthRule, trailerRule, classVerdict, classesVerdict, sectionsJoin, joined, sectionsVerdict, rangesOf, fileVerdict}
+use Rattle.file_layout.specs.Sound.{blockAt, ClassSound, InRange, Joins, TrailerSound, SoundFile}
 
-length-rule-kept : (f : Format) (s : List ℕ) (h : Head) → InRange f s h → lengthRule f s ≡ true
+length-rule-kept : (f : Format) (s : List ℕ) (h : Trailer) → InRange f s h → lengthRule f s ≡ true
 unfolding lengthRule
 length-rule-kept f s h range =
     both (le-leb (f .shortest) (length s) (range .not-short)) (le-leb (length s) (f .longest) (range .not-long))
 
-head-rule-kept : (f : Format) (s : List ℕ) (h : Head) → InRange f s h → headRule f h ≡ true
-unfolding headRule
-head-rule-kept f s h range =
+trailer-rule-kept : (f : Format) (s : List ℕ) (h : Trailer) → InRange f s h → trailerRule f h ≡ true
+unfolding trailerRule
+trailer-rule-kept f s h range =
     both (both (both (both (both (eq-eqb (h .version) (f .version) (range .version)) (le-leb fewestStops (h .stops) (range .stops-least)))
     (le-leb (h .stops) mostStops (range .stops-most))) (le-leb (h .rows) mostRows (range .rows-most)))
     (le-leb fewestClasses (h .classes) (range .classes-least))) (le-leb (h .classes) mostClasses (range .classes-most))
@@ -62,7 +60,7 @@ classes-fine f s end k at (suc left) sound =
     (class-fine f s end k at (sound 0 (omega arith)))
     (classes-fine f s end (suc k) (blockEnd s at) left (λ j h. sound (suc j) (omega arith)))
 
-sections-join : (rows rowsEnd tables ends end : ℕ) → Sections rows rowsEnd tables ends end
+sections-join : (rows rowsEnd tables ends end : ℕ) → Joins rows rowsEnd tables ends end
     → sectionsJoin rows rowsEnd tables ends end ≡ true
 unfolding sectionsJoin
 sections-join rows rowsEnd tables ends end (inl j) =
@@ -73,30 +71,30 @@ sections-join rows rowsEnd tables ends end (inr j) =
     ifb (λ first. (first || (eqb tables 0 && eqb rows ends && eqb rowsEnd end)) ≡ true)
     (eqb rows 0 && eqb tables rowsEnd && eqb ends end) (λ e. refl) (λ e. second)
 
-head-joined : (f : Format) (s : List ℕ) → HeadSound f s → joined f s (headOf f s) ≡ true
+sections-joined : (f : Format) (s : List ℕ) → TrailerSound f s → joined f s (trailerOf f s) ≡ true
 unfolding joined
-head-joined f s sound =
-    let h = headOf f s in
+sections-joined f s sound =
+    let h = trailerOf f s in
     sections-join (h .rowstart) (h .rowstart + f .width * h .rows) (h .tablestart) (tablesEnd s (h .tablestart) (h .classes))
-    (trailerAt f s) (sound .sections)
+    (trailerStart f s) (sound .sections)
 
--- a head that keeps all rules is fine
-pub head-fine : (f : Format) (s : List ℕ) → HeadSound f s → headVerdict f s ≡ fine
-unfolding headVerdict
-head-fine f s sound =
-    let h = headOf f s in
-    let classes = classesVerdict f s (trailerAt f s) 0 (h .tablestart) (h .classes) in
+-- a trailer that keeps all rules is fine
+pub sections-fine : (f : Format) (s : List ℕ) → TrailerSound f s → sectionsVerdict f s ≡ fine
+unfolding sectionsVerdict
+sections-fine f s sound =
+    let h = trailerOf f s in
+    let classes = classesVerdict f s (trailerStart f s) 0 (h .tablestart) (h .classes) in
     let join = unless (joined f s h) 2 0 in
-    let range = unless (headRule f h) 1 0 in
+    let range = unless (trailerRule f h) 1 0 in
     both-fine (unless (lengthRule f s) 1 0) (orElse range (orElse classes join))
     (holding-fine (lengthRule f s) 1 0 (length-rule-kept f s h (sound .in-range)))
-    (both-fine range (orElse classes join) (holding-fine (headRule f h) 1 0 (head-rule-kept f s h (sound .in-range)))
-    (both-fine classes join (classes-fine f s (trailerAt f s) 0 (h .tablestart) (h .classes) (sound .class-sound))
-    (holding-fine (joined f s h) 2 0 (head-joined f s sound))))
+    (both-fine range (orElse classes join) (holding-fine (trailerRule f h) 1 0 (trailer-rule-kept f s h (sound .in-range)))
+    (both-fine classes join (classes-fine f s (trailerStart f s) 0 (h .tablestart) (h .classes) (sound .class-sound))
+    (holding-fine (joined f s h) 2 0 (sections-joined f s sound))))
 
 -- a file that keeps all rules is fine
 pub sound-fine : (f : Format) (s : List ℕ) → SoundFile f s → fileVerdict f s ≡ fine
-unfolding fileVerdict rangesOf
+unfolding fileVerdict
 sound-fine f s sound =
-    both-fine (headVerdict f s) (rowsVerdict (heldTo f (headOf f s)) [] 0 (decode f s .rows)) (head-fine f s (sound .head))
-    (rows-fine (heldTo f (headOf f s)) (decode f s .rows) (sound .rows))
+    both-fine (sectionsVerdict f s) (rowsVerdict (rangesOf f (trailerOf f s)) [] 0 (decode f s .rows)) (sections-fine f s (sound .trailer))
+    (rows-fine (rangesOf f (trailerOf f s)) (decode f s .rows) (sound .rows))

@@ -7,7 +7,7 @@ use lib.ListN.{length, getD}
 use Rattle.timetable.specs.Timetable.{Timetable, longest, rowOf, sharesOf}
 use Rattle.timetable.specs.Classes.{sharesRule}
 use Rattle.file_layout.specs.declared.Format.{Format}
-use Rattle.file_layout.specs.declared.Head.{Head}
+use Rattle.file_layout.specs.declared.Trailer.{Trailer}
 use Rattle.timetable.specs.Limits.{fewestStops, mostStops, mostRows, fewestClasses, mostClasses}
 use Rattle.file_layout.specs.Small.{SmallRow}
 
@@ -44,8 +44,8 @@ unfoldable pub fileSize : Timetable → ℕ
 fileSize t = 12 * length (t .rows) + (tablesSize (t .tables) + 16)
 
 -- the trailer's numbers, once written
-unfoldable pub headFor : Format → Timetable → Head
-headFor f t =
+unfoldable pub trailerFor : Format → Timetable → Trailer
+trailerFor f t =
     record {
       version = f .version;
       stops = t .stops;

@@ -15,20 +15,7 @@ use Rattle.file_layout.specs.declared.Format.{Format}
 use Rattle.numbers.specs.Numbers.{u16At}
 use Rattle.file_layout.specs.Decode.{sharesFrom, tableAt, blockEnd, tablesFrom, tablesEnd}
 use Rattle.file_layout.specs.Check.{classVerdict, classesVerdict}
-
--- the byte where the k-th class block from `at` on starts
-unfoldable pub blockAt : List ℕ → ℕ → ℕ → ℕ
-blockAt s at zero = at
-blockAt s at (suc k) = blockAt s (blockEnd s at) k
-
--- a block that starts at `at` and keeps every rule of a class, ahead of the trailer's start `end`
-pub record ClassSound (f : Format) (s : List ℕ) (end at : ℕ) : Type 0 where
-  pub delay-inside : at + 2 ≤ end
-  pub delay-small : u16At s at ≤ f .delay
-  pub block-inside : blockEnd s at ≤ end
-  pub table-length : length (tableAt s at) ≡ suc (u16At s at)
-  pub shares-whole : sum (tableAt s at) ≡ whole
-  pub last-counts : 1 ≤ lastShare (tableAt s at)
+use Rattle.file_layout.specs.Sound.{blockAt, ClassSound}
 
 pub shares-length : (s : List ℕ) (at n : ℕ) → length (sharesFrom s at n) ≡ n
 unfolding sharesFrom

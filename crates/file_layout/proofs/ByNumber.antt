@@ -4,7 +4,7 @@ use mathlib.Core.List.{List, [], _∷_}
 use mathlib.Core.Path.{_≡_, ap}
 use Rattle.timetable.specs.Verdict.{fine, fault}
 use Rattle.file_layout.specs.Format.{versionOne}
-use Rattle.file_layout.specs.Decode.{headOf}
+use Rattle.file_layout.specs.Decode.{trailerOf}
 use Rattle.file_layout.specs.Check.{answerOf, fileVerdict, checkedAs, checked}
 use Rattle.file_layout.proofs.Sound.{fine-answered, fault-answered}
 
@@ -14,7 +14,7 @@ pub sound-by-number : (s : List ℕ) → fileVerdict versionOne s ≡ fine
     ≡ record {
       number = 0;
       place = 0;
-      values = headOf versionOne s .stops ∷ headOf versionOne s .rows ∷ headOf versionOne s .classes ∷ [];
+      values = trailerOf versionOne s .stops ∷ trailerOf versionOne s .rows ∷ trailerOf versionOne s .classes ∷ [];
     }
 unfolding checked answerOf
 sound-by-number s e = ap answerOf (fine-answered versionOne s e)

@@ -6,12 +6,13 @@ use mathlib.Core.Path.{_≡_, refl}
 use lib.ListN.{replicate}
 use Rattle.timetable.specs.Verdict.{fine, fault}
 use Rattle.timetable.specs.Classes.{sum, sharesRule}
-use Rattle.file_layout.specs.declared.Head.{Head}
+use Rattle.timetable.specs.Rows.{ownRule}
+use Rattle.file_layout.specs.declared.Trailer.{Trailer}
 use Rattle.file_layout.specs.declared.Checked.the-variants.{Sound, Refused}
 use Rattle.file_layout.specs.Format.{versionOne}
 use Rattle.numbers.specs.Numbers.{u16At, u32At}
 use Rattle.file_layout.specs.Decode.{sharesFrom, tableAt, blockEnd}
-use Rattle.file_layout.specs.Check.{lengthRule, headRule, classVerdict, classesVerdict, sectionsJoin, answerOf}
+use Rattle.file_layout.specs.Check.{lengthRule, trailerRule, rangesOf, classVerdict, classesVerdict, sectionsJoin, answerOf}
 
 -- file length: 20 to 27,920 bytes
 pub lengths : (lengthRule versionOne (replicate 19 0) ≡ false) × (lengthRule versionOne (replicate 20 0) ≡ true)
@@ -20,31 +21,37 @@ unfolding lengthRule
 lengths = (refl, refl, refl, refl)
 
 -- a trailer by its first four numbers
-abbrev numbers : (version stops rows classes : ℕ) → Head
+abbrev numbers : (version stops rows classes : ℕ) → Trailer
 numbers v s n k = record { version = v; stops = s; rows = n; classes = k; rowstart = 0; tablestart = 0 }
 
 -- version 1
-pub version-line : (headRule versionOne (numbers 0 2 0 1) ≡ false) × (headRule versionOne (numbers 1 2 0 1) ≡ true)
-    × (headRule versionOne (numbers 2 2 0 1) ≡ false)
-unfolding headRule
+pub version-line : (trailerRule versionOne (numbers 0 2 0 1) ≡ false) × (trailerRule versionOne (numbers 1 2 0 1) ≡ true)
+    × (trailerRule versionOne (numbers 2 2 0 1) ≡ false)
+unfolding trailerRule
 version-line = (refl, refl, refl)
 
 -- S is 2 to 200
-pub stops-line : (headRule versionOne (numbers 1 1 0 1) ≡ false) × (headRule versionOne (numbers 1 2 0 1) ≡ true)
-    × (headRule versionOne (numbers 1 200 0 1) ≡ true) × (headRule versionOne (numbers 1 201 0 1) ≡ false)
-unfolding headRule
+pub stops-line : (trailerRule versionOne (numbers 1 1 0 1) ≡ false) × (trailerRule versionOne (numbers 1 2 0 1) ≡ true)
+    × (trailerRule versionOne (numbers 1 200 0 1) ≡ true) × (trailerRule versionOne (numbers 1 201 0 1) ≡ false)
+unfolding trailerRule
 stops-line = (refl, refl, refl, refl)
 
 -- n is 0 to 2,000
-pub rows-line : (headRule versionOne (numbers 1 2 2000 1) ≡ true) × (headRule versionOne (numbers 1 2 2001 1) ≡ false)
-unfolding headRule
+pub rows-line : (trailerRule versionOne (numbers 1 2 2000 1) ≡ true) × (trailerRule versionOne (numbers 1 2 2001 1) ≡ false)
+unfolding trailerRule
 rows-line = (refl, refl)
 
 -- K is 1 to 16
-pub classes-line : (headRule versionOne (numbers 1 2 0 0) ≡ false) × (headRule versionOne (numbers 1 2 0 1) ≡ true)
-    × (headRule versionOne (numbers 1 2 0 16) ≡ true) × (headRule versionOne (numbers 1 2 0 17) ≡ false)
-unfolding headRule
+pub classes-line : (trailerRule versionOne (numbers 1 2 0 0) ≡ false) × (trailerRule versionOne (numbers 1 2 0 1) ≡ true)
+    × (trailerRule versionOne (numbers 1 2 0 16) ≡ true) × (trailerRule versionOne (numbers 1 2 0 17) ≡ false)
+unfolding trailerRule
 classes-line = (refl, refl, refl, refl)
+
+-- minutes in rows are 0 to 10,079
+pub last-minute : (ownRule (rangesOf versionOne (numbers 1 2 0 1)) (record { board = 0; land = 1; departure = 0; arrival = 10079; trip = 0; class = 0 }) ≡ true)
+    × (ownRule (rangesOf versionOne (numbers 1 2 0 1)) (record { board = 0; land = 1; departure = 0; arrival = 10080; trip = 0; class = 0 }) ≡ false)
+unfolding ownRule
+last-minute = (refl, refl)
 
 -- two sections in either order, and with no row both ways
 pub either-order : (sectionsJoin 0 48 48 76 76 ≡ true) × (sectionsJoin 28 76 0 28 76 ≡ true)
@@ -82,7 +89,7 @@ unfolding classesVerdict classVerdict u16At blockEnd tableAt sharesFrom sharesRu
 class-by-class = (refl, refl, refl, refl)
 
 -- The check answers a sound file with S, n and K; a refusal carries its number and place and nothing else
-pub answers : (answerOf (Sound 3 4 2) ≡ record { number = 0; place = 0; values = 3 ∷ 4 ∷ 2 ∷ [] })
+pub answers : (answerOf (Sound (numbers 1 3 4 2)) ≡ record { number = 0; place = 0; values = 3 ∷ 4 ∷ 2 ∷ [] })
     × (answerOf (Refused 5 7) ≡ record { number = 5; place = 7; values = [] })
 unfolding answerOf
 answers = (refl, refl)

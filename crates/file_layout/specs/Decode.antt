@@ -5,16 +5,16 @@ use lib.ListN.{length}
 use Rattle.timetable.specs.Timetable.{Timetable}
 use Rattle.timetable.specs.declared.Row.{Row}
 use Rattle.file_layout.specs.declared.Format.{Format}
-use Rattle.file_layout.specs.declared.Head.{Head}
+use Rattle.file_layout.specs.declared.Trailer.{Trailer}
 use Rattle.numbers.specs.Numbers.{u16At, u32At}
 
 -- where the trailer starts: it is the file's last bytes
-unfoldable pub trailerAt : Format → List ℕ → ℕ
-trailerAt f s = length s - f .trailer
+unfoldable pub trailerStart : Format → List ℕ → ℕ
+trailerStart f s = length s - f .trailer
 
 -- version, stops S, rows n and classes K (u16), row offset and table offset (u32)
-unfoldable pub headAt : List ℕ → ℕ → Head
-headAt s at =
+unfoldable pub trailerAt : List ℕ → ℕ → Trailer
+trailerAt s at =
     record {
       version = u16At s at;
       stops = u16At s (at + 2);
@@ -24,8 +24,8 @@ headAt s at =
       tablestart = u32At s (at + 12);
     }
 
-unfoldable pub headOf : Format → List ℕ → Head
-headOf f s = headAt s (trailerAt f s)
+unfoldable pub trailerOf : Format → List ℕ → Trailer
+trailerOf f s = trailerAt s (trailerStart f s)
 
 -- A row has six u16: boarding stop, landing stop, departure, arrival, trip, class
 unfoldable pub rowAt : List ℕ → ℕ → Row
@@ -66,7 +66,7 @@ tablesEnd s at (suc k) = tablesEnd s (blockEnd s at) k
 
 unfoldable pub decode : Format → List ℕ → Timetable
 decode f s =
-    let h = headOf f s in
+    let h = trailerOf f s in
     record {
       stops = h .stops;
       rows = rowsFrom (f .width) s (h .rowstart) (h .rows);

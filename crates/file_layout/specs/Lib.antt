@@ -3,3 +3,4 @@ pub mod Format
 pub mod Decode
 pub mod Small
 pub mod Check
+pub mod Sound

@@ -2,8 +2,8 @@
 ghost use mathlib.Core.Path.{_≡_};
 ghost use Prim.Native.Nat.{_+_, _<_};
 ghost use lib.ListN.{length};
-ghost use Rattle.file_layout.specs.Decode.{headAt, rowAt};
-ghost use Rattle.file_layout.specs.Small.{SmallHead, SmallRow};
+ghost use Rattle.file_layout.specs.Decode.{trailerAt, rowAt};
+ghost use Rattle.file_layout.specs.Small.{SmallTrailer, SmallRow};
 use numbers::u16_at;
 use numbers::u32_at;
 use timetable::Row;
@@ -16,7 +16,7 @@ pub struct Format {
     pub trailer: usize,
     pub shortest: usize,
     pub longest: usize,
-    pub latest: usize,
+    pub lastminute: usize,
     pub delay: usize,
 }
 
@@ -27,12 +27,12 @@ pub const VERSION_ONE: Format = Format {
     trailer: 16,
     shortest: 20,
     longest: 27920,
-    latest: 10079,
+    lastminute: 10079,
     delay: 120,
 };
 
 // The trailer's numbers.
-pub struct Head {
+pub struct Trailer {
     pub version: usize,
     pub stops: usize,
     pub rows: usize,
@@ -41,25 +41,18 @@ pub struct Head {
     pub tablestart: usize,
 }
 
-// What the check answers: a sound file with S, n and K, or a refusal with its number and place.
+// What the check answers: a sound file with its trailer, or a refusal with its number and place.
 pub enum Checked {
-    Sound {
-        stops: usize,
-        rows: usize,
-        classes: usize,
-    },
-    Refused {
-        number: usize,
-        place: usize,
-    },
+    Sound { trailer: Trailer },
+    Refused { number: usize, place: usize },
 }
 
 // The trailer's numbers, the trailer at `at`.
-pub fn head_at(file: &[u8], at: usize) -> Head
+pub fn trailer_at(file: &[u8], at: usize) -> Trailer
     requires { ⌜ at + 15 < length (now file) ⌝ }
-    ensures { λ r. ⌜ (r ≡ headAt (now (file .entry)) at) × SmallHead r ⌝ }
+    ensures { λ r. ⌜ (r ≡ trailerAt (now (file .entry)) at) × SmallTrailer r ⌝ }
 {
-    Head {
+    Trailer {
         version: u16_at(file, at),
         stops: u16_at(file, at + 2),
         rows: u16_at(file, at + 4),

@@ -8,19 +8,24 @@ ghost use Rattle.timetable.specs.Classes.{sum, sharesRule};
 ghost use Rattle.file_layout.specs.Format.{Readable};
 ghost use Rattle.numbers.specs.Numbers.{u16At};
 ghost use Rattle.file_layout.specs.Decode.{sharesFrom, tableAt};
-ghost use Rattle.file_layout.specs.Small.{SmallHead};
-ghost use Rattle.file_layout.specs.Check.{headRule, sectionsJoin};
-ghost use Rattle.file_sections.specs.Headed.{headed};
+ghost use Rattle.file_layout.specs.Small.{SmallTrailer};
+ghost use Rattle.file_layout.specs.Check.{trailerRule, sectionsJoin};
+ghost use Rattle.file_sections.specs.SectionsRead.{sectionsRead};
 ghost use Rattle.file_sections.specs.Blocks.{blockRead, blocksRead};
 use file_layout::Format;
-use file_layout::Head;
-use file_layout::head_at;
+use file_layout::Trailer;
+use file_layout::trailer_at;
 use numbers::u16_at;
+use timetable::FEWEST_CLASSES;
+use timetable::FEWEST_STOPS;
+use timetable::MOST_CLASSES;
+use timetable::MOST_ROWS;
+use timetable::MOST_STOPS;
 
-// A head that keeps the rules up to the joining of its sections, or the refusal with its place.
-pub enum Headed {
-    Good { head: Head },
-    Bad { number: usize, place: usize },
+// A trailer whose sections join and keep the rules, or the refusal with its place.
+pub enum Sections {
+    Joined { trailer: Trailer },
+    Fault { number: usize, place: usize },
 }
 
 // Class blocks that keep their rules, with the byte where they end, or the refusal with its place.
@@ -36,33 +41,33 @@ struct Section {
 }
 
 // Length, version, S, n and K; then the class blocks; then the joining of the sections.
-pub fn head(file: &[u8], f: Format) -> Headed
+pub fn read_sections(file: &[u8], f: Format) -> Sections
     requires { ⌜ Readable f ⌝ }
-    ensures { λ r. ⌜ r ≡ headed f (now (file .entry)) ⌝ }
+    ensures { λ r. ⌜ r ≡ sectionsRead f (now (file .entry)) ⌝ }
 {
-    let length = file.len();
-    if !length_in_range(f, length) {
-        return Headed::Bad {
+    let size = file.len();
+    if !length_in_range(f, size) {
+        return Sections::Fault {
             number: 1,
             place: 0,
         };
     }
-    let end = length - f.trailer;
-    let head = head_at(file, end);
-    if !in_ranges(f, head) {
-        return Headed::Bad {
+    let end = size - f.trailer;
+    let trailer = trailer_at(file, end);
+    if !in_ranges(f, trailer) {
+        return Sections::Fault {
             number: 1,
             place: 0,
         };
     }
-    let blocks = class_blocks(file, f, end, head.tablestart, head.classes);
+    let blocks = class_blocks(file, f, end, trailer.tablestart, trailer.classes);
     match blocks {
-        Blocks::Fault { number, place } => Headed::Bad { number, place },
+        Blocks::Fault { number, place } => Sections::Fault { number, place },
         Blocks::End { at } => {
-            if joined(f, head, at, end) {
-                Headed::Good { head }
+            if joined(f, trailer, at, end) {
+                Sections::Joined { trailer }
             } else {
-                Headed::Bad {
+                Sections::Fault {
                     number: 2,
                     place: 0,
                 }
@@ -72,35 +77,35 @@ pub fn head(file: &[u8], f: Format) -> Headed
 }
 
 // The file length is in its range.
-fn length_in_range(f: Format, length: usize) -> bool
-    ensures { λ r. ⌜ r ≡ (leb (f .shortest) length && leb length (f .longest)) ⌝ }
+fn length_in_range(f: Format, size: usize) -> bool
+    ensures { λ r. ⌜ r ≡ (leb (f .shortest) size && leb size (f .longest)) ⌝ }
 {
-    if length < f.shortest {
+    if size < f.shortest {
         return false;
     }
-    length <= f.longest
+    size <= f.longest
 }
 
 // Version, S, n and K are in their ranges.
-fn in_ranges(f: Format, head: Head) -> bool
-    ensures { λ r. ⌜ r ≡ headRule f head ⌝ }
+fn in_ranges(f: Format, trailer: Trailer) -> bool
+    ensures { λ r. ⌜ r ≡ trailerRule f trailer ⌝ }
 {
-    if head.version != f.version {
+    if trailer.version != f.version {
         return false;
     }
-    if head.stops < 2 {
+    if trailer.stops < FEWEST_STOPS {
         return false;
     }
-    if 200 < head.stops {
+    if MOST_STOPS < trailer.stops {
         return false;
     }
-    if 2000 < head.rows {
+    if MOST_ROWS < trailer.rows {
         return false;
     }
-    if head.classes < 1 {
+    if trailer.classes < FEWEST_CLASSES {
         return false;
     }
-    if 16 < head.classes {
+    if MOST_CLASSES < trailer.classes {
         return false;
     }
     true
@@ -202,16 +207,16 @@ fn shares_sum(file: &[u8], first: usize, count: usize) -> usize
 }
 
 // The sections of rows and of tables join in either order, the tables ending at `at`.
-fn joined(f: Format, head: Head, at: usize, end: usize) -> bool
-    requires { ⌜ (f .width < 65536) × SmallHead head ⌝ }
-    ensures { λ r. ⌜ r ≡ sectionsJoin (head .rowstart) (head .rowstart + f .width * head .rows) (head .tablestart) at end ⌝ }
+fn joined(f: Format, trailer: Trailer, at: usize, end: usize) -> bool
+    requires { ⌜ (f .width < 65536) × SmallTrailer trailer ⌝ }
+    ensures { λ r. ⌜ r ≡ sectionsJoin (trailer .rowstart) (trailer .rowstart + f .width * trailer .rows) (trailer .tablestart) at end ⌝ }
 {
     let rows = Section {
-        start: head.rowstart,
-        end: head.rowstart + f.width * head.rows,
+        start: trailer.rowstart,
+        end: trailer.rowstart + f.width * trailer.rows,
     };
     let tables = Section {
-        start: head.tablestart,
+        start: trailer.tablestart,
         end: at,
     };
     if in_order(rows, tables, end) {

@@ -7,7 +7,7 @@ use Rattle.plans.specs.Plan.{earliest}
 use Rattle.plan_cells.specs.Cells.{cellOf}
 use Rattle.plan_rows.specs.declared.Sailings.{Sailings}
 use Rattle.plan_rows.specs.Reading.{rowsIn, timetableIn, Stand, Cut}
-use Rattle.plan_earliest.specs.Query.{queryOf}
+use Rattle.query.specs.Query.{queryOf}
 use Rattle.plan_earliest.specs.Swept.{Swept, Found}
 use Rattle.plan_earliest.proofs.Final.{SetOut, sets-sail, earliest-cell}
 use Rattle.plan_earliest.proofs.InFile.{seaworthy}

@@ -7,7 +7,7 @@ ghost use Rattle.plans.specs.Plan.{earliest};
 ghost use Rattle.query.specs.declared.Query.{Query};
 ghost use Rattle.plan_cells.specs.Cells.{cellOf};
 ghost use Rattle.plan_rows.specs.Reading.{rowsIn, tablesIn, timetableIn, Stand, Cut, TablesHeld};
-ghost use Rattle.plan_earliest.specs.Query.{queryOf};
+ghost use Rattle.query.specs.Query.{queryOf};
 ghost use Rattle.plan_earliest.specs.Cells.{ready, landingOf, Placed, Boarded, Landed, Sailed};
 ghost use Rattle.plan_earliest.specs.Swept.{Swept, Found, SameBehind};
 use numbers::cell;

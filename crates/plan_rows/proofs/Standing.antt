@@ -9,9 +9,10 @@ use Rattle.timetable.specs.Timetable.{Timetable, sharesOf, longest, rowOf}
 use Rattle.timetable.specs.declared.Row.{Row}
 use Rattle.file_layout.specs.declared.Format.{Format}
 use Rattle.file_layout.specs.Format.{versionOne}
-use Rattle.file_layout.specs.Decode.{headOf, blockEnd, decode}
-use Rattle.file_layout.proofs.Blocks.{blockAt, table-has}
-use Rattle.file_layout.proofs.Sound.{SoundFile, version-one-readable}
+use Rattle.file_layout.specs.Decode.{trailerOf, blockEnd, decode}
+use Rattle.file_layout.proofs.Blocks.{table-has}
+use Rattle.file_layout.proofs.Sound.{version-one-readable}
+use Rattle.file_layout.specs.Sound.{blockAt, SoundFile}
 use Rattle.plans.specs.Sound.{Timely}
 use Rattle.query.specs.declared.Query.{Query}
 use Rattle.plans.specs.Journeys.{goalOf, boundOf}
@@ -25,16 +26,16 @@ pub version-one-plannable : Plannable versionOne
 version-one-plannable = record { readable = version-one-readable; delays-fit = omega arith; minutes-fit = omega arith }
 
 -- the rows and tables that a file decodes to are those that planning reads
-pub same-rows : (f : Format) (s : List ℕ) → decode f s .rows ≡ rowsIn s (sailingsOf f (headOf f s))
+pub same-rows : (f : Format) (s : List ℕ) → decode f s .rows ≡ rowsIn s (sailingsOf f (trailerOf f s))
 unfolding decode
 same-rows f s = refl
 
-pub same-tables : (f : Format) (s : List ℕ) → decode f s .tables ≡ tablesIn s (sailingsOf f (headOf f s))
+pub same-tables : (f : Format) (s : List ℕ) → decode f s .tables ≡ tablesIn s (sailingsOf f (trailerOf f s))
 unfolding decode
 same-tables f s = refl
 
 -- planning looks at rows and tables alone
-pub same-earliest : (f : Format) (s : List ℕ) (q : Query) → earliest (decode f s) q ≡ earliest (timetableIn s (sailingsOf f (headOf f s))) q
+pub same-earliest : (f : Format) (s : List ℕ) (q : Query) → earliest (decode f s) q ≡ earliest (timetableIn s (sailingsOf f (trailerOf f s))) q
 unfolding decode earliest scanned
 same-earliest f s q = refl
 
@@ -60,12 +61,12 @@ before-same one other rows tables q (some e) =
     tables rows
     ∙ within-same one other rows tables q (boundOf q e) (firstOpen (chosenFor other (goalOf q (boundOf q e))) (q .source) (q .minute))
 
-pub same-plan : (f : Format) (s : List ℕ) (q : Query) → planned (decode f s) q ≡ planned (timetableIn s (sailingsOf f (headOf f s))) q
+pub same-plan : (f : Format) (s : List ℕ) (q : Query) → planned (decode f s) q ≡ planned (timetableIn s (sailingsOf f (trailerOf f s))) q
 unfolding planned
 same-plan f s q =
     ap (planBefore (decode f s) q) (same-earliest f s q)
-    ∙ before-same (decode f s) (timetableIn s (sailingsOf f (headOf f s))) (same-rows f s) (same-tables f s) q
-    (earliest (timetableIn s (sailingsOf f (headOf f s))) q)
+    ∙ before-same (decode f s) (timetableIn s (sailingsOf f (trailerOf f s))) (same-rows f s) (same-tables f s) q
+    (earliest (timetableIn s (sailingsOf f (trailerOf f s))) q)
 
 longest-small : (shares : List ℕ) (most : ℕ) → length shares ≤ suc most → longest shares ≤ most
 longest-small [] most h = omega arith
@@ -80,7 +81,7 @@ module _ (f : Format) (plannable : Plannable f) (s : List ℕ) (sound : SoundFil
         shared = λ i h. sound .row-shares i (omega (arith, sound .rows-count)) .shares-whole;
       }
 
-  shares-fit-file : (c : ℕ) → c < headOf f s .classes → SharesFit (sharesOf (decode f s .tables) c)
+  shares-fit-file : (c : ℕ) → c < trailerOf f s .classes → SharesFit (sharesOf (decode f s .tables) c)
   shares-fit-file c h =
       let shares = sound .class-shares c h in
       record {
@@ -89,11 +90,11 @@ module _ (f : Format) (plannable : Plannable f) (s : List ℕ) (sound : SoundFil
         shares-whole = shares .shares-whole;
       }
 
-  row-fits-file : (i : ℕ) → i < headOf f s .rows → RowFits (headOf f s .classes) (decode f s .tables) (rowOf (decode f s .rows) i)
+  row-fits-file : (i : ℕ) → i < trailerOf f s .rows → RowFits (trailerOf f s .classes) (decode f s .tables) (rowOf (decode f s .rows) i)
   row-fits-file i h =
       let own = sound .rows .own i (omega (arith, sound .rows-count)) in
       let shares = sound .row-shares i h in
-      let stops = sound .head .in-range .stops-most in
+      let stops = sound .trailer .in-range .stops-most in
       record {
         board = omega (arith, own .board);
         land = omega (arith, own .land);
@@ -109,12 +110,12 @@ module _ (f : Format) (plannable : Plannable f) (s : List ℕ) (sound : SoundFil
             );
       }
 
-  pub stands : Stand s (sailingsOf f (headOf f s))
+  pub stands : Stand s (sailingsOf f (trailerOf f s))
   unfolding decode
   stands =
       record {
         few-rows = sound .rows-few;
-        few-classes = sound .head .in-range .classes-most;
+        few-classes = sound .trailer .in-range .classes-most;
         rows-count = sound .rows-count;
         tables-count = sound .tables-count;
         row-readable = sound .row-readable;
@@ -124,21 +125,21 @@ module _ (f : Format) (plannable : Plannable f) (s : List ℕ) (sound : SoundFil
         shares-fit = shares-fit-file;
       }
 
-  pub blocks-stand : BlocksStand s (sailingsOf f (headOf f s))
+  pub blocks-stand : BlocksStand s (sailingsOf f (trailerOf f s))
   unfolding decode blockEnd
   blocks-stand =
       record {
-        few-classes = sound .head .in-range .classes-most;
+        few-classes = sound .trailer .in-range .classes-most;
         tables-count = sound .tables-count;
         block-readable =
             λ c h.
-            let at = blockAt s (headOf f s .tablestart) c in
-            let block = sound .head .class-sound c h in
-            omega (arith, ap length (sound .head .table-read c h), table-has s at, block .block-inside, sound .trailer-last);
-        block-read = sound .head .table-read;
+            let at = blockAt s (trailerOf f s .tablestart) c in
+            let block = sound .trailer .class-sound c h in
+            omega (arith, ap length (sound .trailer .table-read c h), table-has s at, block .block-inside, sound .trailer-last);
+        block-read = sound .trailer .table-read;
         shares-fit = shares-fit-file;
       }
 
-  pub timely : Timely (timetableIn s (sailingsOf f (headOf f s)))
+  pub timely : Timely (timetableIn s (sailingsOf f (trailerOf f s)))
   unfolding decode
   timely = record { rising = timely-file .rising; forward = timely-file .forward; shared = timely-file .shared }

@@ -7,7 +7,7 @@ use Rattle.timetable.specs.Timetable.{Timetable, sharesOf, longest, rowOf}
 use Rattle.timetable.specs.Classes.{whole, sum}
 use Rattle.timetable.specs.declared.Row.{Row}
 use Rattle.file_layout.specs.Decode.{rowAt, tableAt, rowsFrom, tablesFrom}
-use Rattle.file_layout.proofs.Blocks.{blockAt}
+use Rattle.file_layout.specs.Sound.{blockAt}
 use Rattle.plans.specs.Worth.{up, weigh}
 use Rattle.plan_rows.specs.declared.Sailings.{Sailings}
 

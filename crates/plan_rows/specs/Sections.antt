@@ -1,11 +1,11 @@
--- Where the sections of a file of some version stand, by its head; and what planning asks of a version's numbers.
+-- Where the sections of a file of some version stand, by its trailer; and what planning asks of a version's numbers.
 use Prim.Native.Nat.{_+_, _≤_, _<_}
 use Rattle.file_layout.specs.declared.Format.{Format}
-use Rattle.file_layout.specs.declared.Head.{Head}
+use Rattle.file_layout.specs.declared.Trailer.{Trailer}
 use Rattle.file_layout.specs.Format.{Readable}
 use Rattle.plan_rows.specs.declared.Sailings.{Sailings}
 
-abbrev pub sailingsOf : Format → Head → Sailings
+abbrev pub sailingsOf : Format → Trailer → Sailings
 sailingsOf f h =
     record { rows = h .rows; rowstart = h .rowstart; width = f .width; classes = h .classes; tablestart = h .tablestart }
 
@@ -13,4 +13,4 @@ sailingsOf f h =
 pub record Plannable (f : Format) : Type 0 where
   pub readable : Readable f
   pub delays-fit : f .delay ≤ 253
-  pub minutes-fit : f .latest + f .delay < 65536
+  pub minutes-fit : f .lastminute + f .delay < 65536

@@ -8,7 +8,8 @@ use native.Mathlib.Omega.{arith}
 use lib.ListN.{length}
 use Rattle.timetable.specs.Timetable.{sharesOf}
 use Rattle.file_layout.specs.Decode.{tableAt, blockEnd}
-use Rattle.file_layout.proofs.Blocks.{blockAt, next-block, table-has}
+use Rattle.file_layout.proofs.Blocks.{next-block, table-has}
+use Rattle.file_layout.specs.Sound.{blockAt}
 use Rattle.plan_rows.specs.declared.Sailings.{Sailings}
 use Rattle.plan_rows.specs.Reading.{tablesIn, blockCell, BlockHeld, BlocksStand}
 use Rattle.plan_shares.specs.Summed.{BlockStands, SameOutside}

@@ -49,6 +49,6 @@ pub real-bound : (q : Query) (e : ℕ) → (q .code ≡ 0 → ⊥) → q .minute
 real-bound q e h = sym (cond-false 0 (q .minute + q .code * (e - q .minute) / 4) (ne-eqb (q .code) 0 h))
 
 -- sixteen quarters of a minute's length fit a cell
-pub quarters-fit : (code length : ℕ) → code ≤ 16 → length < 65536 → code * length ≤ 1048560
-quarters-fit code length few short =
-    let a : code * length ≤ 16 * length = mul-le-mul-right length few in omega arith
+pub quarters-fit : (code minutes : ℕ) → code ≤ 16 → minutes < 65536 → code * minutes ≤ 1048560
+quarters-fit code minutes few short =
+    let a : code * minutes ≤ 16 * minutes = mul-le-mul-right minutes few in omega arith

@@ -5,7 +5,8 @@ use mathlib.Core.List.{List}
 use mathlib.Core.Option.{some}
 use mathlib.Core.Path.{_≡_, sym, ap, subst, _∙_}
 use Rattle.file_layout.specs.declared.Format.{Format}
-use Rattle.file_layout.specs.Decode.{headOf, decode}
+use Rattle.file_layout.specs.declared.Trailer.{Trailer}
+use Rattle.file_layout.specs.Decode.{trailerOf, decode}
 use Rattle.query.specs.declared.Query.{Query}
 use Rattle.plans.specs.Sound.{Timely}
 use Rattle.plans.specs.Journeys.{boundOf}
@@ -14,27 +15,23 @@ use Rattle.plan_rows.specs.declared.Sailings.{Sailings}
 use Rattle.plan_rows.specs.Reading.{rowsIn, tablesIn, timetableIn, Stand, BlocksStand, Cut, TablesHeld}
 use Rattle.plan_rows.specs.Sections.{sailingsOf}
 use Rattle.plan_rows.proofs.Standing.{stands, blocks-stand, timely, same-earliest, same-plan}
-use Rattle.plan_earliest.specs.Query.{queryOf}
 use Rattle.plan_whole.proofs.Bounds.{earliest-fits}
 use Rattle.plan_whole.specs.Steps.{Asked, Laid, planIn}
 
--- a query by its numbers
-pub as-asked : (q : Query) (source target minute : ℕ) → source ≡ q .source → target ≡ q .target → minute ≡ q .minute
-    → queryOf source target minute (q .code) ≡ q
-as-asked q source target minute a b m =
-    ap (λ x. queryOf x target minute (q .code)) a ∙ ap (λ x. queryOf (q .source) x minute (q .code)) b
-    ∙ ap (λ x. queryOf (q .source) (q .target) x (q .code)) m
+module _ (f : Format) (file : List ℕ) (trailer : Trailer) (q : Query) (asked : Asked f file trailer q)
+    (s : Sailings) (from-trailer : s ≡ sailingsOf f trailer) where
+  where-they-stand : s ≡ sailingsOf f (trailerOf f file)
+  where-they-stand = from-trailer ∙ ap (sailingsOf f) (asked .read)
 
-module _ (f : Format) (file : List ℕ) (q : Query) (asked : Asked f file q) (s : Sailings) (where-they-stand : s ≡ sailingsOf f (headOf f file)) where
   pub rows-stand : Stand file s
   rows-stand = subst (Stand file) (sym where-they-stand) (stands f (asked .plannable) file (asked .sound))
 
   pub tables-stand : BlocksStand file s
   tables-stand = subst (BlocksStand file) (sym where-they-stand) (blocks-stand f (asked .plannable) file (asked .sound))
 
-  pub lays : (tables : List ℕ) (first minute : ℕ) → TablesHeld tables (tablesIn file s) → minute ≡ q .minute → Cut (rowsIn file s) minute first
+  pub lays : (tables : List ℕ) (first : ℕ) → TablesHeld tables (tablesIn file s) → Cut (rowsIn file s) (q .minute) first
       → Laid file s tables q first
-  lays tables first minute held same cut =
+  lays tables first held cut =
       record {
         stand = rows-stand;
         held = held;
@@ -43,7 +40,7 @@ module _ (f : Format) (file : List ℕ) (q : Query) (asked : Asked f file q) (s 
         target = asked .target;
         apart = asked .apart;
         minute = omega (arith, asked .minute, asked .plannable .minutes-fit);
-        cut = subst (λ m. Cut (rowsIn file s) m first) same cut;
+        cut = cut;
       }
 
   pub earliest-there : earliest (decode f file) q ≡ earliest (timetableIn file s) q
@@ -53,8 +50,8 @@ module _ (f : Format) (file : List ℕ) (q : Query) (asked : Asked f file q) (s 
   pub plan-there : planned (decode f file) q ≡ planned (timetableIn file s) q
   plan-there = same-plan f file q ∙ ap (λ (x : Sailings). planned (timetableIn file x) q) (sym where-they-stand)
 
-  pub rows-there : s .rows ≡ headOf f file .rows
-  rows-there = ap (λ (x : Sailings). x .rows) where-they-stand
+  pub rows-there : s .rows ≡ trailer .rows
+  rows-there = ap (λ (x : Sailings). x .rows) from-trailer
 
   -- the plan is the one within the bound that E gives
   pub plan-by-arrival : (e : ℕ) → earliest (timetableIn file s) q ≡ some e → planned (decode f file) q ≡ planIn file s q (boundOf q e)

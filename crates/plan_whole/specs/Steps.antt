@@ -7,7 +7,9 @@ use mathlib.Core.Path.{_≡_}
 use lib.ListN.{length, drop}
 use Rattle.timetable.specs.declared.Row.{Row}
 use Rattle.file_layout.specs.declared.Format.{Format}
-use Rattle.file_layout.proofs.Sound.{SoundFile}
+use Rattle.file_layout.specs.declared.Trailer.{Trailer}
+use Rattle.file_layout.specs.Decode.{trailerOf}
+use Rattle.file_layout.specs.Sound.{SoundFile}
 use Rattle.query.specs.declared.Query.{Query}
 use Rattle.plans.specs.Journeys.{goalOf}
 use Rattle.plans.specs.Sound.{Timely}
@@ -20,14 +22,16 @@ use Rattle.plan_rows.specs.Sections.{Plannable}
 use Rattle.plan_rows.proofs.Cuts.{Idle}
 use Rattle.plans.specs.declared.Goal.{Goal}
 
--- a sound file, and a query of its stops and minutes
-pub record Asked (f : Format) (file : List ℕ) (q : Query) : Type 0 where
+-- a sound file with its trailer, and a query of its stops and minutes
+pub record Asked (f : Format) (file : List ℕ) (trailer : Trailer) (q : Query) : Type 0 where
   pub plannable : Plannable f
   pub sound : SoundFile f file
+  pub read : trailer ≡ trailerOf f file
   pub source : q .source < 200
   pub target : q .target < 200
   pub apart : q .source ≢ q .target
-  pub minute : q .minute ≤ f .latest
+  pub minute : q .minute ≤ f .lastminute
+  pub code : q .code ≤ 16
 
 -- a sound file's rows, its tables as lent cells, and the first row at or after T
 pub record Laid (file : List ℕ) (s : Sailings) (tables : List ℕ) (q : Query) (first : ℕ) : Type 0 where

@@ -2,19 +2,18 @@
 ghost use mathlib.Core.Path.{_≡_};
 ghost use Prim.Native.Nat.{_+_, _*_, _≤_, _<_};
 ghost use lib.ListN.{length};
-ghost use Rattle.file_layout.specs.Decode.{headOf, decode};
-ghost use Rattle.file_layout.proofs.Sound.{SoundFile};
+ghost use Rattle.file_layout.specs.Decode.{decode};
 ghost use Rattle.plans.specs.Journeys.{boundOf};
 ghost use Rattle.plans.specs.Plan.{planned, earliest as earliestIn};
 ghost use Rattle.plan_cells.specs.Cells.{used, cellOf};
 ghost use Rattle.plan_rows.specs.Reading.{rowsIn, timetableIn, Stand};
-ghost use Rattle.plan_rows.specs.Sections.{sailingsOf, Plannable};
+ghost use Rattle.plan_rows.specs.Sections.{sailingsOf};
 ghost use Rattle.plan_scan.specs.Scanned.{scanIn, ScanHeld};
 ghost use Rattle.plan_whole.specs.Answers.{Answers};
 ghost use Rattle.plan_whole.specs.Steps.{Asked, Laid, Reaches, RowsWithin, Part, planIn, KeptBehind};
 ghost use Rattle.plan_whole.specs.declared.Planned.the-variants.{Refused as NoPlan};
 use file_layout::Format;
-use file_layout::head_at;
+use file_layout::Trailer;
 use numbers::cell;
 use numbers::number;
 use plan_cells::NONE;
@@ -46,54 +45,47 @@ pub enum Planned {
 }
 
 // The plan or 8, with room for it.
-pub fn plan_in_room(file: &[u8], f: Format, q: Query, work: &mut [u32], plan: &mut [u32]) -> Planned
-    requires { ⌜ Asked f (now file) q × (q .code ≤ 16) × (used (headOf f (now file) .rows) ≤ length (now work))
-        × (3 * headOf f (now file) .rows ≤ length (now plan)) ⌝ }
+pub fn plan_in_room(
+    file: &[u8],
+    f: Format,
+    trailer: Trailer,
+    q: Query,
+    work: &mut [u32],
+    plan: &mut [u32],
+) -> Planned
+    requires { ⌜ Asked f (now file) trailer q × (used (trailer .rows) ≤ length (now work)) × (3 * trailer .rows ≤ length (now plan)) ⌝ }
     ensures { λ r. ⌜ Answers (planned (decode f (now (file .entry))) q) r (now (plan .entry)) (now (plan .exit))
-        × KeptBehind (used (headOf f (now (file .entry)) .rows)) (now (work .entry)) (now (work .exit)) ⌝ }
+        × KeptBehind (used (trailer .rows)) (now (work .entry)) (now (work .exit)) ⌝ }
 {
     let mut tables = [0u32; 4096];
-    let s = sailings_in(file, f);
+    let s = sailings_in(f, trailer);
     read_tables(file, s, &mut tables);
-    let first = rows_before(file, s, number(q.minute));
-    let end = reach(file, s, &tables, q, first, work);
+    let first = rows_before(file, s, q.minute);
+    let end = earliest_arrival(file, s, &tables, q.source, q.target, q.minute, first, work);
     if end == NONE {
         return no_plan(8);
     }
-    let bound = bound_of(q, end);
+    let bound = bound_of(q, number(end));
     plan_within(file, s, &tables, q, bound, first, work, plan)
 }
 
-// Where a sound file's sections stand.
-fn sailings_in(file: &[u8], f: Format) -> Sailings
-    requires { ⌜ Plannable f × SoundFile f (now file) ⌝ }
-    ensures { λ r. ⌜ r ≡ sailingsOf f (headOf f (now (file .entry))) ⌝ }
+// Where a file's sections stand.
+fn sailings_in(f: Format, trailer: Trailer) -> Sailings
+    ensures { λ r. ⌜ r ≡ sailingsOf f trailer ⌝ }
 {
-    let head = head_at(file, file.len() - f.trailer);
     Sailings {
-        rows: head.rows,
-        rowstart: head.rowstart,
+        rows: trailer.rows,
+        rowstart: trailer.rowstart,
         width: f.width,
-        classes: head.classes,
-        tablestart: head.tablestart,
+        classes: trailer.classes,
+        tablestart: trailer.tablestart,
     }
 }
 
-// The earliest safe arrival E, or NONE.
-fn reach(file: &[u8], s: Sailings, tables: &[u32], q: Query, first: usize, work: &mut [u32]) -> u32
-    requires { ⌜ Laid (now file) s (now tables) q first × (2400 ≤ length (now work)) ⌝ }
-    ensures { λ r. ⌜ (r ≡ cellOf (earliestIn (timetableIn (now (file .entry)) s) q)) × KeptBehind 2400 (now (work .entry)) (now (work .exit)) ⌝ }
-{
-    let source = number(q.source);
-    let target = number(q.target);
-    let minute = number(q.minute);
-    earliest_arrival(file, s, tables, source, target, minute, first, work)
-}
-
 // T + q(E - T)/4 rounded down; 0 stands for no bound.
-fn bound_of(q: Query, end: u32) -> u32
+fn bound_of(q: Query, end: usize) -> usize
     requires { ⌜ (q .minute ≤ end) × (end < 65536) × (q .code ≤ 16) ⌝ }
-    ensures { λ r. ⌜ r ≡ boundOf q end ⌝ }
+    ensures { λ r. ⌜ (r ≡ boundOf q end) × (r < 4294967296) ⌝ }
 {
     if q.code == 0 {
         return 0;
@@ -107,20 +99,20 @@ fn plan_within(
     s: Sailings,
     tables: &[u32],
     q: Query,
-    bound: u32,
+    bound: usize,
     first: usize,
     work: &mut [u32],
     plan: &mut [u32],
 ) -> Planned
-    requires { ⌜ Laid (now file) s (now tables) q first × Reaches (q .minute) bound
+    requires { ⌜ Laid (now file) s (now tables) q first × Reaches (q .minute) bound × (bound < 4294967296)
         × (used (s .rows) ≤ length (now work)) × (3 * s .rows ≤ length (now plan)) ⌝ }
     ensures { λ r. ⌜ Answers (planIn (now (file .entry)) s q bound) r (now (plan .entry)) (now (plan .exit))
         × KeptBehind (used (s .rows)) (now (work .entry)) (now (work .exit)) ⌝ }
 {
     let end = rows_within(file, s, bound);
     let goal = Goal {
-        target: number(q.target),
-        bound: number(bound),
+        target: q.target,
+        bound,
     };
     scan_back(file, s, tables, goal, first, end, work);
     plan_scanned(file, s, tables, q, goal, first, end, work, plan)
@@ -128,14 +120,14 @@ fn plan_within(
 
 // The rows that a plan within the bound can board: a row that departs at or after a real bound lands
 // behind it.
-fn rows_within(file: &[u8], s: Sailings, bound: u32) -> usize
+fn rows_within(file: &[u8], s: Sailings, bound: usize) -> usize
     requires { ⌜ Stand (now file) s ⌝ }
     ensures { λ r. ⌜ RowsWithin (rowsIn (now (file .entry)) s) bound r ⌝ }
 {
     if bound == 0 {
         return s.rows;
     }
-    rows_before(file, s, number(bound))
+    rows_before(file, s, bound)
 }
 
 // The plan that the scan's cells lead to, or 8.
@@ -155,7 +147,7 @@ fn plan_scanned(
     ensures { λ r. ⌜ Answers (planIn (now (file .entry)) s q (goal .bound)) r (now (plan .entry)) (now (plan .exit))
         × KeptBehind (used (s .rows)) (now (work .entry)) (now (work .exit)) ⌝ }
 {
-    let source = number(q.source);
+    let source = q.source;
     let size = number(work[SIZES + source]);
     if size == 0 {
         return no_plan(8);
@@ -179,13 +171,13 @@ fn no_plan(number: u32) -> Planned
 }
 
 // E or NONE, with room to find it.
-pub fn earliest_in_room(file: &[u8], f: Format, q: Query, work: &mut [u32]) -> u32
-    requires { ⌜ Asked f (now file) q × (used (headOf f (now file) .rows) ≤ length (now work)) ⌝ }
+pub fn earliest_in_room(file: &[u8], f: Format, trailer: Trailer, q: Query, work: &mut [u32]) -> u32
+    requires { ⌜ Asked f (now file) trailer q × (used (trailer .rows) ≤ length (now work)) ⌝ }
     ensures { λ r. ⌜ (r ≡ cellOf (earliestIn (decode f (now (file .entry))) q)) × KeptBehind 2400 (now (work .entry)) (now (work .exit)) ⌝ }
 {
     let mut tables = [0u32; 4096];
-    let s = sailings_in(file, f);
+    let s = sailings_in(f, trailer);
     read_tables(file, s, &mut tables);
-    let first = rows_before(file, s, number(q.minute));
-    reach(file, s, &tables, q, first, work)
+    let first = rows_before(file, s, q.minute);
+    earliest_arrival(file, s, &tables, q.source, q.target, q.minute, first, work)
 }

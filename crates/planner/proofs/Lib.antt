@@ -1,4 +1,5 @@
--- Planning, proved: the rules of a query, the numbers' sizes, the part of the rows that is looked at, the answer and the slices.
-pub mod Rules
+-- Planning, proved: which calls are admitted, the answer and the slices, both sides of each line.
+pub mod Admitting
 pub mod Answered
+pub mod Pinned
 pub mod Settled

@@ -4,10 +4,23 @@ use contract.Lifetimes.{Lfts}
 use denote.Ref.{now}
 use denote.Triple.Clauses.{AtExit}
 use borrow.Fn.Kinds.{Dens, resT, endedOf}
+use Rattle.laws.proofs.Outcomes.{SettlesResult}
+use Rattle.planner.proofs.admit.Kinds as admit-kinds
+use Rattle.planner.proofs.admit.Reads as admit-reads
+use Rattle.planner.proofs.admit_checked.Kinds as behind-kinds
+use Rattle.planner.proofs.admit_checked.Reads as behind-reads
 use Rattle.planner.proofs.plan.Kinds as plan-kinds
 use Rattle.planner.proofs.plan.Reads as plan-reads
+use Rattle.planner.proofs.plan_checked.Kinds as checked-kinds
+use Rattle.planner.proofs.plan_checked.Reads as checked-reads
 use Rattle.planner.proofs.earliest_safe_arrival.Kinds as arrival-kinds
 use Rattle.planner.proofs.earliest_safe_arrival.Reads as arrival-reads
+
+pub admit-settled : SettlesResult 1 admit-kinds.ps admit-kinds.r admit-reads.Post
+admit-settled κs arguments one other ending another first second = first ∙ sym second
+
+pub admit-checked-settled : SettlesResult 0 behind-kinds.ps behind-kinds.r behind-reads.Post
+admit-checked-settled κs arguments one other ending another first second = first ∙ sym second
 
 -- the answer, then work, then the plan slice
 pub plan-settled :
@@ -16,6 +29,14 @@ pub plan-settled :
     → plan-reads.Post κs arguments other another
     → (one ≡ other) × (now (ending .1 .1 .0) ≡ now (another .1 .1 .0)) × (now (ending .1 .1 .1 .0) ≡ now (another .1 .1 .1 .0))
 plan-settled κs arguments one other ending another first second =
+    (first .0 ∙ sym (second .0), first .1 ∙ sym (second .1), first .2 ∙ sym (second .2))
+
+pub plan-checked-settled :
+    (κs : Lfts 3) (arguments : Dens κs checked-kinds.ps) (one other : resT checked-kinds.r κs .Denot)
+    (ending another : AtExit (endedOf 3 checked-kinds.ps checked-kinds.r) κs) → checked-reads.Post κs arguments one ending
+    → checked-reads.Post κs arguments other another
+    → (one ≡ other) × (now (ending .1 .1 .1 .1 .0) ≡ now (another .1 .1 .1 .1 .0)) × (now (ending .1 .1 .1 .1 .1 .0) ≡ now (another .1 .1 .1 .1 .1 .0))
+plan-checked-settled κs arguments one other ending another first second =
     (first .0 ∙ sym (second .0), first .1 ∙ sym (second .1), first .2 ∙ sym (second .2))
 
 -- the answer, then work

@@ -7,6 +7,7 @@ use lib.ListN.{length}
 use Rattle.timetable.specs.Timetable.{Timetable}
 use Rattle.timetable.specs.declared.Row.{Row}
 use Rattle.query.specs.declared.Query.{Query}
+use Rattle.query.specs.Query.{queryOf}
 use Rattle.plans.specs.Plan.{Plan, planned}
 use Rattle.plans.specs.Worth.{Valued}
 
@@ -29,7 +30,7 @@ told none = []
 told (some p) = length (p .rides) ∷ p .expected ∷ p .last ∷ p .bound ∷ toldRides (p .rides)
 
 abbrev pub query : (source target minute code : ℕ) → Query
-query source target minute code = record { source = source; target = target; minute = minute; code = code }
+query source target minute code = queryOf source target minute code
 
 abbrev pub planOf : Timetable → Query → List ℕ
 planOf t q = told (planned t q)

@@ -1,4 +1,3 @@
--- The demands of what the calls return, and the planners that are shut out.
-pub mod Demands
-pub mod Arrivals
-pub mod ShutOut
+-- The demands of what the calls return, over their contracts, and the planners that are shut out.
+pub mod Admitted
+pub mod PlanCall

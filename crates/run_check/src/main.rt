@@ -12,15 +12,11 @@ fn print_number(n: usize) {
 
 fn print_answer(answer: Checked) {
     match answer {
-        Checked::Sound {
-            stops,
-            rows,
-            classes,
-        } => {
+        Checked::Sound { trailer } => {
             io::write_all(STDOUT_FILENO, b" sound");
-            print_number(stops);
-            print_number(rows);
-            print_number(classes);
+            print_number(trailer.stops);
+            print_number(trailer.rows);
+            print_number(trailer.classes);
         }
         Checked::Refused { number, place } => {
             io::write_all(STDOUT_FILENO, b" refused");

@@ -2,8 +2,11 @@
 ghost use mathlib.Core.Path.{_≡_};
 ghost use Prim.Native.Nat.{_/_, min};
 ghost use lib.ListN.{length};
-ghost use Rattle.sayurimpak.specs.Desk.{asked, deskOutcome};
+ghost use Rattle.file_layout.specs.Format.{versionOne};
+ghost use Rattle.query.specs.Query.{queryOf};
+ghost use Rattle.sayurimpak.specs.Desk.{deskOutcome};
 ghost use Rattle.sayurimpak.specs.Given.{given, Fitting};
+use numbers::number;
 use numbers::put_numbers;
 use plan_whole::Planned;
 use planner::plan;
@@ -24,18 +27,18 @@ pub extern "C" fn sayurimpak_plan(
     code: u32,
     out: &mut [u8],
 ) -> u32
-    ensures { λ r. ⌜ (r ≡ deskOutcome (now (file .entry)) (asked source target minute code) (now (out .entry)) .answer)
-        × (now (out .exit) ≡ deskOutcome (now (file .entry)) (asked source target minute code) (now (out .entry)) .bytes) ⌝ }
+    ensures { λ r. ⌜ (r ≡ deskOutcome versionOne (now (file .entry)) (queryOf source target minute code) (now (out .entry)) .answer)
+        × (now (out .exit) ≡ deskOutcome versionOne (now (file .entry)) (queryOf source target minute code) (now (out .entry)) .bytes) ⌝ }
 {
+    let q = Query {
+        source: number(source),
+        target: number(target),
+        minute: number(minute),
+        code: number(code),
+    };
     let mut work = work_numbers();
     let mut numbers = plan_numbers();
     let lent = lent_numbers(out.len());
-    let q = Query {
-        source,
-        target,
-        minute,
-        code,
-    };
     let answer = plan(file, q, &mut work, &mut numbers[..lent]);
     give(answer, &numbers, out)
 }
@@ -47,14 +50,17 @@ fn give(answer: Planned, numbers: &[u32], out: &mut [u8]) -> u32
         × (now (out .exit) ≡ given answer (now (numbers .entry)) (now (out .entry)) .bytes) ⌝ }
 {
     match answer {
-        Planned::Refused { number, place: _ } => 10000 + number,
+        Planned::Refused {
+            number: refusal,
+            place: _,
+        } => 10000 + refusal,
         Planned::Plan {
             rides,
             expected: _,
             latest: _,
             bound: _,
         } => {
-            put_numbers(numbers, 3 * (rides as usize), out);
+            put_numbers(numbers, 3 * number(rides), out);
             rides
         }
     }

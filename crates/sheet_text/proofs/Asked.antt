@@ -12,9 +12,10 @@ use Rattle.laws.proofs.Tests.{both, cond-true}
 use Rattle.timetable.specs.Verdict.{fine}
 use Rattle.timetable.specs.Timetable.{Timetable}
 use Rattle.file_layout.specs.Check.{fileVerdict}
-use Rattle.file_layout.specs.Decode.{decode, headOf}
+use Rattle.file_layout.specs.Decode.{decode, trailerOf}
 use Rattle.file_layout.specs.Format.{versionOne}
-use Rattle.file_layout.proofs.Sound.{SoundFile, sound-gives, fine-answered, version-one-readable}
+use Rattle.file_layout.proofs.Sound.{sound-gives, fine-answered, version-one-readable}
+use Rattle.file_layout.specs.Sound.{SoundFile}
 use Rattle.query.specs.declared.Query.{Query}
 use Rattle.plans.specs.Journeys.{goalOf}
 use Rattle.plans.specs.Sound.{Timely}
@@ -125,7 +126,7 @@ module _ (file : List ℕ) (q : Query) (work plan : List ℕ) (sound : fileVerdi
         let timely = sound-timely file holds in
         for-ride t timely (goalOf q (told .told .bound)) v (plan-member t timely q (told .told) (plan-made t q (told .told) (told .is-found)) v m)
 
-    pub plan-inside : RidesIn (headOf versionOne file .rows) after rides
+    pub plan-inside : RidesIn (trailerOf versionOne file .rows) after rides
     plan-inside =
         subst (λ n. RidesIn n after rides) (holds .rows-count)
         (rides-told (decode versionOne file) (told .told) (told .count) plan (told .laid) are-rides)

@@ -5,8 +5,8 @@ use mathlib.Core.Path.{_≡_, refl}
 use Rattle.timetable.specs.Rows.{ownRule, departureRule, lastOfTrip, follows, tripRule, rowVerdict, rowsVerdict}
 use Rattle.timetable.specs.Classes.{sum, sharesRule}
 use Rattle.numbers.specs.Numbers.{u16At, u32At}
-use Rattle.file_layout.specs.Decode.{decode, headOf, headAt, trailerAt, rowsFrom, rowAt, tablesFrom, tableAt, sharesFrom, blockEnd, tablesEnd}
-use Rattle.file_layout.specs.Check.{checked, checkedAs, fileVerdict, headVerdict, lengthRule, headRule, classVerdict, classesVerdict, joined, sectionsJoin, rangesOf, answered}
+use Rattle.file_layout.specs.Decode.{decode, trailerOf, trailerAt, trailerStart, rowsFrom, rowAt, tablesFrom, tableAt, sharesFrom, blockEnd, tablesEnd}
+use Rattle.file_layout.specs.Check.{checked, checkedAs, fileVerdict, sectionsVerdict, lengthRule, trailerRule, classVerdict, classesVerdict, joined, sectionsJoin, rangesOf, answered}
 use Rattle.plans.specs.Worth.{weigh, firstOpen, worthOr, caught, arrivalWorth, changeWorth}
 use Rattle.plans.specs.Chosen.{whenSafe, offInTicks, worthOf, offInMinutes, nextOf, getOff, stayOn, least, firstAt, leads, others, choose, bestOf, scan, scanned}
 use Rattle.plans.specs.Plan.{earliest, chosenFor, inWindow, wanted, upTo, windowsOf, extract, ridesFrom, latestOf, planWithin, planBefore, planned}
@@ -45,7 +45,7 @@ printedCases =
     ∷ []
 
 pub cases-print : Hold printedCases
-unfolding sheetText checkedText soundText askedText plannedText planText firstText ridesText rideText lineText callText refusedText numberText queryOf journeyRule codeRule timeText faceText decimal digitsOnto dayOf dayStart sinceMidnight hourOf minuteOfHour roundedUp u16At u32At checked checkedAs fileVerdict headVerdict lengthRule headRule classVerdict classesVerdict joined sectionsJoin rangesOf answered decode headOf headAt trailerAt rowsFrom rowAt tablesFrom tableAt sharesFrom blockEnd tablesEnd ownRule departureRule lastOfTrip follows tripRule rowVerdict rowsVerdict sum sharesRule planned planBefore earliest weigh firstOpen worthOr caught arrivalWorth changeWorth whenSafe offInTicks worthOf offInMinutes nextOf getOff stayOn least firstAt leads others choose bestOf scan scanned chosenFor inWindow wanted upTo windowsOf extract ridesFrom latestOf planWithin
+unfolding sheetText checkedText soundText askedText plannedText planText firstText ridesText rideText lineText callText refusedText numberText queryOf journeyRule codeRule timeText faceText decimal digitsOnto dayOf dayStart sinceMidnight hourOf minuteOfHour roundedUp u16At u32At checked checkedAs fileVerdict lengthRule classVerdict classesVerdict joined sectionsJoin answered decode trailerAt rowsFrom rowAt tablesFrom tableAt sharesFrom blockEnd tablesEnd ownRule departureRule lastOfTrip follows tripRule rowVerdict rowsVerdict sum sharesRule planned planBefore earliest weigh firstOpen worthOr caught arrivalWorth changeWorth whenSafe offInTicks worthOf offInMinutes nextOf getOff stayOn least firstAt leads others choose bestOf scan scanned chosenFor inWindow wanted upTo windowsOf extract ridesFrom latestOf planWithin sectionsVerdict trailerRule trailerOf trailerStart
 cases-print = (refl, (refl, (refl, (refl, (refl, tt)))))
 
 -- `refused 4`

@@ -6,10 +6,10 @@ ghost use lib.ListN.{length};
 ghost use Rattle.timetable.specs.Timetable.{rowOf};
 ghost use Rattle.timetable.specs.Verdict.{fine};
 ghost use Rattle.file_layout.specs.Check.{answerOf, fileVerdict};
-ghost use Rattle.file_layout.specs.Decode.{decode, headOf};
+ghost use Rattle.file_layout.specs.Decode.{decode, trailerOf};
 ghost use Rattle.file_layout.specs.Format.{versionOne};
 ghost use Rattle.file_layout.specs.Small.{SmallRow};
-ghost use Rattle.file_layout.proofs.Sound.{SoundFile};
+ghost use Rattle.file_layout.specs.Sound.{SoundFile};
 ghost use Rattle.clock.specs.Text.{timeText, widest};
 ghost use Rattle.sheet_text.specs.Sheet.{askedText, callText, expectedText, firstText, lineText, queryOf, refusedText};
 ghost use Rattle.text.specs.Put.{Put, numberWidth};
@@ -20,8 +20,8 @@ use clock::Minute;
 use file_check::check;
 use file_layout::Checked;
 use file_layout::VERSION_ONE;
-use file_layout::head_at;
 use file_layout::row_at;
+use file_layout::trailer_at;
 use numbers::cell;
 use numbers::number;
 use numbers::u16_at;
@@ -114,16 +114,16 @@ fn put_first(out: &mut [u8], rides: usize, expected: u32, latest: u32) -> usize
 
 // Row number `i` of a sound file.
 fn row_of(sailings: &[u8], i: usize) -> Row
-    requires { ⌜ SoundFile versionOne (now sailings) × (i < headOf versionOne (now sailings) .rows) ⌝ }
+    requires { ⌜ SoundFile versionOne (now sailings) × (i < trailerOf versionOne (now sailings) .rows) ⌝ }
     ensures { λ r. ⌜ (r ≡ rowOf (decode versionOne (now (sailings .entry)) .rows) i) × SmallRow r ⌝ }
 {
-    let head = head_at(sailings, sailings.len() - VERSION_ONE.trailer);
+    let head = trailer_at(sailings, sailings.len() - VERSION_ONE.trailer);
     row_at(sailings, head.rowstart + VERSION_ONE.width * i)
 }
 
 // A line a ride, from `at` on.
 fn put_rides(sailings: &[u8], plan: &[u32], rides: usize, out: &mut [u8], at: usize) -> usize
-    requires { ⌜ SoundFile versionOne (now sailings) × RidesIn (headOf versionOne (now sailings) .rows) (now plan) rides ⌝ }
+    requires { ⌜ SoundFile versionOne (now sailings) × RidesIn (trailerOf versionOne (now sailings) .rows) (now plan) rides ⌝ }
     requires { ⌜ at + rides * lineWidth ≤ length (now out) ⌝ }
     ensures { λ r. ⌜ Put (now (out .entry)) at
         (linesIn (decode versionOne (now (sailings .entry)) .rows) (now (plan .entry)) 0 rides)
@@ -149,7 +149,7 @@ fn put_plan(
     latest: u32,
     out: &mut [u8],
 ) -> usize
-    requires { ⌜ SoundFile versionOne (now sailings) × RidesIn (headOf versionOne (now sailings) .rows) (now plan) rides ⌝ }
+    requires { ⌜ SoundFile versionOne (now sailings) × RidesIn (trailerOf versionOne (now sailings) .rows) (now plan) rides ⌝ }
     requires { ⌜ firstWidth + rides * lineWidth ≤ length (now out) ⌝ }
     ensures { λ r. ⌜ Put (now (out .entry)) 0
         (firstText rides expected latest ++ linesIn (decode versionOne (now (sailings .entry)) .rows) (now (plan .entry)) 0 rides)

@@ -17,7 +17,7 @@ row b l d a t c = record { board = b; land = l; departure = d; arrival = a; trip
 
 -- three stops, two classes, the seven days
 abbrev pub week : Ranges
-week = record { stops = 3; classes = 2; latest = 10079 }
+week = record { stops = 3; classes = 2; lastminute = 10079 }
 
 -- Stops are below S
 pub stops-below : (ownRule week (row 2 0 600 630 0 1) ≡ true) × (ownRule week (row 3 0 600 630 0 1) ≡ false)

@@ -19,14 +19,15 @@ use Rattle.timetable.specs.Rows.{ownRule, departureRule, lastOfTrip, fol
 use Rattle.timetable.specs.Limits.{mostTrips}
 use Rattle.timetable.proofs.Verdicts.{both-fine, holding-fine}
 use Rattle.timetable.proofs.Behind.{behind, behind-next, last-here, last-further}
-use Rattle.timetable.proofs.RowsSound.{OwnSound, RowsSound, Kept}
+use Rattle.timetable.proofs.RowsSound.{Kept}
+use Rattle.timetable.specs.Sound.{OwnSound, RowsSound}
 
 own-rule-kept : (g : Ranges) (r : Row) → OwnSound g r → ownRule g r ≡ true
 unfolding ownRule
 own-rule-kept g r own =
     both (both (both (both (both (both (both (lt-ltb (r .board) (g .stops) (own .board)) (lt-ltb (r .land) (g .stops) (own .land)))
     (ap not (ne-eqb (r .board) (r .land) (own .differ)))) (lt-ltb (r .departure) (r .arrival) (own .onward)))
-    (le-leb (r .departure) (g .latest) (own .departure))) (le-leb (r .arrival) (g .latest) (own .arrival)))
+    (le-leb (r .departure) (g .lastminute) (own .departure))) (le-leb (r .arrival) (g .lastminute) (own .arrival)))
     (lt-ltb (r .trip) mostTrips (own .trip))) (lt-ltb (r .class) (g .classes) (own .class))
 
 -- row i is the nearest of the trip behind row j

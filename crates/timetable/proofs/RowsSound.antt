@@ -17,29 +17,9 @@ use Rattle.timetable.specs.Timetable.{rowOf}
 use Rattle.timetable.specs.Verdict.{fine, unless}
 use Rattle.timetable.specs.Rows.{ownRule, departureRule, lastOfTrip, follows, tripRule, rowVerdict, rowsVerdict}
 use Rattle.timetable.specs.Limits.{mostTrips}
+use Rattle.timetable.specs.Sound.{OwnSound, RowsSound}
 use Rattle.timetable.proofs.Verdicts.{first-fine, second-fine, rule-holds}
 use Rattle.timetable.proofs.Behind.{behind, behind-next, nearest-of-trip}
-
--- a row that keeps the rules about itself alone (4)
-pub record OwnSound (g : Ranges) (r : Row) : Type 0 where
-  pub board : r .board < g .stops
-  pub land : r .land < g .stops
-  pub differ : r .board ≡ r .land → ⊥
-  pub onward : r .departure < r .arrival
-  pub departure : r .departure ≤ g .latest
-  pub arrival : r .arrival ≤ g .latest
-  pub trip : r .trip < mostTrips
-  pub class : r .class < g .classes
-
--- rows that keep all rules (4 and 5)
-pub record RowsSound (g : Ranges) (rows : List Row) : Type 0 where
-  pub own : (i : ℕ) → i < length rows → OwnSound g (rowOf rows i)
-  -- departures never fall
-  pub departures : (i j : ℕ) → i ≤ j → j < length rows → rowOf rows i .departure ≤ rowOf rows j .departure
-  -- the nearest earlier row of the same trip lands at this row's boarding stop, no later than its departure
-  pub joins : (i j : ℕ) → i < j → j < length rows → rowOf rows i .trip ≡ rowOf rows j .trip
-      → ((k : ℕ) → i < k → k < j → rowOf rows k .trip ≡ rowOf rows j .trip → ⊥)
-      → (rowOf rows i .land ≡ rowOf rows j .board) × (rowOf rows i .arrival ≤ rowOf rows j .departure)
 
 pub own-gives : (g : Ranges) (r : Row) → ownRule g r ≡ true → OwnSound g r
 unfolding ownRule
@@ -48,13 +28,13 @@ own-gives g r e =
     let land = board && ltb (r .land) (g .stops) in
     let differ = land && not (eqb (r .board) (r .land)) in
     let onward = differ && ltb (r .departure) (r .arrival) in
-    let departure = onward && leb (r .departure) (g .latest) in
-    let arrival = departure && leb (r .arrival) (g .latest) in
+    let departure = onward && leb (r .departure) (g .lastminute) in
+    let arrival = departure && leb (r .arrival) (g .lastminute) in
     let trip = arrival && ltb (r .trip) mostTrips in
     let e₆ = both-left trip (ltb (r .class) (g .classes)) e in
     let e₅ = both-left arrival (ltb (r .trip) mostTrips) e₆ in
-    let e₄ = both-left departure (leb (r .arrival) (g .latest)) e₅ in
-    let e₃ = both-left onward (leb (r .departure) (g .latest)) e₄ in
+    let e₄ = both-left departure (leb (r .arrival) (g .lastminute)) e₅ in
+    let e₃ = both-left onward (leb (r .departure) (g .lastminute)) e₄ in
     let e₂ = both-left differ (ltb (r .departure) (r .arrival)) e₃ in
     let e₁ = both-left land (not (eqb (r .board) (r .land))) e₂ in
     record {
@@ -64,8 +44,8 @@ own-gives g r e =
           eqb-false (r .board) (r .land)
           (not-true (eqb (r .board) (r .land)) (both-right land (not (eqb (r .board) (r .land))) e₂));
       onward = ltb-true (r .departure) (r .arrival) (both-right differ (ltb (r .departure) (r .arrival)) e₃);
-      departure = leb-true (r .departure) (g .latest) (both-right onward (leb (r .departure) (g .latest)) e₄);
-      arrival = leb-true (r .arrival) (g .latest) (both-right departure (leb (r .arrival) (g .latest)) e₅);
+      departure = leb-true (r .departure) (g .lastminute) (both-right onward (leb (r .departure) (g .lastminute)) e₄);
+      arrival = leb-true (r .arrival) (g .lastminute) (both-right departure (leb (r .arrival) (g .lastminute)) e₅);
       trip = ltb-true (r .trip) mostTrips (both-right arrival (ltb (r .trip) mostTrips) e₆);
       class = ltb-true (r .class) (g .classes) (both-right trip (ltb (r .class) (g .classes)) e);
     }

@@ -4,3 +4,4 @@ pub mod Timetable
 pub mod Verdict
 pub mod Rows
 pub mod Classes
+pub mod Sound

@@ -13,7 +13,7 @@ use Rattle.timetable.specs.Verdict.{Verdict, fine, orElse, unless}
 unfoldable pub ownRule : Ranges → Row → Bool
 ownRule g r =
     ltb (r .board) (g .stops) && ltb (r .land) (g .stops) && not (eqb (r .board) (r .land))
-    && ltb (r .departure) (r .arrival) && leb (r .departure) (g .latest) && leb (r .arrival) (g .latest)
+    && ltb (r .departure) (r .arrival) && leb (r .departure) (g .lastminute) && leb (r .arrival) (g .lastminute)
     && ltb (r .trip) mostTrips && ltb (r .class) (g .classes)
 
 -- Departures never fall from row to row; `back` is the rows behind, nearest first

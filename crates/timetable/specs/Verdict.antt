@@ -15,3 +15,8 @@ orElse (fault number place) later = fault number place
 abbrev pub unless : Bool → ℕ → ℕ → Verdict
 unless true number place = fine
 unless false number place = fault number place
+
+-- what is answered by a verdict: a fault by its number and place, or what there is to answer without one
+abbrev pub byVerdict : {A : Type 0} → (ℕ → ℕ → A) → A → Verdict → A
+byVerdict refused answered fine = answered
+byVerdict refused answered (fault number place) = refused number place

@@ -17,11 +17,21 @@ pub struct Row {
 pub struct Ranges {
     pub stops: usize,
     pub classes: usize,
-    pub latest: usize,
+    pub lastminute: usize,
 }
 
-// Trips are numbered below this.
-pub const TRIPS: usize = 2000;
+// S is 2 to 200, n is 0 to 2,000, K is 1 to 16; a trip is below 2,000.
+pub const FEWEST_STOPS: usize = 2;
+
+pub const MOST_STOPS: usize = 200;
+
+pub const MOST_ROWS: usize = 2000;
+
+pub const FEWEST_CLASSES: usize = 1;
+
+pub const MOST_CLASSES: usize = 16;
+
+pub const MOST_TRIPS: usize = 2000;
 
 // The rule of a row about itself alone.
 pub fn own_rule(row: Row, g: Ranges) -> bool
@@ -39,13 +49,13 @@ pub fn own_rule(row: Row, g: Ranges) -> bool
     if row.departure >= row.arrival {
         return false;
     }
-    if row.departure > g.latest {
+    if row.departure > g.lastminute {
         return false;
     }
-    if row.arrival > g.latest {
+    if row.arrival > g.lastminute {
         return false;
     }
-    if row.trip >= TRIPS {
+    if row.trip >= MOST_TRIPS {
         return false;
     }
     row.class < g.classes

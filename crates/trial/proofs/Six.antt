@@ -9,10 +9,11 @@ use lib.Seq.{sets-eq}
 use borrow.Author.Tests.{le-leb, lt-leb}
 use Rattle.laws.proofs.Tests.{cond-true, cond-false}
 use Rattle.file_layout.specs.declared.Checked.{Checked}
+use Rattle.file_layout.specs.declared.Trailer.{Trailer}
 use Rattle.file_layout.specs.declared.Checked.the-variants.{Sound, Refused}
 use Rattle.file_layout.specs.Check.{checkedAs, checked, answerOf}
 use Rattle.file_layout.specs.Format.{versionOne}
-use Rattle.file_layout.proofs.Sound.{checked-gives, sound-checked}
+use Rattle.file_layout.proofs.Sound.{checked-gives, sound-checked, version-one-readable}
 use Rattle.trial.specs.Seen.{six, inSix, seen}
 
 pub too-short : (numbers buffer : List ℕ) → length buffer < 6 → buffer ≡ inSix numbers buffer
@@ -27,35 +28,27 @@ six-stores buffer a b c d e f long =
     ∙ sym (cond-true ((a ∷ b ∷ c ∷ d ∷ e ∷ f ∷ []) ++ drop 6 buffer) buffer (le-leb 6 (length buffer) long))
 
 -- a sound file's S, n and K
-pub seen-sound : {c : Checked} {stops rows classes : ℕ} (buffer : List ℕ) (s n k : ℕ)
-    → c ≡ Sound stops rows classes → s ≡ stops → n ≡ rows → k ≡ classes
+pub seen-sound : {c : Checked} {h : Trailer} (buffer : List ℕ) (s n k : ℕ) → c ≡ Sound h → s ≡ h .stops → n ≡ h .rows → k ≡ h .classes
     → inSix (0 ∷ 0 ∷ s ∷ n ∷ k ∷ 0 ∷ []) buffer ≡ seen (answerOf c) buffer
 unfolding seen six answerOf
-seen-sound {c} {stops} {rows} {classes} buffer s n k e p q r =
-    ap (λ x. inSix (0 ∷ 0 ∷ x ∷ n ∷ k ∷ 0 ∷ []) buffer) p
-    ∙ ap (λ x. inSix (0 ∷ 0 ∷ stops ∷ x ∷ k ∷ 0 ∷ []) buffer) q
-    ∙ ap (λ x. inSix (0 ∷ 0 ∷ stops ∷ rows ∷ x ∷ 0 ∷ []) buffer) r
-    ∙ sym (ap (λ x. seen (answerOf x) buffer) e)
+seen-sound buffer s n k e p q r =
+    (λ i. inSix (0 ∷ 0 ∷ p i ∷ q i ∷ r i ∷ 0 ∷ []) buffer) ∙ sym (ap (λ x. seen (answerOf x) buffer) e)
 
 -- a refusal's number and place
 pub seen-refused : {c : Checked} {number place : ℕ} (buffer : List ℕ) (a b : ℕ) → c ≡ Refused number place → a ≡ number → b ≡ place
     → inSix (a ∷ b ∷ 0 ∷ 0 ∷ 0 ∷ 0 ∷ []) buffer ≡ seen (answerOf c) buffer
 unfolding seen six answerOf
-seen-refused {c} {number} {place} buffer a b e p q =
-    ap (λ x. inSix (x ∷ b ∷ 0 ∷ 0 ∷ 0 ∷ 0 ∷ []) buffer) p
-    ∙ ap (λ x. inSix (number ∷ x ∷ 0 ∷ 0 ∷ 0 ∷ 0 ∷ []) buffer) q
-    ∙ sym (ap (λ x. seen (answerOf x) buffer) e)
+seen-refused buffer a b e p q = (λ i. inSix (p i ∷ q i ∷ 0 ∷ 0 ∷ 0 ∷ 0 ∷ []) buffer) ∙ sym (ap (λ x. seen (answerOf x) buffer) e)
 
 -- and its numbers fit a u32
-pub sound-small : (file : List ℕ) (stops rows classes : ℕ) → checked file ≡ Sound stops rows classes
-    → (stops < 4294967296) × (rows < 4294967296) × (classes < 4294967296)
+pub sound-small : (file : List ℕ) (h : Trailer) → checked file ≡ Sound h → (h .stops < 4294967296) × (h .rows < 4294967296) × (h .classes < 4294967296)
 unfolding checked
-sound-small file stops rows classes e =
-    let range = checked-gives file stops rows classes e .head .in-range in
-    let told = sound-checked versionOne file stops rows classes e in (
-      omega (arith, told .1, range .stops-most),
-      omega (arith, told .2, range .rows-most),
-      omega (arith, told .3, range .classes-most),
+sound-small file h e =
+    let range = checked-gives versionOne file h version-one-readable e .trailer .in-range in
+    let told = sound-checked versionOne file h e .1 in (
+      omega (arith, ap (λ (k : Trailer). k .stops) told, range .stops-most),
+      omega (arith, ap (λ (k : Trailer). k .rows) told, range .rows-most),
+      omega (arith, ap (λ (k : Trailer). k .classes) told, range .classes-most),
     )
 
 pub refused-as : (file : List ℕ) (number place : ℕ) → checked file ≡ Refused number place → checkedAs versionOne file ≡ Refused number place

@@ -4,11 +4,7 @@ use mathlib.Core.Bool.{cond}
 use mathlib.Core.List.{List, [], _∷_, _++_}
 use lib.Dec.{leb}
 use lib.ListN.{length, take, drop}
-use Rattle.query.specs.declared.Query.{Query}
 use Rattle.file_layout.specs.Check.{Answer}
-
-abbrev pub asked : (source target minute code : ℕ) → Query
-asked source target minute code = record { source = source; target = target; minute = minute; code = code }
 
 -- number, place, the values; then 0
 unfoldable pub six : Answer → List ℕ

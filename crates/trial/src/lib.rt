@@ -3,13 +3,16 @@ ghost use mathlib.Core.List.{[], _∷_};
 ghost use mathlib.Core.Path.{_≡_};
 ghost use Rattle.file_layout.specs.Check.{answerOf, checked};
 ghost use Rattle.house.specs.HouseShare.{houseShare, houseAnswer};
+ghost use Rattle.file_layout.specs.Format.{versionOne};
+ghost use Rattle.query.specs.Query.{queryOf};
 ghost use Rattle.planner.specs.Outcome.{planOutcome, planAnswer, earliestOutcome, earliestAnswer};
-ghost use Rattle.trial.specs.Seen.{asked, inSix, seen};
+ghost use Rattle.trial.specs.Seen.{inSix, seen};
 use file_check::check;
 use file_layout::Checked;
 use house::HouseShare;
 use house::house_share;
 use numbers::cell;
+use numbers::number;
 use plan_whole::Planned;
 use planner::Earliest;
 use planner::earliest_safe_arrival;
@@ -23,14 +26,19 @@ pub extern "C" fn trial_check(file: &[u8], answer: &mut [u32])
 {
     let checked = check(file);
     match checked {
-        Checked::Sound {
-            stops,
-            rows,
-            classes,
-        } => put_six(0, 0, cell(stops), cell(rows), cell(classes), 0, answer),
-        Checked::Refused { number, place } => {
-            put_six(cell(number), cell(place), 0, 0, 0, 0, answer)
-        }
+        Checked::Sound { trailer } => put_six(
+            0,
+            0,
+            cell(trailer.stops),
+            cell(trailer.rows),
+            cell(trailer.classes),
+            0,
+            answer,
+        ),
+        Checked::Refused {
+            number: refusal,
+            place,
+        } => put_six(cell(refusal), cell(place), 0, 0, 0, 0, answer),
     }
 }
 
@@ -47,16 +55,16 @@ pub extern "C" fn trial_plan(
     answer: &mut [u32],
 )
     ensures { λ r. ⌜ (now (answer .exit) ≡ seen
-        (planAnswer (planOutcome (now (file .entry)) (asked source target minute code) (now (work .entry)) (now (rides .entry)) .answer))
+        (planAnswer (planOutcome versionOne (now (file .entry)) (queryOf source target minute code) (now (work .entry)) (now (rides .entry)) .answer))
         (now (answer .entry)))
-        × (now (work .exit) ≡ planOutcome (now (file .entry)) (asked source target minute code) (now (work .entry)) (now (rides .entry)) .work)
-        × (now (rides .exit) ≡ planOutcome (now (file .entry)) (asked source target minute code) (now (work .entry)) (now (rides .entry)) .plan) ⌝ }
+        × (now (work .exit) ≡ planOutcome versionOne (now (file .entry)) (queryOf source target minute code) (now (work .entry)) (now (rides .entry)) .work)
+        × (now (rides .exit) ≡ planOutcome versionOne (now (file .entry)) (queryOf source target minute code) (now (work .entry)) (now (rides .entry)) .plan) ⌝ }
 {
     let q = Query {
-        source,
-        target,
-        minute,
-        code,
+        source: number(source),
+        target: number(target),
+        minute: number(minute),
+        code: number(code),
     };
     let planned = plan(file, q, work, rides);
     put_planned(planned, answer);
@@ -73,11 +81,11 @@ pub extern "C" fn trial_earliest(
     answer: &mut [u32],
 )
     ensures { λ r. ⌜ (now (answer .exit) ≡ seen
-        (earliestAnswer (earliestOutcome (now (file .entry)) source target minute (now (work .entry)) .answer))
+        (earliestAnswer (earliestOutcome versionOne (now (file .entry)) (queryOf source target minute 0) (now (work .entry)) .answer))
         (now (answer .entry)))
-        × (now (work .exit) ≡ earliestOutcome (now (file .entry)) source target minute (now (work .entry)) .work) ⌝ }
+        × (now (work .exit) ≡ earliestOutcome versionOne (now (file .entry)) (queryOf source target minute 0) (now (work .entry)) .work) ⌝ }
 {
-    let found = earliest_safe_arrival(file, source, target, minute, work);
+    let found = earliest_safe_arrival(file, number(source), number(target), number(minute), work);
     put_earliest(found, answer);
 }
 
@@ -89,7 +97,10 @@ pub extern "C" fn trial_house(pair: u32, minute: u32, answer: &mut [u32])
     let share = house_share(pair, minute);
     match share {
         HouseShare::Share { cumulative } => put_six(0, 0, cumulative, 0, 0, 0, answer),
-        HouseShare::Refused { number, place } => put_six(number, place, 0, 0, 0, 0, answer),
+        HouseShare::Refused {
+            number: refusal,
+            place,
+        } => put_six(refusal, place, 0, 0, 0, 0, answer),
     }
 }
 
@@ -103,7 +114,10 @@ fn put_planned(planned: Planned, answer: &mut [u32])
             latest,
             bound,
         } => put_six(0, 0, rides, expected, latest, bound, answer),
-        Planned::Refused { number, place } => put_six(number, place, 0, 0, 0, 0, answer),
+        Planned::Refused {
+            number: refusal,
+            place,
+        } => put_six(refusal, place, 0, 0, 0, 0, answer),
     }
 }
 
@@ -112,7 +126,10 @@ fn put_earliest(found: Earliest, answer: &mut [u32])
 {
     match found {
         Earliest::Arrival { minute } => put_six(0, 0, minute, 0, 0, 0, answer),
-        Earliest::Refused { number, place } => put_six(number, place, 0, 0, 0, 0, answer),
+        Earliest::Refused {
+            number: refusal,
+            place,
+        } => put_six(refusal, place, 0, 0, 0, 0, answer),
     }
 }
 

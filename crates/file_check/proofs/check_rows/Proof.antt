@@ -14,21 +14,21 @@ use Rattle.file_check.proofs.check_rows.Statement.{statement}
 use Rattle.file_check.proofs.check_rows.Tie as tie
 
 abbrev Inv-loop : tie.InvT-loop
-Inv-loop file head width ranges start count seen₀ departure₀ at₀ i₀ seen departure at i =
+Inv-loop file trailer width ranges start count seen₀ departure₀ at₀ i₀ seen departure at i =
     Reading ranges width file start count seen departure at i
 
 abbrev μ-loop : tie.MeasureT-loop
-μ-loop file head width ranges start count seen₀ departure₀ at₀ i₀ seen departure at i = count - i
+μ-loop file trailer width ranges start count seen₀ departure₀ at₀ i₀ seen departure at i = count - i
 
 loop-holds : tie.Need-loop-holds Inv-loop μ-loop
 loop-holds c =
     let a = c .before .args in
-    reading-none (a .ranges) (a .width) (a .file .now) (a .head .rowstart) (a .head .rows) _ refl
+    reading-none (a .ranges) (a .width) (a .file .now) (a .trailer .rowstart) (a .trailer .rows) _ refl
 
 row-at-requires : tie.Need-row-at-requires Inv-loop μ-loop
 row-at-requires c κs =
     let a = c .before .before .before .args in
-    let inside = row-inside (a .width) (a .head .rows) (c .before .loop .i) (c .loop-test .taken) in
+    let inside = row-inside (a .width) (a .trailer .rows) (c .before .loop .i) (c .loop-test .taken) in
     omega (arith, inside, c .before .before .before .pre)
 
 own-rule-requires : tie.Need-own-rule-requires Inv-loop μ-loop
@@ -43,8 +43,8 @@ returns c =
     sym (c .before .own-rule .ensures) ∙ not-true (c .before .own-rule .result) (c .if1 .taken)
     in
     sym
-    (ap (answered (a .head))
-    (breaks-own (a .ranges) (a .width) (a .file .now) (a .head .rowstart) (a .head .rows) (l .seen) (l .departure)
+    (ap (answered (a .trailer))
+    (breaks-own (a .ranges) (a .width) (a .file .now) (a .trailer .rowstart) (a .trailer .rows) (l .seen) (l .departure)
     (l .at) (l .i) (l .inv) (c .before .before .before .loop-test .taken) (c .before .before .row-at .result)
     (c .before .before .row-at .ensures .0) own))
 
@@ -74,7 +74,7 @@ in-order-requires c κs =
     let a = c .before .before .before .before .before .before .args in
     let l = c .before .before .before .before .loop in
     let hint =
-    hint-inside (a .ranges) (a .width) (a .file .now) (a .head .rowstart) (a .head .rows) (l .seen) (l .departure)
+    hint-inside (a .ranges) (a .width) (a .file .now) (a .trailer .rowstart) (a .trailer .rows) (l .seen) (l .departure)
     (l .at) (l .i) (l .inv) (c .before .before .row-at .result .trip) (trip-inside c)
     in
     let lies = c .before .before .before .before .before .before .pre in
@@ -86,8 +86,8 @@ returns-2 c =
     let a = c .before .before .before .before .before .before .before .before .args in
     let l = c .before .before .before .before .before .before .loop in
     sym
-    (ap (answered (a .head))
-    (breaks-order (a .ranges) (a .width) (a .file .now) (a .head .rowstart) (a .head .rows) (l .seen) (l .departure)
+    (ap (answered (a .trailer))
+    (breaks-order (a .ranges) (a .width) (a .file .now) (a .trailer .rowstart) (a .trailer .rows) (l .seen) (l .departure)
     (l .at) (l .i) (l .inv) (c .before .before .before .before .before .loop-test .taken) (c .before .before .before .before .row-at .result)
     (c .before .before .before .before .row-at .ensures .0) (own-kept (c .before .before))
     (sym (c .before .in-order .ensures) ∙ not-true (c .before .in-order .result) (c .if2 .taken))))
@@ -96,7 +96,7 @@ add-at : tie.Need-add-at Inv-loop μ-loop
 add-at c =
     let a = c .before .before .before .before .before .before .before .before .args in
     let l = c .before .before .before .before .before .before .loop in
-    let inside = row-inside (a .width) (a .head .rows) (l .i) (c .before .before .before .before .before .loop-test .taken) in
+    let inside = row-inside (a .width) (a .trailer .rows) (l .i) (c .before .before .before .before .before .loop-test .taken) in
     omega (arith, inside, l .inv .place, c .before .before .before .before .before .before .before .before .pre)
 
 add-i : tie.Need-add-i Inv-loop μ-loop
@@ -118,7 +118,7 @@ loop-again : tie.Need-loop-again Inv-loop μ-loop
 loop-again c =
     let a = c .before .before .before .before .before .before .before .before .args in
     let l = c .before .before .before .before .before .before .loop in
-    reads-on (a .ranges) (a .width) (a .file .now) (a .head .rowstart) (a .head .rows) (l .seen) (l .departure)
+    reads-on (a .ranges) (a .width) (a .file .now) (a .trailer .rowstart) (a .trailer .rows) (l .seen) (l .departure)
     (l .at) (l .i) (l .inv) (c .before .before .before .before .before .loop-test .taken) (c .before .before .before .before .row-at .result)
     (c .before .before .before .before .row-at .ensures .0) (own-kept (c .before .before))
     (sym (c .before .in-order .ensures) ∙ not-false (c .before .in-order .result) (c .if2 .left))
@@ -129,8 +129,8 @@ returns-3 c =
     let a = c .before .before .before .args in
     let l = c .before .loop in
     sym
-    (ap (answered (a .head))
-    (reading-ends (a .ranges) (a .width) (a .file .now) (a .head .rowstart) (a .head .rows) (l .seen) (l .departure)
+    (ap (answered (a .trailer))
+    (reading-ends (a .ranges) (a .width) (a .file .now) (a .trailer .rowstart) (a .trailer .rows) (l .seen) (l .departure)
     (l .at) (l .i) (l .inv) (c .loop-test .left)))
 
 pub check-rows-spec : {M : Type 1} → statement M

@@ -1,20 +1,20 @@
 -- `file_sections::in_ranges` meets its contract: each return by the tests that led there. Assumes nothing.
 use mathlib.Core.Path.{sym}
 use borrow.Author.Tests.{eq-eqb, ne-eqb, le-leb, lt-leb}
-use Rattle.file_layout.specs.Check.{headRule}
+use Rattle.file_layout.specs.Check.{trailerRule}
 use Rattle.file_sections.proofs.in_ranges.Statement.{statement}
 use Rattle.file_sections.proofs.in_ranges.Tie as tie
 
 returns : tie.Need-returns
-unfolding headRule
+unfolding trailerRule
 returns c = sym (simp (ne-eqb _ _ (c .if1 .taken)))
 
 returns-2 : tie.Need-returns-2
-unfolding headRule
+unfolding trailerRule
 returns-2 c = sym (simp (eq-eqb _ _ (c .before .before .if1 .left), lt-leb _ _ (c .if2 .taken)))
 
 returns-3 : tie.Need-returns-3
-unfolding headRule
+unfolding trailerRule
 returns-3 c =
     sym (simp (
       eq-eqb _ _ (c .before .before .before .before .if1 .left),
@@ -23,7 +23,7 @@ returns-3 c =
     ))
 
 returns-4 : tie.Need-returns-4
-unfolding headRule
+unfolding trailerRule
 returns-4 c =
     sym (simp (
       eq-eqb _ _ (c .before .before .before .before .before .before .if1 .left),
@@ -33,7 +33,7 @@ returns-4 c =
     ))
 
 returns-5 : tie.Need-returns-5
-unfolding headRule
+unfolding trailerRule
 returns-5 c =
     sym (simp (
       eq-eqb _ _ (c .before .before .before .before .before .before .before .before .if1 .left),
@@ -44,7 +44,7 @@ returns-5 c =
     ))
 
 returns-6 : tie.Need-returns-6
-unfolding headRule
+unfolding trailerRule
 returns-6 c =
     sym (simp (
       eq-eqb _ _ (c .before .before .before .before .before .before .before .before .before .before .if1 .left),
@@ -56,7 +56,7 @@ returns-6 c =
     ))
 
 returns-7 : tie.Need-returns-7
-unfolding headRule
+unfolding trailerRule
 returns-7 c =
     sym (simp (
       eq-eqb _ _ (c .before .before .before .before .before .before .before .before .before .before .if1 .left),

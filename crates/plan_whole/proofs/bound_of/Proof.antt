@@ -7,7 +7,7 @@ use Rattle.plan_whole.proofs.bound_of.Statement.{statement}
 use Rattle.plan_whole.proofs.bound_of.Tie as tie
 
 returns : tie.Need-returns
-returns c = no-bound (c .before .before .args .q) (c .before .before .args .end) (omega arith)
+returns c = (no-bound (c .before .before .args .q) (c .before .before .args .end) (omega arith), omega arith)
 
 sub-result : tie.Need-sub-result
 sub-result c = search needs
@@ -32,8 +32,14 @@ add-result c =
 
 returns-2 : tie.Need-returns-2
 returns-2 c =
-    let a = c .before .before .before .before .before .args in
-    real-bound (a .q) (a .end) (λ e. let z : ⊥ = omega arith in z)
+    let a = c .before .before .before .before .before .args in (
+      real-bound (a .q) (a .end) (λ e. let z : ⊥ = omega arith in z),
+      omega (
+        arith,
+        quarters-fit (a .q .code) (a .end - a .q .minute)
+            (c .before .before .before .before .before .pre .2) (omega (arith, c .before .before .before .before .before .pre .1)),
+      ),
+    )
 
 pub bound-of-spec : {M : Type 1} → statement M
 bound-of-spec = tie.close (tie.spec returns sub-result mul-result add-result returns-2)

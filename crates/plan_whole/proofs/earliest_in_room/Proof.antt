@@ -2,6 +2,7 @@
 use mathlib.Core.Path.{refl, sym, ap, _∙_}
 use native.Mathlib.Omega.{arith}
 use Rattle.plan_cells.specs.Cells.{cellOf}
+use Rattle.plan_whole.specs.Steps.{Laid}
 use Rattle.plan_whole.proofs.Laying.{rows-stand, tables-stand, lays, earliest-there}
 use borrow.Author.Needs.{needs}
 use Rattle.plan_whole.proofs.earliest_in_room.Statement.{statement}
@@ -9,7 +10,16 @@ use Rattle.plan_whole.proofs.earliest_in_room.Tie as tie
 
 -- the entry, from where the rows are laid out
 abbrev begun : tie.After-rows-before → tie.Start
-begun c = c .before .before .before .before .before .before .before .before
+begun c = c .before .before .before .before .before .before .before
+
+laid : (c : tie.After-rows-before)
+    → Laid (begun c .args .file .now) (c .before .before .before .before .sailings-in .result) (c .before .before .read-tables .last .1 .1 .0)
+    (begun c .args .q) (c .rows-before .result)
+laid c =
+    let a = begun c in
+    let s = c .before .before .before .before .sailings-in in
+    lays (a .args .f) (a .args .file .now) (a .args .trailer) (a .args .q) (a .pre .0) (s .result) (s .ensures)
+    (c .before .before .read-tables .last .1 .1 .0) (c .rows-before .result) (c .before .before .read-tables .ensures) (c .rows-before .ensures)
 
 sailings-in-requires : tie.Need-sailings-in-requires
 sailings-in-requires c κs = search needs
@@ -20,44 +30,35 @@ slice-aggregate-read-tables c = search needs
 read-tables-requires : tie.Need-read-tables-requires
 read-tables-requires c κs =
     let a = c .before .before .before .before in
-    (tables-stand (a .args .f) (a .args .file .now) (a .args .q) (a .pre .0) (c .before .sailings-in .result) (c .before .sailings-in .ensures), refl)
-
-number-requires : tie.Need-number-requires
-number-requires c κs = search needs
+    let s = c .before .sailings-in in
+    (tables-stand (a .args .f) (a .args .file .now) (a .args .trailer) (a .args .q) (a .pre .0) (s .result) (s .ensures), refl)
 
 rows-before-requires : tie.Need-rows-before-requires
 rows-before-requires c κs =
-    let a = c .before .before .before .before .before .before .before in
-    rows-stand (a .args .f) (a .args .file .now) (a .args .q) (a .pre .0) (c .before .before .before .before .sailings-in .result)
-    (c .before .before .before .before .sailings-in .ensures)
+    let a = c .before .before .before .before .before .before in
+    let s = c .before .before .before .sailings-in in
+    rows-stand (a .args .f) (a .args .file .now) (a .args .trailer) (a .args .q) (a .pre .0) (s .result) (s .ensures)
 
-slice-aggregate-reach : tie.Need-slice-aggregate-reach
-slice-aggregate-reach c = search needs
+slice-aggregate-earliest-arrival : tie.Need-slice-aggregate-earliest-arrival
+slice-aggregate-earliest-arrival c = search needs
 
-reach-requires : tie.Need-reach-requires
-reach-requires c κs =
-    let a = begun (c .before .before) in (
-      lays (a .args .f) (a .args .file .now) (a .args .q) (a .pre .0) (c .before .before .before .before .before .before .before .sailings-in .result)
-          (c .before .before .before .before .before .before .before .sailings-in .ensures)
-          (c .before .before .before .before .before .read-tables .last .1 .1 .0) (c .before .before .rows-before .result)
-          (c .before .before .before .number .result)
-          (c .before .before .before .before .before .read-tables .ensures) (c .before .before .before .number .ensures .0)
-          (c .before .before .rows-before .ensures),
-      omega (arith, a .pre .1),
-    )
+earliest-arrival-requires : tie.Need-earliest-arrival-requires
+earliest-arrival-requires c κs =
+    let l = laid (c .before .before) in
+    (l .stand, l .held, l .source, l .target, l .apart, l .minute, l .cut, omega (arith, begun (c .before .before) .pre .1))
 
 same-length : tie.Need-same-length
 same-length c = search needs
 
 returns : tie.Need-returns
 returns c =
-    let a = begun (c .before .before .before .before .before) in
-    let r = c .before .before .reach .ensures in (
-      r .0 ∙ ap cellOf (sym
-          (earliest-there (a .args .f) (a .args .file .now) (a .args .q) (a .pre .0)
-          (c .before .before .before .before .before .before .before .before .before .before .sailings-in .result)
-          (c .before .before .before .before .before .before .before .before .before .before .sailings-in .ensures))),
-      r .1,
+    let at = c .before .before .before .before .before in
+    let a = begun at in
+    let s = at .before .before .before .before .sailings-in in
+    let r = c .before .before .earliest-arrival .ensures in (
+      r .0 (a .args .q .code) ∙ ap cellOf (sym
+          (earliest-there (a .args .f) (a .args .file .now) (a .args .trailer) (a .args .q) (a .pre .0) (s .result) (s .ensures))),
+      record { same-length = r .1; kept = r .2 },
     )
 
 pub earliest-in-room-spec : {M : Type 1} → statement M
@@ -67,9 +68,8 @@ earliest-in-room-spec =
     sailings-in-requires
     slice-aggregate-read-tables
     read-tables-requires
-    number-requires
     rows-before-requires
-    slice-aggregate-reach
-    reach-requires
+    slice-aggregate-earliest-arrival
+    earliest-arrival-requires
     same-length
     returns)

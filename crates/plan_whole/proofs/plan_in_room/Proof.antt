@@ -4,9 +4,10 @@ use mathlib.Core.Option.{Option, some}
 use mathlib.Core.Path.{_≡_, refl, sym, ap, subst, _∙_}
 use native.Mathlib.Omega.{arith}
 use lib.ListN.{length}
-use Rattle.file_layout.specs.Decode.{headOf, decode}
+use Rattle.file_layout.specs.Decode.{decode}
+use Rattle.plans.specs.Journeys.{boundOf}
 use Rattle.plans.specs.Plan.{Plan, planned, earliest}
-use Rattle.plan_cells.specs.Cells.{used, missing}
+use Rattle.plan_cells.specs.Cells.{used, missing, cellOf}
 use Rattle.plan_rows.specs.Reading.{timetableIn}
 use Rattle.plan_whole.specs.Steps.{Laid, Reaches, planIn, KeptBehind}
 use Rattle.plan_whole.specs.Answers.{Answers}
@@ -19,43 +20,54 @@ use Rattle.plan_whole.proofs.plan_in_room.Tie as tie
 
 -- places on the way: the entry; where the rows are laid out; where E is known
 abbrev begun : tie.After-rows-before → tie.Start
-begun c = c .before .before .before .before .before .before .before .before .before
+begun c = c .before .before .before .before .before .before .before .before
 
-abbrev laid-out : tie.Else1 → tie.After-rows-before
-laid-out c = c .before .before .before .before .before .before
+abbrev laid-out : tie.After-earliest-arrival → tie.After-rows-before
+laid-out c = c .before .before .before
 
 abbrev arriving : tie.After-slice-known5 → tie.Else1
-arriving c = c .before .before .before .before .before .before .before .before .before
+arriving c = c .before .before .before .before .before .before .before .before .before .before
 
 laid : (c : tie.After-rows-before)
-    → Laid (begun c .args .file .now) (c .before .before .before .before .before .sailings-in .result)
-    (c .before .before .before .read-tables .last .1 .1 .0) (begun c .args .q) (c .rows-before .result)
+    → Laid (begun c .args .file .now) (c .before .before .before .before .sailings-in .result) (c .before .before .read-tables .last .1 .1 .0)
+    (begun c .args .q) (c .rows-before .result)
 laid c =
     let a = begun c in
-    let s = c .before .before .before .before .before .sailings-in in
-    lays (a .args .f) (a .args .file .now) (a .args .q) (a .pre .0) (s .result) (s .ensures) (c .before .before .before .read-tables .last .1 .1 .0)
-    (c .rows-before .result) (c .before .number .result) (c .before .before .before .read-tables .ensures) (c .before .number .ensures .0)
-    (c .rows-before .ensures)
+    let s = c .before .before .before .before .sailings-in in
+    lays (a .args .f) (a .args .file .now) (a .args .trailer) (a .args .q) (a .pre .0) (s .result) (s .ensures)
+    (c .before .before .read-tables .last .1 .1 .0) (c .rows-before .result) (c .before .before .read-tables .ensures) (c .rows-before .ensures)
+
+-- E or none, as it was found
+told : (c : tie.After-earliest-arrival)
+    → c .earliest-arrival .result
+    ≡ cellOf (earliest (timetableIn (begun (laid-out c) .args .file .now) (laid-out c .before .before .before .before .sailings-in .result))
+    (begun (laid-out c) .args .q))
+told c = c .earliest-arrival .ensures .0 (begun (laid-out c) .args .q .code)
 
 -- E does not lie before T, and is a minute of 16 bits
 arrival-fits : (c : tie.After-rows-before) (e : ℕ)
-    → earliest (timetableIn (begun c .args .file .now) (c .before .before .before .before .before .sailings-in .result))
-    (begun c .args .q) ≡ some e
+    → earliest (timetableIn (begun c .args .file .now) (c .before .before .before .before .sailings-in .result)) (begun c .args .q) ≡ some e
     → (begun c .args .q .minute ≤ e) × (e < 65536)
 arrival-fits c e found =
     let a = begun c .args in
-    earliest-fits (a .file .now) (c .before .before .before .before .before .sailings-in .result) (laid c .stand) (laid c .timely) (a .q) e found
+    earliest-fits (a .file .now) (c .before .before .before .before .sailings-in .result) (laid c .stand) (laid c .timely) (a .q) e found
 
 -- a result that is not missing is E
-arrived : (c : tie.After-reach) → (c .reach .result ≡ missing → ⊥)
-    → earliest (timetableIn (begun (c .before .before .before) .args .file .now)
-    (c .before .before .before .before .before .before .before .before .sailings-in .result))
-    (begun (c .before .before .before) .args .q) ≡ some (c .reach .result)
+arrived : (c : tie.After-earliest-arrival) → (c .earliest-arrival .result ≡ missing → ⊥)
+    → earliest (timetableIn (begun (laid-out c) .args .file .now) (laid-out c .before .before .before .before .sailings-in .result))
+    (begun (laid-out c) .args .q) ≡ some (c .earliest-arrival .result)
 arrived c real =
-    let a = begun (c .before .before .before) .args in
-    arrival-cell (earliest (timetableIn (a .file .now) (c .before .before .before .before .before .before .before .before .sailings-in .result))
-    (a .q))
-    (c .reach .result) (c .reach .ensures .0) real
+    let a = begun (laid-out c) .args in
+    arrival-cell (earliest (timetableIn (a .file .now) (laid-out c .before .before .before .before .sailings-in .result)) (a .q))
+    (c .earliest-arrival .result) (told c) real
+
+-- cells behind those that finding E uses are as they were
+kept : (c : tie.After-earliest-arrival)
+    → KeptBehind (used (begun (laid-out c) .args .trailer .rows)) (begun (laid-out c) .args .work .now) (c .earliest-arrival .last .1 .1 .1 .1 .1 .1 .1 .0)
+kept c =
+    kept-later 2400 (used (begun (laid-out c) .args .trailer .rows)) (begun (laid-out c) .args .work .now)
+    (c .earliest-arrival .last .1 .1 .1 .1 .1 .1 .1 .0) (omega arith)
+    (record { same-length = c .earliest-arrival .ensures .1; kept = c .earliest-arrival .ensures .2 })
 
 sailings-in-requires : tie.Need-sailings-in-requires
 sailings-in-requires c κs = search needs
@@ -66,22 +78,22 @@ slice-aggregate-read-tables c = search needs
 read-tables-requires : tie.Need-read-tables-requires
 read-tables-requires c κs =
     let a = c .before .before .before .before .before in
-    (tables-stand (a .args .f) (a .args .file .now) (a .args .q) (a .pre .0) (c .before .sailings-in .result) (c .before .sailings-in .ensures), refl)
-
-number-requires : tie.Need-number-requires
-number-requires c κs = search needs
+    let s = c .before .sailings-in in
+    (tables-stand (a .args .f) (a .args .file .now) (a .args .trailer) (a .args .q) (a .pre .0) (s .result) (s .ensures), refl)
 
 rows-before-requires : tie.Need-rows-before-requires
 rows-before-requires c κs =
-    let a = c .before .before .before .before .before .before .before .before in
-    rows-stand (a .args .f) (a .args .file .now) (a .args .q) (a .pre .0) (c .before .before .before .before .sailings-in .result)
-    (c .before .before .before .before .sailings-in .ensures)
+    let a = c .before .before .before .before .before .before .before in
+    let s = c .before .before .before .sailings-in in
+    rows-stand (a .args .f) (a .args .file .now) (a .args .trailer) (a .args .q) (a .pre .0) (s .result) (s .ensures)
 
-slice-aggregate-reach : tie.Need-slice-aggregate-reach
-slice-aggregate-reach c = search needs
+slice-aggregate-earliest-arrival : tie.Need-slice-aggregate-earliest-arrival
+slice-aggregate-earliest-arrival c = search needs
 
-reach-requires : tie.Need-reach-requires
-reach-requires c κs = (laid (c .before .before), omega (arith, begun (c .before .before) .pre .2))
+earliest-arrival-requires : tie.Need-earliest-arrival-requires
+earliest-arrival-requires c κs =
+    let l = laid (c .before .before) in
+    (l .stand, l .held, l .source, l .target, l .apart, l .minute, l .cut, omega (arith, begun (c .before .before) .pre .1))
 
 no-plan-requires : tie.Need-no-plan-requires
 no-plan-requires c κs = search needs
@@ -91,38 +103,44 @@ same-length c = search needs
 
 returns : tie.Need-returns
 returns c =
-    let a = begun (c .before .before .before .before .before .before .before) in
-    let s = c .before .before .before .before .before .before .before .before .before .before .before .before .sailings-in in
-    let r = c .before .before .before .before .reach in
-    let gone = no-arrival-cell (earliest (timetableIn (a .args .file .now) (s .result)) (a .args .q)) (r .result) (r .ensures .0)
-    (λ e found. arrival-fits (c .before .before .before .before .before .before .before) e found .1) (omega arith) in (
+    let at = c .before .before .before .before in
+    let a = begun (laid-out at) in
+    let s = laid-out at .before .before .before .before .sailings-in in
+    let gone = no-arrival-cell (earliest (timetableIn (a .args .file .now) (s .result)) (a .args .q)) (at .earliest-arrival .result) (told at)
+    (λ e found. arrival-fits (laid-out at) e found .1) (omega arith) in (
       no-plan-answers (planned (decode (a .args .f) (a .args .file .now)) (a .args .q)) (c .no-plan .result) (a .args .plan .now)
-          (plan-there (a .args .f) (a .args .file .now) (a .args .q) (a .pre .0) (s .result) (s .ensures)
+          (plan-there (a .args .f) (a .args .file .now) (a .args .trailer) (a .args .q) (a .pre .0) (s .result) (s .ensures)
           ∙ no-plan-of (timetableIn (a .args .file .now) (s .result)) (a .args .q) gone) (c .no-plan .ensures),
-      kept-later 2400 (used (headOf (a .args .f) (a .args .file .now) .rows)) (a .args .work .now) (r .last .1 .1 .1 .1 .1 .0) (omega arith)
-          (r .ensures .1),
+      kept at,
     )
+
+number-requires : tie.Need-number-requires
+number-requires c κs = search needs
 
 bound-of-requires : tie.Need-bound-of-requires
 bound-of-requires c κs =
-    let found = arrived (c .before .before .before) (λ e. let z : ⊥ = omega arith in z) in
-    let fits = arrival-fits (laid-out c) (c .before .before .before .reach .result) found in
-    (fits .0, fits .1, begun (laid-out c) .pre .1)
+    let at = c .before .before .before .before in
+    let end = c .number .ensures .0 in
+    let found = arrived at (λ e. let z : ⊥ = omega arith in z) in
+    let fits = arrival-fits (laid-out at) (at .earliest-arrival .result) found in
+    (omega (arith, fits .0, end), omega (arith, fits .1, end), begun (laid-out at) .pre .0 .code)
 
 slice-aggregate-plan-within : tie.Need-slice-aggregate-plan-within
 slice-aggregate-plan-within c = search needs
 
 plan-within-requires : tie.Need-plan-within-requires
 plan-within-requires c κs =
-    let a = begun (laid-out (c .before .before .before .before)) in
-    let s = laid-out (c .before .before .before .before) .before .before .before .before .before .sailings-in in
-    let rows = rows-there (a .args .f) (a .args .file .now) (a .args .q) (a .pre .0) (s .result) (s .ensures) in (
-      laid (laid-out (c .before .before .before .before)),
-      subst (Reaches (a .args .q .minute)) (sym (c .before .before .before .bound-of .ensures))
-          (bound-reaches (a .args .q) (c .before .before .before .before .before .before .before .reach .result)),
-      (let z : used (s .result .rows) ≤ length (c .before .before .before .before .before .before .before .reach .last .1 .1 .1 .1 .1 .0) = omega
-          (arith, a .pre .2, rows, c .before .before .before .before .before .before .before .reach .ensures .1 .same-length) in z),
-      omega (arith, a .pre .3, rows),
+    let bounded = c .before .before .before in
+    let at = bounded .before .before .before .before .before in
+    let a = begun (laid-out at) in
+    let s = laid-out at .before .before .before .before .sailings-in in
+    let rows = rows-there (a .args .f) (a .args .file .now) (a .args .trailer) (a .args .q) (a .pre .0) (s .result) (s .ensures) in (
+      laid (laid-out at),
+      subst (Reaches (a .args .q .minute)) (sym (bounded .bound-of .ensures .0)) (bound-reaches (a .args .q) (bounded .before .number .result)),
+      bounded .bound-of .ensures .1,
+      (let z : used (s .result .rows) ≤ length (at .earliest-arrival .last .1 .1 .1 .1 .1 .1 .1 .0) = omega
+          (arith, a .pre .1, rows, at .earliest-arrival .ensures .1) in z),
+      omega (arith, a .pre .2, rows),
     )
 
 same-length-2 : tie.Need-same-length-2
@@ -133,24 +151,24 @@ same-length-3 c = search needs
 
 returns-2 : tie.Need-returns-2
 returns-2 c =
-    let a = begun (laid-out (arriving c)) in
-    let s = laid-out (arriving c) .before .before .before .before .before .sailings-in in
-    let r = arriving c .before .before .before .reach in
+    let at = arriving c .before .before .before in
+    let a = begun (laid-out at) in
+    let s = laid-out at .before .before .before .before .sailings-in in
     let p = c .before .before .before .before .plan-within in
-    let found = arrived (arriving c .before .before .before) (λ e. let z : ⊥ = omega (arith, arriving c .if1 .left) in z) in
-    let rows = rows-there (a .args .f) (a .args .file .now) (a .args .q) (a .pre .0) (s .result) (s .ensures) in
-    let same : planIn (a .args .file .now) (s .result) (a .args .q)
-    (c .before .before .before .before .before .before .before .before .bound-of .result) ≡ planned (decode (a .args .f) (a .args .file .now))
+    let bounded = c .before .before .before .before .before .before .before .before in
+    let found = arrived at (λ e. let z : ⊥ = omega (arith, arriving c .if1 .left) in z) in
+    let rows = rows-there (a .args .f) (a .args .file .now) (a .args .trailer) (a .args .q) (a .pre .0) (s .result) (s .ensures) in
+    let same : planIn (a .args .file .now) (s .result) (a .args .q) (bounded .bound-of .result) ≡ planned (decode (a .args .f) (a .args .file .now))
     (a .args .q) =
-    ap (planIn (a .args .file .now) (s .result) (a .args .q)) (c .before .before .before .before .before .before .before .before .bound-of .ensures)
-    ∙ sym (plan-by-arrival (a .args .f) (a .args .file .now) (a .args .q) (a .pre .0) (s .result) (s .ensures) (r .result) found)
+    ap (planIn (a .args .file .now) (s .result) (a .args .q))
+    (bounded .bound-of .ensures .0 ∙ ap (boundOf (a .args .q)) (bounded .before .number .ensures .0))
+    ∙ sym (plan-by-arrival (a .args .f) (a .args .file .now) (a .args .trailer) (a .args .q) (a .pre .0) (s .result) (s .ensures)
+    (at .earliest-arrival .result) found)
     in (
       subst (λ (o : Option Plan). Answers o (p .result) (a .args .plan .now) (p .last .1 .1 .1 .1 .1 .1 .1 .0)) same (p .ensures .0),
-      kept-both (used (headOf (a .args .f) (a .args .file .now) .rows)) (a .args .work .now) (r .last .1 .1 .1 .1 .1 .0)
-          (p .last .1 .1 .1 .1 .1 .1 .0)
-          (kept-later 2400 (used (headOf (a .args .f) (a .args .file .now) .rows)) (a .args .work .now) (r .last .1 .1 .1 .1 .1 .0) (omega arith)
-          (r .ensures .1))
-          (subst (λ n. KeptBehind (used n) (r .last .1 .1 .1 .1 .1 .0) (p .last .1 .1 .1 .1 .1 .1 .0)) rows (p .ensures .1)),
+      kept-both (used (a .args .trailer .rows)) (a .args .work .now) (at .earliest-arrival .last .1 .1 .1 .1 .1 .1 .1 .0)
+          (p .last .1 .1 .1 .1 .1 .1 .0) (kept at)
+          (subst (λ n. KeptBehind (used n) (at .earliest-arrival .last .1 .1 .1 .1 .1 .1 .1 .0) (p .last .1 .1 .1 .1 .1 .1 .0)) rows (p .ensures .1)),
     )
 
 pub plan-in-room-spec : {M : Type 1} → statement M
@@ -160,13 +178,13 @@ plan-in-room-spec =
     sailings-in-requires
     slice-aggregate-read-tables
     read-tables-requires
-    number-requires
     rows-before-requires
-    slice-aggregate-reach
-    reach-requires
+    slice-aggregate-earliest-arrival
+    earliest-arrival-requires
     no-plan-requires
     same-length
     returns
+    number-requires
     bound-of-requires
     slice-aggregate-plan-within
     plan-within-requires

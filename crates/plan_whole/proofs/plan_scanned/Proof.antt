@@ -14,10 +14,10 @@ use Rattle.plan_whole.proofs.plan_scanned.Statement.{statement}
 use Rattle.plan_whole.proofs.plan_scanned.Tie as tie
 
 -- places on the way: the entry; where the top of the stack is known; where the plan is written
-abbrev begun : tie.After-number3 → tie.Start
-begun c = c .before .before .before .before .before .before .before .before .before .before
+abbrev begun : tie.After-number2 → tie.Start
+begun c = c .before .before .before .before .before .before .before .before .before
 
-abbrev topped : tie.After-write-plan → tie.After-number3
+abbrev topped : tie.After-write-plan → tie.After-number2
 topped c = c .before .before .before .before .before .before
 
 abbrev given-back : tie.After-cell2 → tie.After-write-plan
@@ -34,35 +34,32 @@ told a =
     (a .pre .1 .inside) (a .args .work .now) (a .args .goal .target) (a .pre .1 .target) (a .pre .4) (a .pre .1 .idle)
 
 -- the stack's size and start, as read
-sized : (c : tie.After-number2) →
-    let a = c .before .before .before .before .before .before .before .args in c .number2 .result ≡ stackSize (a .work .now) (a .q .source)
-sized c =
-    let a = c .before .before .before .before .before .before .before .args in
-    c .number2 .ensures .0 ∙ ap (λ i. getD (a .work .now) (2200 + i) 0) (c .before .before .number .ensures .0)
+sized : (c : tie.After-number) →
+    let a = c .before .before .before .before .before .before .args in c .number .result ≡ stackSize (a .work .now) (a .q .source)
+sized c = c .number .ensures .0
 
-started : (c : tie.After-number3) → c .number3 .result ≡ getD (begun c .args .work .now) (2000 + begun c .args .q .source) 0
-started c = c .number3 .ensures .0
-    ∙ ap (λ i. getD (begun c .args .work .now) (2000 + i) 0) (c .before .before .before .before .before .number .ensures .0)
+started : (c : tie.After-number2) → c .number2 .result ≡ getD (begun c .args .work .now) (2000 + begun c .args .q .source) 0
+started c = c .number2 .ensures .0
 
-some-here : (c : tie.After-number3) → 0 < stackSize (begun c .args .work .now) (begun c .args .q .source)
+some-here : (c : tie.After-number2) → 0 < stackSize (begun c .args .work .now) (begun c .args .q .source)
 some-here c = omega (arith, sized (c .before .before .before), c .before .before .if1 .left)
 
-top-of : (c : tie.After-number3) →
+top-of : (c : tie.After-number2) →
     let a = begun c in
     Top (a .args .file .now) (a .args .s) (a .args .tables .now) (a .args .q) (a .args .first) (a .pre .0) (a .args .goal .bound) (a .args .end)
     (a .pre .1 .ordered) (a .pre .1 .inside) (a .args .work .now) (a .args .goal .target)
 top-of c = told (begun c) .1 (some-here c)
 
 -- the cell of the top
-same-top : (c : tie.After-number3) →
+same-top : (c : tie.After-number2) →
     let a = begun c in
-    2400 + 2 * (c .number3 .result + c .before .before .before .number2 .result - 1)
+    2400 + 2 * (c .number2 .result + c .before .before .before .number .result - 1)
     ≡ top (a .args .file .now) (a .args .s) (a .args .tables .now) (a .args .q) (a .args .first) (a .pre .0) (a .args .goal .bound) (a .args .end)
     (a .pre .1 .ordered) (a .pre .1 .inside) (a .args .work .now)
 same-top c = ap₂ (λ i j. 2400 + 2 * (i + j - 1)) (started c) (sized (c .before .before .before))
 
-top-inside : (c : tie.After-number3)
-    → 2400 + 2 * (c .number3 .result + c .before .before .before .number2 .result - 1) + 1 < used (begun c .args .s .rows)
+top-inside : (c : tie.After-number2)
+    → 2400 + 2 * (c .number2 .result + c .before .before .before .number .result - 1) + 1 < used (begun c .args .s .rows)
 top-inside c =
     omega (
       arith,
@@ -88,9 +85,6 @@ first-ride c =
           ∙ t .row);
     }
 
-number-requires : tie.Need-number-requires
-number-requires c κs = search needs
-
 add-number : tie.Need-add-number
 add-number c = search needs
 
@@ -100,17 +94,17 @@ mul-number c = search needs
 slice-read-number : tie.Need-slice-read-number
 slice-read-number c = search needs
 
-number-requires-2 : tie.Need-number-requires-2
-number-requires-2 c κs = search needs
+number-requires : tie.Need-number-requires
+number-requires c κs = search needs
 
 no-plan-requires : tie.Need-no-plan-requires
 no-plan-requires c κs = search needs
 
 returns : tie.Need-returns
 returns c =
-    let a = c .before .before .before .before .before .before .before .before .before in
+    let a = c .before .before .before .before .before .before .before .before in
     let none-here : stackSize (a .args .work .now) (a .args .q .source) ≡ 0 = sym (sized (c .before .before))
-    ∙ (let z : c .before .before .number2 .result ≡ 0 = omega arith in z) in (
+    ∙ (let z : c .before .before .number .result ≡ 0 = omega arith in z) in (
       no-plan-answers (planIn (a .args .file .now) (a .args .s) (a .args .q) (a .args .goal .bound)) (c .no-plan .result) (a .args .plan .now)
           (told a .0 none-here) (c .no-plan .ensures),
       record { same-length = refl; kept = refl },
@@ -125,8 +119,8 @@ mul-number-2 c = search needs
 slice-read-number-2 : tie.Need-slice-read-number-2
 slice-read-number-2 c = search needs
 
-number-requires-3 : tie.Need-number-requires-3
-number-requires-3 c κs = search needs
+number-requires-2 : tie.Need-number-requires-2
+number-requires-2 c κs = search needs
 
 add-top : tie.Need-add-top
 add-top c = search needs
@@ -208,17 +202,16 @@ pub plan-scanned-spec : {M : Type 1} → statement M
 plan-scanned-spec =
     tie.close
     (tie.spec
-    number-requires
     add-number
     mul-number
     slice-read-number
-    number-requires-2
+    number-requires
     no-plan-requires
     returns
     add-number-2
     mul-number-2
     slice-read-number-2
-    number-requires-3
+    number-requires-2
     add-top
     sub-top
     mul-top

@@ -1,85 +1,69 @@
--- `planner::earliest_safe_arrival` meets its contract: the check's refusals, then E in a sound file. Assumes nothing.
-use mathlib.Core.Path.{sym, ap, ap₂, _∙_}
-use native.Mathlib.Omega.{arith}
+-- `planner::earliest_safe_arrival` meets its contract: a refused call, or E of an admitted one. Assumes nothing.
+use mathlib.Core.Path.{_≡_, sym, ap, subst, _∙_}
+use lib.ListN.{length}
 use Rattle.file_layout.specs.Format.{versionOne}
-use Rattle.planner.specs.declared.Earliest.the-variants.{Refused as NoArrival}
-use Rattle.planner.specs.Outcome.{EarliestOutcome, earliestOutcome}
-use Rattle.planner.proofs.Answered.{refusal-fits, refused-checked-as, refused-by-check-earliest, sound-by-check-earliest, refused-as-earliest, found-sound}
+use Rattle.file_layout.proofs.Sound.{version-one-readable}
+use Rattle.query.specs.Query.{queryOf}
+use Rattle.plan_rows.proofs.Standing.{version-one-plannable}
+use Rattle.planner.specs.Admission.{SmallRoom, workRoom, noRoom, admitted}
+use Rattle.planner.proofs.Admitting.{admission-tells, admitted-tells, work-small, none-small}
+use Rattle.planner.proofs.Answered.{refused-as-earliest}
 use borrow.Author.Needs.{needs}
 use Rattle.planner.proofs.earliest_safe_arrival.Statement.{statement}
 use Rattle.planner.proofs.earliest_safe_arrival.Tie as tie
 
--- the entry, from where the check has answered
-abbrev begun : tie.After-check → tie.Start
-begun c = c .before .before .before
+-- the admission at work's length
+told : (c : tie.After-admit) →
+    let a = c .before .before .before .before .args in
+    c .admit .result ≡ admitted versionOne (a .file .now) (queryOf (a .source) (a .target) (a .minute) 0) (workRoom (length (a .work .now))) noRoom
+told c =
+    let a = c .before .before .before .before .args in
+    c .admit .ensures
+    ∙ ap (λ r. admitted versionOne (a .file .now) (queryOf (a .source) (a .target) (a .minute) 0) r noRoom) (c .before .work-room .ensures)
 
-abbrev sounded : tie.After-earliest-sound → tie.After-check
-sounded c = c .before .before .before .before .before
+work-room-requires : tie.Need-work-room-requires
+work-room-requires c κs = search needs
 
-check-requires : tie.Need-check-requires
-check-requires c κs = search needs
+admit-requires : tie.Need-admit-requires
+admit-requires c κs = (version-one-readable, subst SmallRoom (sym (c .work-room .ensures)) (work-small _), none-small)
 
-enum-known-checked : tie.Need-enum-known-checked
-enum-known-checked c = search needs
+enum-known-admission : tie.Need-enum-known-admission
+enum-known-admission c = search needs
 
-cell-requires : tie.Need-cell-requires
-cell-requires c κs =
-    refusal-fits versionOne (begun (c .before .before .before) .args .file .now)
-    (λ i. omega (arith, c .before .before .before .before .before .shared-slice-known .given i)) (c .before .checked .given .0 .0)
-    (c .before .checked .given .0 .1 .0)
-    (refused-checked-as (begun (c .before .before .before) .args .file .now) (c .before .checked .given .0 .0) (c .before .checked .given .0 .1 .0)
-    (sym (c .before .before .before .check .ensures) ∙ c .before .checked .given .1)) .0
+enum-known-admission-2 : tie.Need-enum-known-admission-2
+enum-known-admission-2 c = search needs
 
-cell-requires-2 : tie.Need-cell-requires-2
-cell-requires-2 c κs =
-    refusal-fits versionOne (begun (c .before .before .before .before) .args .file .now)
-    (λ i. omega (arith, c .before .before .before .before .before .before .shared-slice-known .given i)) (c .before .before .checked .given .0 .0)
-    (c .before .before .checked .given .0 .1 .0)
-    (refused-checked-as (begun (c .before .before .before .before) .args .file .now) (c .before .before .checked .given .0 .0)
-    (c .before .before .checked .given .0 .1 .0) (sym (c .before .before .before .before .check .ensures) ∙ c .before .before .checked .given .1)) .1
-
-enum-known-checked-2 : tie.Need-enum-known-checked-2
-enum-known-checked-2 c = search needs
-
-earliest-sound-requires : tie.Need-earliest-sound-requires
-earliest-sound-requires c κs =
-    let k = c .before .before .checked2 .given in
-    found-sound (begun (c .before .before .before .before) .args .file .now) (k .0 .0) (k .0 .1 .0) (k .0 .1 .1 .0)
-    (sym (c .before .before .before .before .check .ensures) ∙ k .1)
+earliest-admitted-requires : tie.Need-earliest-admitted-requires
+earliest-admitted-requires c κs =
+    let at = c .before .before .before .before in
+    let a = at .before .before .before .before .args in
+    admitted-tells versionOne (a .file .now) (queryOf (a .source) (a .target) (a .minute) 0) (workRoom (length (a .work .now))) noRoom
+    _ version-one-plannable (sym (told at) ∙ c .before .before .admission2 .given .1)
 
 returns : tie.Need-returns
 returns c =
-    let a = begun (c .before .before .before .before .before) in
-    let k = c .before .before .before .checked .given in
-    refused-as-earliest (earliestOutcome (a .args .file .now) (a .args .source) (a .args .target) (a .args .minute) (a .args .work .now)) (k .0 .0)
-    (k .0 .1 .0) _ (a .args .work .now)
-    (refused-by-check-earliest (a .args .file .now) (a .args .source) (a .args .target) (a .args .minute) (a .args .work .now) (k .0 .0) (k .0 .1 .0)
-    (sym (c .before .before .before .before .before .check .ensures) ∙ k .1))
-    (ap₂ NoArrival (c .before .cell .ensures) (c .cell2 .ensures))
+    let at = c .before .before .before in
+    let a = at .before .before .before .before .args in
+    let k = c .before .admission .given in
+    let q = queryOf (a .source) (a .target) (a .minute) 0 in
+    refused-as-earliest versionOne (a .file .now) q (a .work .now) (k .0 .0) (k .0 .1 .0)
+    (admission-tells versionOne (a .file .now) q (workRoom (length (a .work .now))) noRoom (k .0 .0) (k .0 .1 .0) (sym (told at) ∙ k .1))
 
 same-length : tie.Need-same-length
 same-length c = search needs
 
 returns-2 : tie.Need-returns-2
-returns-2 c =
-    let a = begun (sounded (c .before .before)) in
-    let k = c .before .before .before .before .before .checked2 .given in
-    let p = c .before .before .earliest-sound .ensures in
-    let same = sound-by-check-earliest (a .args .file .now) (a .args .source) (a .args .target) (a .args .minute) (a .args .work .now) (k .0 .0)
-    (k .0 .1 .0) (k .0 .1 .1 .0)
-    (sym (sounded (c .before .before) .check .ensures) ∙ k .1) in
-    (p .0 ∙ sym (ap (λ (x : EarliestOutcome). x .answer) same), p .1 ∙ sym (ap (λ (x : EarliestOutcome). x .work) same))
+returns-2 c = search needs
 
 pub earliest-safe-arrival-spec : {M : Type 1} → statement M
 earliest-safe-arrival-spec =
     tie.close
     (tie.spec
-    check-requires
-    enum-known-checked
-    cell-requires
-    cell-requires-2
-    enum-known-checked-2
-    earliest-sound-requires
+    work-room-requires
+    admit-requires
+    enum-known-admission
+    enum-known-admission-2
+    earliest-admitted-requires
     returns
     same-length
     returns-2)

@@ -4,7 +4,7 @@ use mathlib.Core.List.{List, _++_}
 use mathlib.Core.Path.{ap, sym, subst, _∙_}
 use native.Mathlib.Omega.{arith}
 use Rattle.file_layout.proofs.Sound.{sound-gives, version-one-readable}
-use Rattle.file_layout.specs.Decode.{decode, headOf}
+use Rattle.file_layout.specs.Decode.{decode, trailerOf}
 use Rattle.file_layout.specs.Format.{versionOne}
 use Rattle.sheet_text.specs.Sheet.{firstText, refusedText}
 use Rattle.sheet_text.specs.Lines.{linesIn, RidesIn}
@@ -60,7 +60,7 @@ put-plan-requires c κs =
     let few = inside .room in (
       (
         sound-gives versionOne (start .args .sailings .now) version-one-readable (start .pre .0),
-        subst (λ n. RidesIn (headOf versionOne (start .args .sailings .now) .rows) (planning .plan .last .1 .1 .1 .0) n)
+        subst (λ n. RidesIn (trailerOf versionOne (start .args .sailings .now) .rows) (planning .plan .last .1 .1 .1 .0) n)
             (sym (c .before .number2 .ensures .0)) inside,
       ),
       omega (arith, few, planning .plan .kept .1 .1 .1 .0, c .before .number2 .ensures .0, start .pre .1),

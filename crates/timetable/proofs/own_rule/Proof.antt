@@ -20,7 +20,7 @@ broken false = refl
 -- where the other tests hold, the rule is the last one
 last-test :
     (g : Ranges) (r : Row) → r .board < g .stops → r .land < g .stops → (r .board ≡ r .land → ⊥) → r .departure < r .arrival
-    → r .departure ≤ g .latest → r .arrival ≤ g .latest → r .trip < mostTrips → ltb (r .class) (g .classes) ≡ ownRule g r
+    → r .departure ≤ g .lastminute → r .arrival ≤ g .lastminute → r .trip < mostTrips → ltb (r .class) (g .classes) ≡ ownRule g r
 unfolding ownRule
 last-test g r board land differ onward departs arrives trip =
     simp (lt-ltb _ _ board, lt-ltb _ _ land, ne-eqb _ _ differ, lt-ltb _ _ onward, le-leb _ _ departs, le-leb _ _ arrives, lt-ltb _ _ trip)

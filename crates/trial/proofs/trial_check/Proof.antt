@@ -5,7 +5,7 @@ use native.Mathlib.Omega.{arith}
 use Rattle.file_layout.specs.declared.Checked.the-variants.{Sound, Refused}
 use Rattle.file_layout.specs.Check.{checked}
 use Rattle.file_layout.specs.Format.{versionOne}
-use Rattle.planner.proofs.Answered.{refusal-fits}
+use Rattle.file_layout.proofs.Refusals.{refusal-fits}
 use Rattle.trial.proofs.Six.{seen-sound, seen-refused, sound-small, refused-as}
 use borrow.Author.Needs.{needs}
 use Rattle.trial.proofs.trial_check.Statement.{statement}
@@ -14,7 +14,7 @@ use Rattle.trial.proofs.trial_check.Tie as tie
 -- what the check answered of the file, in each arm
 sound : (c : tie.After-known-told)
     → checked (c .before .before .before .before .before .before .args .file .now)
-    ≡ Sound (c .before .checked .given .0 .0) (c .before .checked .given .0 .1 .0) (c .before .checked .given .0 .1 .1 .0)
+    ≡ Sound (c .before .checked .given .0 .0)
 sound c = sym (c .before .before .before .check .ensures) ∙ c .before .checked .given .1
 
 refused : (c : tie.After-known-told2)
@@ -23,11 +23,9 @@ refused : (c : tie.After-known-told2)
 refused c = sym (c .before .before .before .check .ensures) ∙ c .before .checked2 .given .1
 
 sizes : (c : tie.After-known-told)
-    → (c .before .checked .given .0 .0 < 4294967296) × (c .before .checked .given .0 .1 .0 < 4294967296)
-    × (c .before .checked .given .0 .1 .1 .0 < 4294967296)
-sizes c =
-    let answer = c .before .checked .given .0 in
-    sound-small (c .before .before .before .before .before .before .args .file .now) (answer .0) (answer .1 .0) (answer .1 .1 .0) (sound c)
+    → (c .before .checked .given .0 .0 .stops < 4294967296) × (c .before .checked .given .0 .0 .rows < 4294967296)
+    × (c .before .checked .given .0 .0 .classes < 4294967296)
+sizes c = sound-small (c .before .before .before .before .before .before .args .file .now) (c .before .checked .given .0 .0) (sound c)
 
 faults : (c : tie.After-known-told2) → (c .before .checked2 .given .0 .0 < 4294967296) × (c .before .checked2 .given .0 .1 .0 < 4294967296)
 faults c =

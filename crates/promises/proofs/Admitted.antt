@@ -1,0 +1,40 @@
+-- What an admitted call stands on: a sound file's timetable, two stops apart, a bound code. Assumes nothing.
+use Prim.Native.Nat.{ℕ}
+use mathlib.Core.List.{List}
+use mathlib.Core.Logic.{_↔_, inl, inr}
+use mathlib.Core.Option.{none}
+use mathlib.Core.Path.{_≡_, refl}
+use Rattle.timetable.specs.Verdict.{fine}
+use Rattle.file_layout.specs.declared.Format.{Format}
+use Rattle.file_layout.specs.Format.{versionOne}
+use Rattle.file_layout.specs.Decode.{decode, trailerOf}
+use Rattle.query.specs.declared.Query.{Query}
+use Rattle.query.specs.Query.{QueryFits}
+use Rattle.plans.specs.Sound.{Timely}
+use Rattle.plans.specs.Journeys.{Journey, CodeStands}
+use Rattle.plans.specs.Plan.{planned, earliest}
+use Rattle.demands.proofs.Demand2 as demand2
+use Rattle.plan_rows.proofs.Standing.{timely, version-one-plannable}
+use Rattle.planner.specs.declared.Room.{Room}
+use Rattle.planner.specs.Admission.{admission, Admits}
+use Rattle.planner.proofs.Admitting.{file-sound, query-kept}
+
+module _ (file : List ℕ) (q : Query) (work other : Room) (call : admission versionOne file q work other ≡ fine) where
+  admits : Admits versionOne file (trailerOf versionOne file) q work other
+  admits = record { plannable = version-one-plannable; fine-call = call; read = refl }
+
+  pub is-timely : Timely (decode versionOne file)
+  unfolding decode
+  is-timely =
+      let stands = timely versionOne version-one-plannable file (file-sound admits) in
+      record { rising = stands .rising; forward = stands .forward; shared = stands .shared }
+
+  pub query-fits : QueryFits (trailerOf versionOne file .stops) (versionOne .lastminute) q
+  query-fits = query-kept admits
+
+  -- there is no plan exactly if there is no safe journey
+  pub no-plan-exactly : (planned (decode versionOne file) q ≡ none) ↔ ((end : ℕ) → Journey (decode versionOne file) q end → ⊥)
+  no-plan-exactly = demand2.no-safe-journey (decode versionOne file) is-timely q code-stands (query-fits .apart)
+    where
+      code-stands : CodeStands (q .code)
+      code-stands = elim (query-fits .code) [ inl p ↦ inl p | inr p ↦ inr (p .0) ]

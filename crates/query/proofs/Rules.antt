@@ -1,0 +1,106 @@
+-- Document 01's refusal 6, test by test, and what a query that keeps its rule is. Assumes nothing.
+use Prim.Native.Nat.{ℕ, _≤_, _<_}
+use native.Mathlib.Omega.{arith}
+use mathlib.Core.Bool.{Bool, true, false, not, _&&_}
+use mathlib.Core.Logic.{_⊎_, inl, inr, _≢_}
+use mathlib.Core.List.{List}
+use mathlib.Core.Path.{_≡_, refl, sym, ap, _∙_}
+use lib.Dec.{leb, ltb, eqb}
+use lib.ListN.{length}
+use borrow.Author.Tests.{ltb-true, leb-true, eqb-true, eqb-false, lt-ltb, le-ltb, le-leb, lt-leb, eq-eqb, ne-eqb, not-true}
+use Rattle.laws.proofs.Tests.{both-left, both-right, either, cond-true, cond-false}
+use Rattle.numbers.specs.Numbers.{u16At}
+use Rattle.query.specs.declared.Query.{Query}
+use Rattle.query.specs.Query.{queryOf, journeyRule, codeRule, queryRule, QueryFits, queryBytes, noQuery, queryIn}
+
+-- a conjunction with a false part is false
+broken : (b : Bool) → (b && false) ≡ false
+broken true = refl
+broken false = refl
+
+-- a test that fails breaks the rule, and the last decides once the others hold
+module _ (stops last : ℕ) (q : Query) where
+  pub source-outside : stops ≤ q .source → false ≡ journeyRule stops last q
+  unfolding journeyRule
+  source-outside h = simp (le-ltb _ _ h)
+
+  pub target-outside : stops ≤ q .target → false ≡ journeyRule stops last q
+  unfolding journeyRule
+  target-outside h = simp (le-ltb _ _ h, broken)
+
+  pub one-stop : q .source ≡ q .target → false ≡ journeyRule stops last q
+  unfolding journeyRule
+  one-stop h = simp (eq-eqb _ _ h, broken)
+
+  pub minute-decides : q .source < stops → q .target < stops → q .source ≢ q .target → leb (q .minute) last ≡ journeyRule stops last q
+  unfolding journeyRule
+  minute-decides source target apart = simp (lt-ltb _ _ source, lt-ltb _ _ target, ne-eqb _ _ apart)
+
+  pub journey-breaks : journeyRule stops last q ≡ false → false ≡ queryRule stops last q
+  unfolding queryRule
+  journey-breaks e = sym (ap (λ x. x && codeRule q) e)
+
+  pub code-decides-rule : journeyRule stops last q ≡ true → codeRule q ≡ queryRule stops last q
+  unfolding queryRule
+  code-decides-rule e = sym (ap (λ x. x && codeRule q) e)
+
+-- the bound code
+module _ (q : Query) where
+  pub no-code : q .code ≡ 0 → true ≡ codeRule q
+  unfolding codeRule
+  no-code h = simp (eq-eqb _ _ h)
+
+  pub code-small : (q .code ≡ 0 → ⊥) → q .code < 4 → false ≡ codeRule q
+  unfolding codeRule
+  code-small some-code h = simp (ne-eqb _ _ some-code, lt-leb _ _ h)
+
+  pub code-decides : (q .code ≡ 0 → ⊥) → 4 ≤ q .code → leb (q .code) 16 ≡ codeRule q
+  unfolding codeRule
+  code-decides some-code h = simp (ne-eqb _ _ some-code, le-leb _ _ h)
+
+-- all that a kept rule tells
+pub rule-gives : (stops last : ℕ) (q : Query) → queryRule stops last q ≡ true → QueryFits stops last q
+unfolding queryRule journeyRule codeRule
+rule-gives stops last q kept =
+    let source = ltb (q .source) stops in
+    let target = source && ltb (q .target) stops in
+    let apart = target && not (eqb (q .source) (q .target)) in
+    let e = both-left (apart && leb (q .minute) last) (codeRule q) kept in
+    let e₃ = both-left apart (leb (q .minute) last) e in
+    let e₂ = both-left target (not (eqb (q .source) (q .target))) e₃ in
+    record {
+      source = ltb-true (q .source) stops (both-left source (ltb (q .target) stops) e₂);
+      target = ltb-true (q .target) stops (both-right source (ltb (q .target) stops) e₂);
+      apart =
+          eqb-false (q .source) (q .target) (not-true (eqb (q .source) (q .target)) (both-right target (not (eqb (q .source) (q .target))) e₃));
+      minute = leb-true (q .minute) last (both-right apart (leb (q .minute) last) e);
+      code =
+          elim (either (eqb (q .code) 0) (leb 4 (q .code) && leb (q .code) 16) (both-right (apart && leb (q .minute) last) (codeRule q) kept)) [
+            | inl p ↦ inl (eqb-true (q .code) 0 p)
+            | inr p ↦ inr (
+              leb-true 4 (q .code) (both-left (leb 4 (q .code)) (leb (q .code) 16) p),
+              leb-true (q .code) 16 (both-right (leb 4 (q .code)) (leb (q .code) 16) p),
+            )
+          ];
+    }
+
+-- no code is above 16
+pub code-most : {stops last : ℕ} {q : Query} → QueryFits stops last q → q .code ≤ 16
+code-most {stops} {last} {q} fits = elim (fits .code) [ inl p ↦ (let z : q .code ≤ 16 = omega arith in z) | inr p ↦ p .1 ]
+
+-- the four numbers of 8 bytes, and what any other bytes ask
+module _ (bytes : List ℕ) where
+  pub other-length : length bytes ≢ queryBytes → noQuery ≡ queryIn bytes
+  unfolding queryIn
+  other-length other =
+      sym (cond-false (queryOf (u16At bytes 0) (u16At bytes 2) (u16At bytes 4) (u16At bytes 6)) noQuery (ne-eqb _ _ other))
+
+  pub eight-bytes : length bytes ≡ queryBytes → queryOf (u16At bytes 0) (u16At bytes 2) (u16At bytes 4) (u16At bytes 6) ≡ queryIn bytes
+  unfolding queryIn
+  eight-bytes e = sym (cond-true (queryOf (u16At bytes 0) (u16At bytes 2) (u16At bytes 4) (u16At bytes 6)) noQuery (eq-eqb _ _ e))
+
+  -- `query` not of 8 bytes is 6 in its usual place, for every file
+  pub not-eight-bytes : length bytes ≢ queryBytes → (stops last : ℕ) → queryRule stops last (queryIn bytes) ≡ false
+  not-eight-bytes other stops last =
+      ap (queryRule stops last) (sym (other-length other))
+      ∙ sym (journey-breaks stops last noQuery (sym (one-stop stops last noQuery refl)))

@@ -1,0 +1,13 @@
+-- Document 01, "What every contract settles": any two outcomes that a query's calls permit coincide. Assumes nothing.
+use mathlib.Core.Path.{sym, _∙_}
+use Rattle.laws.proofs.Outcomes.{SettlesResult}
+use Rattle.query.proofs.query_in.Kinds as bytes-kinds
+use Rattle.query.proofs.query_in.Reads as bytes-reads
+use Rattle.query.proofs.query_rule.Kinds as rule-kinds
+use Rattle.query.proofs.query_rule.Reads as rule-reads
+
+pub query-in-settled : SettlesResult 1 bytes-kinds.ps bytes-kinds.r bytes-reads.Post
+query-in-settled κs arguments one other ending another first second = first ∙ sym second
+
+pub query-rule-settled : SettlesResult 0 rule-kinds.ps rule-kinds.r rule-reads.Post
+query-rule-settled κs arguments one other ending another first second = first ∙ sym second

@@ -1,0 +1,22 @@
+-- `query::query_rule` meets its contract: the code decides once the journey keeps its rule. Assumes nothing.
+use mathlib.Core.Path.{sym, _∙_}
+use borrow.Author.Tests.{not-true, not-false}
+use Rattle.query.proofs.Rules.{journey-breaks, code-decides-rule}
+use borrow.Author.Needs.{needs}
+use Rattle.query.proofs.query_rule.Statement.{statement}
+use Rattle.query.proofs.query_rule.Tie as tie
+
+journey-rule-requires : tie.Need-journey-rule-requires
+journey-rule-requires c κs = search needs
+
+returns : tie.Need-returns
+returns c = journey-breaks _ _ _ (sym (c .before .journey-rule .ensures) ∙ not-true _ (c .if1 .taken))
+
+code-rule-requires : tie.Need-code-rule-requires
+code-rule-requires c κs = search needs
+
+returns-2 : tie.Need-returns-2
+returns-2 c = c .code-rule .ensures ∙ code-decides-rule _ _ _ (sym (c .before .before .journey-rule .ensures) ∙ not-false _ (c .before .if1 .left))
+
+pub query-rule-spec : {M : Type 1} → statement M
+query-rule-spec = tie.close (tie.spec journey-rule-requires returns code-rule-requires returns-2)
