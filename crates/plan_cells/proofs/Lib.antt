@@ -1,3 +1,4 @@
 -- Laws of the lent cells.
 pub mod Filled
+pub mod Outside
 pub mod Settled

@@ -11,11 +11,14 @@ use borrow.Author.Tests.{leb-true}
 use Rattle.timetable.specs.Timetable.{Timetable, rowOf}
 use Rattle.timetable.specs.declared.Row.{Row}
 use Rattle.plans.specs.Sound.{Timely}
+use Rattle.plan_cells.specs.Cells.{trips, pairs}
+use Rattle.plan_cells.specs.Outside.{SameOutside}
+use Rattle.plan_cells.proofs.Outside.{outside-then}
 use Rattle.plan_rows.specs.declared.Sailings.{Sailings}
 use Rattle.plan_rows.specs.Reading.{rowsIn, tablesIn, timetableIn, RowFits, Stand, TablesHeld}
 use Rattle.plan_earliest.specs.Cells.{ready, landingOf, Placed, Sailed}
-use Rattle.plan_earliest.specs.Swept.{Swept, Found, SameBehind}
-use Rattle.plan_earliest.proofs.Steps.{behind-both, sails-step, sails-behind}
+use Rattle.plan_earliest.specs.Swept.{Swept, Found}
+use Rattle.plan_earliest.proofs.Steps.{sails-step, sails-behind}
 use Rattle.plan_earliest.proofs.Sweep.{Seaworthy, landing, sweeps}
 use Rattle.plan_earliest.proofs.Final.{swept-all, swept-enough}
 
@@ -62,8 +65,8 @@ module _ (file : List ℕ) (s : Sailings) (stand : Stand file s) where
       sailed-row =
           subst (λ m. Sailed row m before after) landing-held (subst (λ r. Sailed r (landingOf tables r) before after) as-filed sailed)
 
-      pub row-behind : {start : List ℕ} → SameBehind start before → SameBehind start after
-      row-behind same = behind-both same (sails-behind row (landing t i) (row-placed .trip) (row-placed .land) sailed-row)
+      pub row-behind : {start : List ℕ} → SameOutside trips pairs start before → SameOutside trips pairs start after
+      row-behind same = outside-then same (sails-behind row (landing t i) (row-placed .trip) (row-placed .land) sailed-row)
 
       pub row-swept :
           2400 ≤ length before → (source minute : ℕ) → Swept (timetableIn file s) source minute i before

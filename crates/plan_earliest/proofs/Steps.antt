@@ -7,25 +7,18 @@ use mathlib.Core.List.{List}
 use mathlib.Core.Logic.{_⊎_, inl, inr, ⊎-elim}
 use mathlib.Core.Path.{_≡_, refl, sym, ap, subst, _∙_}
 use lib.Dec.{eqb}
-use lib.ListN.{length, getD, set, length-set}
-use lib.Seq.{getD-set-same, getD-set-other, drop-set-lt}
+use lib.ListN.{length, getD, set}
+use lib.Seq.{getD-set-same, getD-set-other}
 use borrow.Author.Tests.{eqb-true, eqb-false}
 use Rattle.laws.proofs.Tests.{ifb}
 use Rattle.timetable.specs.declared.Row.{Row}
-use Rattle.plan_cells.specs.Cells.{trips, stops}
+use Rattle.plan_cells.specs.Cells.{trips, stops, pairs}
+use Rattle.plan_cells.specs.Outside.{SameOutside}
+use Rattle.plan_cells.proofs.Outside.{outside-same, outside-then, outside-set, set-cell}
 use Rattle.plan_earliest.specs.Cells.{aboard, ready, Boarded, already, boards, misses, Landed, sooner, no-sooner, Sailed, missed, sailed}
-use Rattle.plan_earliest.specs.Swept.{SameBehind}
 
 never-both : {x : ℕ} → x ≡ 0 → x ≡ 1 → ⊥
 never-both zero' one = let no' : ⊥ = omega arith in no'
-
--- a cell that is written holds the value, and any other is as it was
-written {ℓ} : (P : Type ℓ) (work : List ℕ) (at i value : ℕ) → at < length work
-    → (i ≡ at → getD (set work at value) i 0 ≡ value → P) → ((i ≡ at → ⊥) → getD (set work at value) i 0 ≡ getD work i 0 → P) → P
-written P work at i value inside here elsewhere =
-    ifb (λ b. eqb i at ≡ b → P) (eqb i at)
-    (λ e _. here (eqb-true i at e) (ap (λ k. getD (set work at value) k 0) (eqb-true i at e) ∙ getD-set-same work at value 0 inside))
-    (λ e _. elsewhere (eqb-false i at e) (getD-set-other work at i value 0 (eqb-false i at e))) refl
 
 -- a trip is boarded since before, or at this row
 abbrev pub Since : Row → List ℕ → ℕ → Type 0
@@ -47,11 +40,11 @@ aboard-now row {before} trip-small room (boards in-time) =
       now = λ z. never-both z (getD-set-same before at 1 0 inside);
       same-stops = λ stop. getD-set-other before at (stops + stop) 1 0 (λ e. let no' : ⊥ = omega arith in no');
       still =
-          λ trip z. written (aboard before trip ≡ 0) before at (trips + trip) 1 inside
-          (λ _ v. absurd (never-both z v)) (λ _ v. sym v ∙ z);
+          λ trip. set-cell (λ x. x ≡ 0 → aboard before trip ≡ 0) before at (trips + trip) 1 inside
+          (λ _ z. absurd (never-both z refl)) (λ _ z. z);
       since =
-          λ trip n. written (Since row before trip) before at (trips + trip) 1 inside
-          (λ e _. inr (omega arith, omega arith)) (λ _ v. inl (λ z. n (v ∙ z)));
+          λ trip. set-cell (λ x. (x ≡ 0 → ⊥) → Since row before trip) before at (trips + trip) 1 inside
+          (λ e _. inr (omega arith, omega arith)) (λ _ n. inl n);
     }
   where
     at : ℕ
@@ -77,12 +70,11 @@ there-now stop landing {before} stop-small room (sooner h) =
       by-then = let v : ready (set before at landing) stop ≡ landing = getD-set-same before at landing 0 inside in omega arith;
       same-trips = λ trip small. getD-set-other before at (trips + trip) landing 0 (λ e. let no' : ⊥ = omega arith in no');
       no-later =
-          λ other. written (ready (set before at landing) other ≤ ready before other) before at (stops + other) landing inside
-          (λ e v. let same : ready before other ≡ ready before stop = ap (λ k. getD before k 0) e in omega arith) (λ _ v. omega arith);
+          λ other. set-cell (λ x. x ≤ ready before other) before at (stops + other) landing inside
+          (λ e. let same : ready before stop ≡ ready before other = ap (λ k. getD before k 0) e in omega arith) (λ _. omega arith);
       so =
-          λ other. written
-          ((ready (set before at landing) other ≡ ready before other) ⊎ ((other ≡ stop) × (ready (set before at landing) other ≡ landing)))
-          before at (stops + other) landing inside (λ e v. inr (omega arith, v)) (λ _ v. inl v);
+          λ other. set-cell (λ x. (x ≡ ready before other) ⊎ ((other ≡ stop) × (x ≡ landing))) before at (stops + other) landing inside
+          (λ e. inr (omega arith, refl)) (λ _. inl refl);
     }
   where
     at : ℕ
@@ -102,19 +94,11 @@ pub record Step (row : Row) (landing : ℕ) (before after : List ℕ) : Type 0 w
       (stop : ℕ)
       → (ready after stop ≡ ready before stop) ⊎ ((stop ≡ row .land) × (aboard after (row .trip) ≡ 0 → ⊥) × (ready after stop ≡ landing))
 
-pub behind-both : {before between after : List ℕ} → SameBehind before between → SameBehind between after → SameBehind before after
-behind-both one other =
-    record { same-length = other .same-length ∙ one .same-length; same-cells = other .same-cells ∙ one .same-cells }
-
 module _ (row : Row) (landing : ℕ) (trip-small : row .trip < 2000) (land-small : row .land < 200) where
-  boarded-behind : {before after : List ℕ} {b : Bool} → Boarded row before after b → SameBehind before after
-  boarded-behind (already n) = record { same-length = refl; same-cells = refl }
-  boarded-behind {before} (boards in-time) =
-      record {
-        same-length = length-set before (trips + row .trip) 1;
-        same-cells = drop-set-lt 2400 before (trips + row .trip) 1 (omega arith);
-      }
-  boarded-behind (misses z late) = record { same-length = refl; same-cells = refl }
+  boarded-behind : {before after : List ℕ} {b : Bool} → Boarded row before after b → SameOutside trips pairs before after
+  boarded-behind {before} (already n) = outside-same trips pairs before
+  boarded-behind {before} (boards in-time) = outside-set before (trips + row .trip) 1 (omega arith) (omega arith)
+  boarded-behind {before} (misses z late) = outside-same trips pairs before
 
   -- aboard, and then there
   lands-step :
@@ -152,15 +136,11 @@ module _ (row : Row) (landing : ℕ) (trip-small : row .trip < 2000) (land-small
       lands-step (aboard-now row trip-small room b)
       (there-now (row .land) landing land-small (omega (arith, boarded-behind b .same-length)) l)
 
-  landed-behind : {before after : List ℕ} → Landed (row .land) landing before after → SameBehind before after
-  landed-behind {before} (sooner h) =
-      record {
-        same-length = length-set before (stops + row .land) landing;
-        same-cells = drop-set-lt 2400 before (stops + row .land) landing (omega arith);
-      }
-  landed-behind (no-sooner h) = record { same-length = refl; same-cells = refl }
+  landed-behind : {before after : List ℕ} → Landed (row .land) landing before after → SameOutside trips pairs before after
+  landed-behind {before} (sooner h) = outside-set before (stops + row .land) landing (omega arith) (omega arith)
+  landed-behind {before} (no-sooner h) = outside-same trips pairs before
 
   -- the cells behind stay
-  pub sails-behind : {before after : List ℕ} → Sailed row landing before after → SameBehind before after
+  pub sails-behind : {before after : List ℕ} → Sailed row landing before after → SameOutside trips pairs before after
   sails-behind (missed b) = boarded-behind b
-  sails-behind (sailed b l) = behind-both (boarded-behind b) (landed-behind l)
+  sails-behind (sailed b l) = outside-then (boarded-behind b) (landed-behind l)

@@ -3,7 +3,6 @@ use Prim.Native.Nat.{ℕ, _≤_, _<_}
 use mathlib.Core.List.{List}
 use mathlib.Core.Logic.{_⊎_}
 use mathlib.Core.Path.{_≡_}
-use lib.ListN.{length, drop}
 use Rattle.timetable.specs.Timetable.{Timetable, rowOf}
 use Rattle.plans.specs.Rides.{Ride, IsRide, latest}
 use Rattle.plan_cells.specs.Cells.{missing}
@@ -42,8 +41,3 @@ pub record Swept (t : Timetable) (source minute i : ℕ) (work : List ℕ) : Typ
 pub record Found (t : Timetable) (source minute stop cell : ℕ) : Type 0 where
   pub told : Told t source minute stop cell
   pub least : (m : ℕ) → Reached t source minute stop m → cell ≤ m
-
--- only the cells of trips and stops were touched
-pub record SameBehind (before after : List ℕ) : Type 0 where
-  pub same-length : length after ≡ length before
-  pub same-cells : drop 2400 after ≡ drop 2400 before

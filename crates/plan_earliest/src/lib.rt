@@ -2,14 +2,15 @@
 ghost use mathlib.Core.Path.{_≡_};
 ghost use mathlib.Core.Logic.{_≢_};
 ghost use Prim.Native.Nat.{ℕ, _+_, _≤_, _<_};
-ghost use lib.ListN.{length, drop};
+ghost use lib.ListN.{length};
 ghost use Rattle.plans.specs.Plan.{earliest};
 ghost use Rattle.query.specs.declared.Query.{Query};
-ghost use Rattle.plan_cells.specs.Cells.{cellOf};
+ghost use Rattle.plan_cells.specs.Cells.{trips, pairs, cellOf};
+ghost use Rattle.plan_cells.specs.Outside.{SameOutside};
 ghost use Rattle.plan_rows.specs.Reading.{rowsIn, tablesIn, timetableIn, Stand, Cut, TablesHeld};
 ghost use Rattle.query.specs.Query.{queryOf};
 ghost use Rattle.plan_earliest.specs.Cells.{ready, landingOf, Placed, Boarded, Landed, Sailed};
-ghost use Rattle.plan_earliest.specs.Swept.{Swept, Found, SameBehind};
+ghost use Rattle.plan_earliest.specs.Swept.{Swept, Found};
 use numbers::cell;
 use numbers::number;
 use plan_cells::MOST_STOPS;
@@ -40,8 +41,7 @@ pub fn earliest_arrival(
     requires { ⌜ Stand (now file) s × TablesHeld (now tables) (tablesIn (now file) s) × (source < 200) × (target < 200)
         × (source ≢ target) × (minute < 65536) × Cut (rowsIn (now file) s) minute first × (2400 ≤ length (now work)) ⌝ }
     ensures { λ r. ⌜ ((code : ℕ) → r ≡ cellOf (earliest (timetableIn (now (file .entry)) s) (queryOf source target minute code)))
-        × (length (now (work .exit)) ≡ length (now (work .entry)))
-        × (drop 2400 (now (work .exit)) ≡ drop 2400 (now (work .entry))) ⌝ }
+        × SameOutside trips pairs (now (work .entry)) (now (work .exit)) ⌝ }
 {
     fill(work, TRIPS, MOST_TRIPS, 0);
     fill(work, STOPS, MOST_STOPS, NONE);
@@ -61,7 +61,7 @@ fn sail_until(
 )
     requires { ⌜ Stand (now file) s × TablesHeld (now tables) (tablesIn (now file) s) × (target < 200) × (first ≤ s .rows)
         × (2400 ≤ length (now work)) ⌝ }
-    ensures { λ r. ⌜ SameBehind (now (work .entry)) (now (work .exit)) × ((source minute : ℕ)
+    ensures { λ r. ⌜ SameOutside trips pairs (now (work .entry)) (now (work .exit)) × ((source minute : ℕ)
         → Swept (timetableIn (now (file .entry)) s) source minute first (now (work .entry))
         → Found (timetableIn (now (file .entry)) s) source minute target (ready (now (work .exit)) target)) ⌝ }
 {

@@ -6,11 +6,11 @@ use native.Mathlib.Nat.{zero-add}
 use native.Mathlib.Omega.{arith}
 use lib.ListN.{length, getD, set, length-set}
 use lib.Seq.{getD-set-same}
-use Rattle.plan_cells.specs.Cells.{filled}
-use Rattle.plan_cells.proofs.Filled.{length-filled, filled-inside, filled-behind}
+use Rattle.plan_cells.specs.Cells.{trips, stops, filled}
+use Rattle.plan_cells.specs.Outside.{SameOutside}
+use Rattle.plan_cells.proofs.Filled.{length-filled, filled-inside}
+use Rattle.plan_cells.proofs.Outside.{outside-then, outside-wider, outside-set, outside-filled, set-cell}
 use Rattle.plan_extract.specs.Marks.{HeadAlone}
-use Rattle.plan_extract.proofs.Kept.{Kept}
-use Rattle.plan_extract.proofs.Passing.{set-cell}
 
 module _ (work : List ℕ) (n at head : ℕ) (here : at ≡ head) (inside : head < n) (few : n ≤ 2000) (room : 2000 ≤ length work) where
   abbrev cleared : List ℕ
@@ -19,16 +19,10 @@ module _ (work : List ℕ) (n at head : ℕ) (here : at ≡ head) (inside : head
   cleared-length : length cleared ≡ length work
   cleared-length = length-filled work 0 n 0 (omega arith)
 
-  pub headed-kept : Kept work (set cleared at 1)
+  pub headed-kept : SameOutside trips stops work (set cleared at 1)
   headed-kept =
-      record {
-        same-length = length-set cleared at 1 ∙ cleared-length;
-        same-cell = λ i h.
-            set-cell (λ x. x ≡ getD work i 0) cleared at i 1 (let z : at < length cleared = omega (arith, cleared-length) in z)
-            (λ same. absurd (let z : ⊥ = omega arith in z))
-            (λ _. let place : 0 + n + (i - n) ≡ i = omega arith in
-            subst (λ k. getD cleared k 0 ≡ getD work k 0) place (filled-behind work 0 n 0 (i - n) (omega arith)));
-      }
+      outside-then (outside-wider (omega arith) (omega arith) (outside-filled work 0 n 0 (omega arith)))
+      (outside-set cleared at 1 (omega arith) (omega arith))
 
   pub headed-alone : HeadAlone (set cleared at 1) n head
   headed-alone =

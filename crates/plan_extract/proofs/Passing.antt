@@ -11,17 +11,11 @@ use lib.Dec.{eqb, leb}
 use lib.ListN.{length, getD, set, length-set}
 use lib.Seq.{getD-set-same, getD-set-other}
 use Rattle.laws.proofs.Tests.{ifb}
-use Rattle.plan_cells.specs.Cells.{stackStart, stackSize}
+use Rattle.plan_cells.specs.Cells.{trips, stops, stackStart, stackSize}
+use Rattle.plan_cells.specs.Outside.{SameOutside}
+use Rattle.plan_cells.proofs.Outside.{set-cell}
 use Rattle.plan_landing.specs.Landing.{departureAt, Falling, FirstOpenAt}
 use Rattle.plan_extract.specs.Marks.{entryRow, Caught, Catching, Passed, AllPassed}
-
--- a cell that is set holds the value, the others what they held
-pub set-cell {ℓ} : (P : ℕ → Type ℓ) (l : List ℕ) (i j v : ℕ) → i < length l → (i ≡ j → P v) → (i ≢ j → P (getD l j 0)) → P (getD (set l i v) j 0)
-set-cell P l i j v h here other =
-    ifb (λ b. P (getD (set l i v) j 0)) (eqb i j)
-    (λ e. let same : i ≡ j = eqb-true i j e in
-    subst (λ k. P (getD (set l i v) k 0)) same (subst P (sym (getD-set-same l i v 0 h)) (here same)))
-    (λ e. let apart : i ≢ j = eqb-false i j e in subst P (sym (getD-set-other l i j v 0 (λ q. apart (sym q)))) (other apart))
 
 -- what the test of an entry's departure says
 pub missed : (landing key departure : ℕ) (opened : Bool) → opened ≡ leb landing departure → departure ≡ key / 2048 → not opened ≡ true
@@ -93,9 +87,14 @@ module _ (work : List ℕ) (land arrival landing : ℕ) (c : Catching work land 
       }
 
   -- the marks stand ahead of the stacks
-  pub kept : {new : List ℕ} {place : ℕ} → Passed work new start size arrival landing place → (i : ℕ) → 2000 ≤ i → getD new i 0 ≡ getD work i 0
-  kept p i h =
-      ⊎-elim (λ same. same) (λ k. absurd (let z : ⊥ = omega (arith, c .rows (k .0) (k .1 .inside), k .2) in z)) (p .only i)
+  pub marks-only : {new : List ℕ} {place : ℕ} → Passed work new start size arrival landing place → SameOutside trips stops work new
+  marks-only p =
+      record {
+        same-length = p .same-length;
+        ahead = λ i h. absurd (let z : ⊥ = omega arith in z);
+        behind = λ i h.
+            ⊎-elim (λ same. same) (λ k. absurd (let z : ⊥ = omega (arith, c .rows (k .0) (k .1 .inside), k .2) in z)) (p .only i);
+      }
 
   module _ {new : List ℕ} {entry key : ℕ} (d : Down work new start size arrival landing entry key) where
     row-is : key % 2048 ≡ entryRow work start (d .place)
@@ -128,7 +127,7 @@ module _ (work : List ℕ) (land arrival landing : ℕ) (c : Catching work land 
         record {
           place = d .place - 1;
           stands = below;
-          key-is = kept marked (entry - 2) (let z : 2000 ≤ entry - 2 = omega (arith, below) in z) ∙ ap (λ k. getD work k 0) below;
+          key-is = marks-only marked .behind (entry - 2) (let z : 2000 ≤ entry - 2 = omega (arith, below) in z) ∙ ap (λ k. getD work k 0) below;
           caught =
               record {
                 inside = (let z : d .place - 1 < size = omega (arith, d .caught .inside) in z);

@@ -10,7 +10,8 @@ use Rattle.timetable.specs.declared.Row.{Row}
 use Rattle.plans.specs.Rides.{latest}
 use Rattle.plans.specs.Worth.{Valued}
 use Rattle.plans.proofs.Order.{Ordered}
-use Rattle.plan_cells.specs.Cells.{pairs, used}
+use Rattle.plan_cells.specs.Cells.{trips, stops, pairs, used}
+use Rattle.plan_cells.specs.Outside.{SameOutside}
 use Rattle.plan_rows.specs.declared.Sailings.{Sailings}
 use Rattle.plan_rows.specs.Reading.{rowsIn, tablesIn, Stand, TablesHeld}
 use Rattle.plans.specs.declared.Goal.{Goal}
@@ -18,7 +19,7 @@ use Rattle.plan_scan.specs.Scanned.{scanIn, ScanHeld}
 use Rattle.plan_slice.specs.Slice.{withRide}
 use Rattle.plan_extract.specs.Extracted.{FirstRide, ridesOf}
 use Rattle.plan_extract.specs.Marks.{Catching, AllPassed}
-use Rattle.plan_extract.proofs.Kept.{Kept, kept-held}
+use Rattle.plan_extract.proofs.Kept.{kept-held}
 use Rattle.plan_extract.proofs.Timed.{ordered, known}
 use Rattle.plan_extract.proofs.Aboard.{Aboard, aboard}
 use Rattle.plan_extract.proofs.Wanting.{catching}
@@ -43,7 +44,7 @@ pub record Turn (file : List ℕ) (s : Sailings) (tables : List ℕ) (goal : Goa
   pub begun : FirstRide (scanIn file s goal first end .chosen) head
   pub below : i < end
   pub few : rides ≤ i
-  pub kept : Kept work₀ work
+  pub kept : SameOutside trips stops work₀ work
   pub at-row : AtRow file s goal first head end plan₀ work plan rides last i
   pub mark : getD work i 0 ≡ 1
 

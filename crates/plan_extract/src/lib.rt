@@ -1,9 +1,10 @@
 // Document 01, "Expected arrival in ticks": the plan, by one pass forward over the wanted rows.
 ghost use mathlib.Core.Path.{_≡_};
 ghost use Prim.Native.Nat.{ℕ, _+_, _*_, _≤_, _<_, max};
-ghost use lib.ListN.{length, drop, getD};
+ghost use lib.ListN.{length, getD};
 ghost use Rattle.plans.specs.Plan.{latestOf};
-ghost use Rattle.plan_cells.specs.Cells.{used, pairs};
+ghost use Rattle.plan_cells.specs.Cells.{trips, used, pairs};
+ghost use Rattle.plan_cells.specs.Outside.{SameOutside};
 ghost use Rattle.plan_rows.specs.Reading.{tablesIn, Stand, TablesHeld};
 ghost use Rattle.plan_scan.specs.Scanned.{scanIn, ScanHeld};
 ghost use Rattle.plan_extract.specs.Extracted.{FirstRide, ridesOf};
@@ -53,8 +54,7 @@ pub fn write_plan(
     ensures { λ r. ⌜ ((f : FirstRide (scanIn (now (file .entry)) s goal first end .chosen) head)
         → (now (plan .exit) ≡ over (written (ridesOf (goal .target) f)) (now (plan .entry)))
         × (r .rides ≡ length (ridesOf (goal .target) f)) × (r .latest ≡ latestOf (ridesOf (goal .target) f)))
-        × (length (now (work .exit)) ≡ length (now (work .entry)))
-        × (drop (used (s .rows)) (now (work .exit)) ≡ drop (used (s .rows)) (now (work .entry))) ⌝ }
+        × SameOutside trips (used (s .rows)) (now (work .entry)) (now (work .exit)) ⌝ }
 {
     fill(work, TRIPS, s.rows, 0);
     work[TRIPS + head] = 1;
@@ -80,8 +80,7 @@ fn write_wanted(
     ensures { λ r. ⌜ ((f : FirstRide (scanIn (now (file .entry)) s goal first end .chosen) head)
         → (now (plan .exit) ≡ over (written (ridesOf (goal .target) f)) (now (plan .entry)))
         × (r .rides ≡ length (ridesOf (goal .target) f)) × (r .latest ≡ latestOf (ridesOf (goal .target) f)))
-        × (length (now (work .exit)) ≡ length (now (work .entry)))
-        × (drop (used (s .rows)) (now (work .exit)) ≡ drop (used (s .rows)) (now (work .entry))) ⌝ }
+        × SameOutside trips (used (s .rows)) (now (work .entry)) (now (work .exit)) ⌝ }
 {
     let mut rides = 0;
     let mut latest = 0;

@@ -9,18 +9,19 @@ use lib.Seq.{getD-set-same, getD-set-other}
 use borrow.Author.Tests.{eqb-true, eqb-false}
 use Rattle.timetable.specs.declared.Row.{Row}
 use Rattle.laws.proofs.Tests.{ifb}
-use Rattle.plan_cells.specs.Cells.{sizes, pairs}
+use Rattle.plan_cells.specs.Cells.{stops, sizes, pairs}
+use Rattle.plan_cells.specs.Outside.{SameOutside}
+use Rattle.plan_cells.proofs.Outside.{outside-same, outside-then, outside-set}
 use Rattle.plan_scan.specs.Stores.{sizeOf}
-use Rattle.plan_scan.specs.Regions.{countAt, Apart, Counted}
+use Rattle.plan_scan.specs.Regions.{countAt, Counted}
 use Rattle.plan_scan.proofs.Regions.{count-here, count-elsewhere}
-use Rattle.plan_scan.proofs.Apart.{apart-same, apart-set}
 
 pub record Counting (all rest : List Row) (w w' : List ℕ) : Type 0 where
-  pub apart : Apart w w'
+  pub outside : SameOutside stops pairs w w'
   pub so-far : (stop : ℕ) → stop < 200 → sizeOf w' stop + countAt stop rest ≡ countAt stop all
 
 pub counting-begins : (rows : List Row) (w : List ℕ) → ((stop : ℕ) → stop < 200 → sizeOf w stop ≡ 0) → Counting rows rows w w
-counting-begins rows w empty = record { apart = apart-same w; so-far = λ stop h. let e : sizeOf w stop ≡ 0 = empty stop h in omega arith }
+counting-begins rows w empty = record { outside = outside-same stops pairs w; so-far = λ stop h. let e : sizeOf w stop ≡ 0 = empty stop h in omega arith }
 
 counts-on :
     (all rest : List Row) (r : Row) (w : List ℕ) → pairs ≤ length w → r .board < 200 → (stop : ℕ) → stop < 200
@@ -46,10 +47,10 @@ pub counting-on :
     → Counting all rest w (set w' (sizes + r .board) (sizeOf w' (r .board) + 1))
 counting-on all rest r w w' room board c =
     record {
-      apart = apart-set (c .apart) (sizes + r .board) (sizeOf w' (r .board) + 1) (omega arith) (omega arith);
-      so-far = λ stop h. counts-on all rest r w' (omega (arith, c .apart .same-length)) board stop h (c .so-far stop h);
+      outside = outside-then (c .outside) (outside-set w' (sizes + r .board) (sizeOf w' (r .board) + 1) (omega arith) (omega arith));
+      so-far = λ stop h. counts-on all rest r w' (omega (arith, c .outside .same-length)) board stop h (c .so-far stop h);
     }
 
 pub counting-done : (all : List Row) (w w' : List ℕ) → Counting all [] w w' → Counted all w w'
 unfolding countAt
-counting-done all w w' c = record { apart = c .apart; counts = λ stop h. omega (arith, c .so-far stop h) }
+counting-done all w w' c = record { outside = c .outside; counts = λ stop h. omega (arith, c .so-far stop h) }

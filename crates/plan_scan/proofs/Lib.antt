@@ -1,11 +1,9 @@
 -- Laws of the scan: regions and stacks in the lent cells, chosen rides stop by stop, how far a worth can reach, and one turn of the loop.
 pub mod Paired
 pub mod Regions
-pub mod Apart
 pub mod Counting
 pub mod Parting
 pub mod Ways
-pub mod Inside
 pub mod ByStop
 pub mod Rising
 pub mod Worths

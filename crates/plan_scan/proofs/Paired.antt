@@ -6,6 +6,8 @@ use native.Mathlib.Omega.{arith}
 use lib.ListN.{length, getD, set, drop, length-set}
 use lib.Seq.{getD-set-same, getD-set-other, drop-set-lt}
 use Rattle.plan_cells.specs.Cells.{Entry, entryAt, stackAt}
+use Rattle.plan_cells.specs.Outside.{SameOutside}
+use Rattle.plan_cells.proofs.Outside.{outside-then, outside-set}
 use Rattle.plan_scan.specs.Stores.{pairCell, paired}
 
 pub length-paired : (w : List ℕ) (p a b : ℕ) → length (paired w p a b) ≡ length w
@@ -25,9 +27,9 @@ pub paired-other :
 paired-other w p a b k front behind =
     getD-set-other (set w (pairCell p) a) (pairCell p + 1) k b 0 behind ∙ getD-set-other w (pairCell p) k a 0 front
 
-pub drop-paired : (n : ℕ) (w : List ℕ) (p a b : ℕ) → pairCell p + 1 < n → drop n (paired w p a b) ≡ drop n w
-drop-paired n w p a b h =
-    drop-set-lt n (set w (pairCell p) a) (pairCell p + 1) b h ∙ drop-set-lt n w (pairCell p) a (omega arith)
+pub outside-paired : {from to : ℕ} (w : List ℕ) (p a b : ℕ) → from ≤ pairCell p → pairCell p + 1 < to → SameOutside from to w (paired w p a b)
+outside-paired w p a b low high =
+    outside-then (outside-set w (pairCell p) a low (omega arith)) (outside-set (set w (pairCell p) a) (pairCell p + 1) b (omega arith) high)
 
 abbrev pub entry : (key worth : ℕ) → Entry
 entry key worth = record { key = key; worth = worth }

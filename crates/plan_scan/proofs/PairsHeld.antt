@@ -15,10 +15,12 @@ use Rattle.plans.specs.Rides.{Ride}
 use Rattle.plans.specs.Worth.{Valued}
 use Rattle.plans.specs.Chosen.{Scan, least, getOff, stayOn, nextOf, boardedAt}
 use Rattle.plan_cells.specs.Cells.{pairs, trips, stops, used, missing, cellOf}
+use Rattle.plan_cells.specs.Outside.{SameOutside}
+use Rattle.plan_cells.proofs.Outside.{outside-then, outside-set}
 use Rattle.plan_scan.specs.Stores.{pairCell, paired, entered, nextPair, Weighs, gets-off, stays-on}
 use Rattle.plan_scan.specs.Scanned.{bestIn, PairHolds}
 use Rattle.plan_scan.specs.Held.{NextHolds, PairsHeld}
-use Rattle.plan_scan.proofs.Paired.{paired-front, paired-behind, paired-other}
+use Rattle.plan_scan.proofs.Paired.{paired-front, paired-behind, paired-other, outside-paired}
 
 -- two cells hold a best ride
 abbrev pub Holds : (worth leave : ℕ) → Option Valued → Type 0
@@ -206,3 +208,17 @@ pairs-kept w w' n i end sc inside held ahead behind =
   where
     at : (j : ℕ) (best : Option Valued) → j ≤ n → PairHolds w j best → PairHolds w' j best
     at j best h = pair-same w w' j best (behind (pairCell j) (omega arith) (omega arith)) (behind (pairCell j + 1) (omega arith) (omega arith))
+
+-- weighing stores in cells that planning uses
+entered-stays : (n i trip a b : ℕ) (w : List ℕ) → trip < 2000 → i < n → SameOutside trips (used n) w (paired (entered w trip i) i a b)
+entered-stays n i trip a b w small h =
+    outside-then (outside-set w (trips + trip) i (omega arith) (omega arith)) (outside-paired (entered w trip i) i a b (omega arith) (omega arith))
+
+pub weighs-stays : (n : ℕ) (row : Row) (i off : ℕ) (w w' : List ℕ) → row .trip < 2000 → i < n → Weighs row i off w w'
+    → SameOutside trips (used n) w w'
+weighs-stays n row i off w w' small h (gets-off less e) =
+    subst (λ (l : List ℕ). SameOutside trips (used n) w l) (sym e) (entered-stays n i (row .trip) off i w small h)
+weighs-stays n row i off w w' small h (stays-on less e) =
+    subst (λ (l : List ℕ). SameOutside trips (used n) w l) (sym e)
+    (entered-stays n i (row .trip) (getD w (nextPair w (row .trip)) 0)
+    (getD (set (entered w (row .trip) i) (pairCell i) (getD w (nextPair w (row .trip)) 0)) (nextPair w (row .trip) + 1) 0) w small h)

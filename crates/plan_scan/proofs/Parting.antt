@@ -9,12 +9,13 @@ use lib.Seq.{getD-set-same, getD-set-other}
 use borrow.Author.Tests.{eqb-true, eqb-false}
 use Rattle.laws.proofs.Tests.{ifb}
 use Rattle.plan_cells.specs.Cells.{stops, sizes, pairs}
+use Rattle.plan_cells.specs.Outside.{SameOutside}
+use Rattle.plan_cells.proofs.Outside.{outside-same, outside-then, outside-set}
 use Rattle.plan_scan.specs.Stores.{startOf, sizeOf}
-use Rattle.plan_scan.specs.Regions.{below, Apart}
-use Rattle.plan_scan.proofs.Apart.{apart-same, apart-set}
+use Rattle.plan_scan.specs.Regions.{below}
 
 pub record Parting (from stop : ℕ) (w w' : List ℕ) : Type 0 where
-  pub apart : Apart w w'
+  pub outside : SameOutside stops pairs w w'
   pub starts : (k : ℕ) → k < stop → startOf w' k ≡ from + below (sizeOf w) k
   pub empty : (k : ℕ) → k < stop → sizeOf w' k ≡ 0
   pub left : (k : ℕ) → stop ≤ k → k < 200 → sizeOf w' k ≡ sizeOf w k
@@ -22,7 +23,7 @@ pub record Parting (from stop : ℕ) (w w' : List ℕ) : Type 0 where
 pub parting-begins : (from : ℕ) (w : List ℕ) → Parting from 0 w w
 parting-begins from w =
     record {
-      apart = apart-same w;
+      outside = outside-same stops pairs w;
       starts = λ k h. absurd (let z : ⊥ = omega arith in z);
       empty = λ k h. absurd (let z : ⊥ = omega arith in z);
       left = λ k low high. refl;
@@ -55,7 +56,10 @@ module _ (from stop start : ℕ) (w w' : List ℕ) (room : pairs ≤ length w') 
       start ≡ from + below (sizeOf w) stop → Parting from stop w w' → Parting from (stop + 1) w (partedNext stop start w')
   parting-on here p =
       record {
-        apart = apart-set (apart-set (p .apart) (stops + stop) start (omega arith) (omega arith)) (sizes + stop) 0 (omega arith) (omega arith);
+        outside =
+            outside-then (p .outside)
+            (outside-then (outside-set w' (stops + stop) start (omega arith) (omega arith))
+            (outside-set (set w' (stops + stop) start) (sizes + stop) 0 (omega arith) (omega arith)));
         starts = λ k h. ifb (λ b. eqb k stop ≡ b → startOf (partedNext stop start w') k ≡ from + below (sizeOf w) k) (eqb k stop)
             (λ e _. subst (λ j. startOf (partedNext stop start w') j ≡ from + below (sizeOf w) j) (sym (eqb-true k stop e)) (next-start ∙ here))
             (λ e _. let ne : k ≡ stop → ⊥ = eqb-false k stop e in kept-start k (omega arith) ne ∙ p .starts k (omega arith)) refl;

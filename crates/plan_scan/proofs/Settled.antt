@@ -8,7 +8,7 @@ use mathlib.Core.Path.{_≡_, sym, _∙_}
 use contract.Lifetimes.{Lfts}
 use denote.Ref.{now}
 use denote.Triple.Clauses.{AtExit}
-use lib.ListN.{length, getD, drop}
+use lib.ListN.{length, getD}
 use borrow.Fn.Kinds.{Dens, resT, endedOf}
 use Rattle.plans.specs.Worth.{Valued}
 use Rattle.plan_cells.specs.Cells.{used, missing, stackOf}
@@ -33,7 +33,7 @@ pub record SameScan (n first end : ℕ) (w w' : List ℕ) : Type 0 where
   pub leaves : (i : ℕ) → first ≤ i → i < end → (worthAt w i ≡ missing → ⊥) → getD w (pairCell i + 1) 0 ≡ getD w' (pairCell i + 1) 0
   pub stacks : (stop : ℕ) → stop < 200 → stackOf w stop ≡ stackOf w' stop
   pub lengths : length w ≡ length w'
-  pub rest : drop (used n) w ≡ drop (used n) w'
+  pub rest : (i : ℕ) → used n ≤ i → getD w i 0 ≡ getD w' i 0
 
 pub scan-back-settled :
     (κs : Lfts 3) (arguments : Dens κs kinds.ps) (one other : resT kinds.r κs .Denot)
@@ -49,6 +49,6 @@ scan-back-settled κs arguments one other ending another first second =
       worths = λ i low high. same-worth w w' i (bestIn sc from i) (first .0 .pair-holds i low high) (second .0 .pair-holds i low high);
       leaves = λ i low high. same-leave w w' i (bestIn sc from i) (first .0 .pair-holds i low high) (second .0 .pair-holds i low high);
       stacks = λ stop h. first .0 .stack-holds stop h ∙ sym (second .0 .stack-holds stop h);
-      lengths = first .1 ∙ sym (second .1);
-      rest = first .2 ∙ sym (second .2);
+      lengths = first .1 .same-length ∙ sym (second .1 .same-length);
+      rest = λ i h. first .1 .behind i h ∙ sym (second .1 .behind i h);
     }

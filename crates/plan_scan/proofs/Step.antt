@@ -12,7 +12,9 @@ use Rattle.timetable.specs.Timetable.{rowOf, noRow, sharesOf}
 use Rattle.timetable.specs.declared.Row.{Row}
 use Rattle.plans.specs.Worth.{Valued, arrivalWorth, changeWorth}
 use Rattle.plans.specs.Chosen.{inTicks, Scan, choose, offInTicks}
-use Rattle.plan_cells.specs.Cells.{stops, sizes, used, cellOf, stackStart, stackSize}
+use Rattle.plan_cells.specs.Outside.{SameOutside}
+use Rattle.plan_cells.proofs.Outside.{outside-same}
+use Rattle.plan_cells.specs.Cells.{trips, stops, sizes, used, cellOf, stackStart, stackSize}
 use Rattle.plan_rows.specs.declared.Sailings.{Sailings}
 use Rattle.plan_rows.specs.Reading.{rowsIn, tablesIn, Stand, TablesHeld, RowFits}
 use Rattle.plans.specs.declared.Goal.{Goal}
@@ -20,12 +22,12 @@ use Rattle.plan_landing.specs.Landing.{entryOf, atStop, Ready, rideOff}
 use Rattle.plan_scan.specs.Stores.{pairCell, startOf, sizeOf, Weighs, Chose, Weighable, Pushable}
 use Rattle.plan_scan.specs.Regions.{countAt, below}
 use Rattle.plan_scan.specs.Scanned.{scanIn, bestIn, PairHolds}
-use Rattle.plan_scan.specs.Held.{PairsHeld, StackHeld, Held, Inside}
+use Rattle.plan_scan.specs.Held.{PairsHeld, StackHeld, Held}
 use Rattle.plan_scan.proofs.Regions.{count-slice, count-few, count-here, count-more, below-count, below-later}
 use Rattle.plan_scan.proofs.ByStop.{choose-target}
 use Rattle.plan_scan.proofs.PairsHeld.{inFront, pairs-kept, pairs-weighed, weighs-other}
 use Rattle.plan_scan.proofs.StackHeld.{stack-kept}
-use Rattle.plan_scan.proofs.Stored.{stored, stored-other, length-stored, drop-stored}
+use Rattle.plan_scan.proofs.Stored.{stored, stored-other, outside-stored}
 use Rattle.plan_scan.proofs.Choosing.{Choosable, stacks-chosen, chose-or-stored}
 use Rattle.plan_scan.proofs.TimetableTo.{bestRow, ownRide, scan-step, best-step, BoardsRow, best-boards-row, scan-ordered, climbing, chosen-fits, rising-behind, off-fits}
 
@@ -238,14 +240,11 @@ module _ (file : List ℕ) (s : Sailings) (goal : Goal) (first end : ℕ) (stand
                   (slice first end rows) (slice (suc i) end rows) stacks suffix regions-room (own-best pairs-held) w' chose stop h));
             }
 
-        stays-inside : (w' ≡ w) ⊎ ((k : ℕ) × (k ≤ sizeOf w (rowAt i .board)) × (w' ≡ stored (rowAt i) i k w)) → Inside (s .rows) w w'
-        stays-inside (inl q) = record { same-length = ap length q; rest-kept = ap (drop (used (s .rows))) q }
+        stays-inside : (w' ≡ w) ⊎ ((k : ℕ) × (k ≤ sizeOf w (rowAt i .board)) × (w' ≡ stored (rowAt i) i k w)) → SameOutside trips (used (s .rows)) w w'
+        stays-inside (inl q) = subst (λ (l : List ℕ). SameOutside trips (used (s .rows)) w l) (sym q) (outside-same trips (used (s .rows)) w)
         stays-inside (inr f) =
-            record {
-              same-length = ap length (f .2) ∙ length-stored (rowAt i) i (f .0) w (fits .board);
-              rest-kept = ap (drop (used (s .rows))) (f .2)
-                  ∙ drop-stored (rowAt i) i (f .0) w (fits .board) (used (s .rows)) (region-used (f .0) (f .1));
-            }
+            subst (λ (l : List ℕ). SameOutside trips (used (s .rows)) w l) (sym (f .2))
+            (outside-stored (rowAt i) i (f .0) w (fits .board) (region-used (f .0) (f .1)))
 
-        pub inside-chosen : Inside (s .rows) w w'
+        pub inside-chosen : SameOutside trips (used (s .rows)) w w'
         inside-chosen = stays-inside or-stored

@@ -6,20 +6,17 @@ use native.Mathlib.Omega.{arith}
 use lib.ListN.{length, getD, drop, length-set}
 use lib.Seq.{getD-set-same, getD-set-other, drop-set-lt, set-getD}
 use Rattle.timetable.specs.declared.Row.{Row}
-use Rattle.plan_cells.specs.Cells.{stops, sizes, pairs, keyOf, stackAt, stackStart, stackOf}
+use Rattle.plan_cells.specs.Cells.{trips, stops, sizes, pairs, keyOf, stackAt, stackStart, stackOf}
+use Rattle.plan_cells.specs.Outside.{SameOutside}
+use Rattle.plan_cells.proofs.Outside.{outside-then, outside-set}
 use Rattle.plan_scan.specs.Stores.{pairCell, pushed, sized, startOf, sizeOf, worthAt}
-use Rattle.plan_scan.proofs.Paired.{length-paired, paired-other, drop-paired, entry, stack-same, stack-pushed}
+use Rattle.plan_scan.proofs.Paired.{length-paired, paired-other, outside-paired, entry, stack-same, stack-pushed}
 
 -- k pairs behind the start, as the top of k + 1 entries
 abbrev pub stored : Row → (i k : ℕ) → List ℕ → List ℕ
 stored row i k w = sized row (suc k) (pushed row i k w)
 
 module _ (row : Row) (i k : ℕ) (w : List ℕ) (board : row .board < 200) where
-  pub length-stored : length (stored row i k w) ≡ length w
-  length-stored =
-      length-set (pushed row i k w) (sizes + row .board) (suc k)
-      ∙ length-paired w (startOf w (row .board) + k) (keyOf (row .departure) i) (worthAt w i)
-
   pub stored-other :
       (j : ℕ) → (j ≡ sizes + row .board → ⊥) → (j ≡ pairCell (startOf w (row .board) + k) → ⊥) → (j ≡ pairCell (startOf w (row .board) + k) + 1 → ⊥)
       → getD (stored row i k w) j 0 ≡ getD w j 0
@@ -33,10 +30,10 @@ module _ (row : Row) (i k : ℕ) (w : List ℕ) (board : row .board < 200) where
   pub stored-size : (stop : ℕ) → stop < 200 → (row .board ≡ stop → ⊥) → sizeOf (stored row i k w) stop ≡ sizeOf w stop
   stored-size stop h apart = stored-other (sizes + stop) (λ e. apart (omega arith)) (λ e. omega arith) (λ e. omega arith)
 
-  pub drop-stored : (n : ℕ) → pairCell (startOf w (row .board) + k) + 1 < n → drop n (stored row i k w) ≡ drop n w
-  drop-stored n h =
-      drop-set-lt n (pushed row i k w) (sizes + row .board) (suc k) (omega arith)
-      ∙ drop-paired n w (startOf w (row .board) + k) (keyOf (row .departure) i) (worthAt w i) h
+  pub outside-stored : {to : ℕ} → pairCell (startOf w (row .board) + k) + 1 < to → SameOutside trips to w (stored row i k w)
+  outside-stored h =
+      outside-then (outside-paired w (startOf w (row .board) + k) (keyOf (row .departure) i) (worthAt w i) (omega arith) h)
+      (outside-set (pushed row i k w) (sizes + row .board) (suc k) (omega arith) (omega arith))
 
   -- on a stack of k + 1 entries already, the size is stored for free
   pub pushed-stored : sizeOf w (row .board) ≡ suc k → pushed row i k w ≡ stored row i k w

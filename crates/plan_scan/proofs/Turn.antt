@@ -10,17 +10,19 @@ use Rattle.timetable.specs.Timetable.{rowOf, sharesOf}
 use Rattle.timetable.specs.declared.Row.{Row}
 use Rattle.plans.specs.Worth.{Valued}
 use Rattle.plans.specs.Chosen.{offInTicks}
-use Rattle.plan_cells.specs.Cells.{used, cellOf}
+use Rattle.plan_cells.specs.Cells.{trips, used, cellOf}
+use Rattle.plan_cells.specs.Outside.{SameOutside}
+use Rattle.plan_cells.proofs.Outside.{outside-then}
 use Rattle.plan_rows.specs.declared.Sailings.{Sailings}
 use Rattle.plan_rows.specs.Reading.{rowsIn, tablesIn, Stand, TablesHeld}
 use Rattle.plans.specs.declared.Goal.{Goal}
 use Rattle.plan_landing.specs.Landing.{Ready, SomeReady, rideOff}
 use Rattle.plan_scan.specs.Stores.{Weighs, Chose, Weighable, Pushable}
 use Rattle.plan_scan.specs.Scanned.{scanIn}
-use Rattle.plan_scan.specs.Held.{PairsHeld, StackHeld, Held, Inside}
+use Rattle.plan_scan.specs.Held.{PairsHeld, StackHeld, Held}
 use Rattle.plan_scan.proofs.TimetableTo.{ownRide}
+use Rattle.plan_scan.proofs.PairsHeld.{weighs-stays}
 use Rattle.plan_scan.proofs.Step.{weighable, ready, off-same, pairs-after, stacks-after, held-unchosen, pushable, held-chosen, inside-chosen}
-use Rattle.plan_scan.proofs.Inside.{inside-then, inside-weighed}
 
 -- the row is weighed and not chosen yet
 pub record Weighed (file : List ℕ) (s : Sailings) (goal : Goal) (first end i : ℕ) (w w' : List ℕ) : Type 0 where
@@ -28,7 +30,7 @@ pub record Weighed (file : List ℕ) (s : Sailings) (goal : Goal) (first end i :
   pub stacks-held :
       (stop : ℕ) → stop < 200
       → StackHeld w' (suc (s .rows)) (slice first end (rowsIn file s)) (slice (suc i) end (rowsIn file s)) (scanIn file s goal (suc i) end .chosen) stop
-  pub stays : Inside (s .rows) w w'
+  pub stays : SameOutside trips (used (s .rows)) w w'
 
 module _ (file : List ℕ) (s : Sailings) (goal : Goal) (first end : ℕ) (stand : Stand file s) (inside : end ≤ s .rows) (i : ℕ) (low : first ≤ i)
     (high : i < end) (w : List ℕ) (room : used (s .rows) ≤ length w) (row : Row) (is : row ≡ rowOf (rowsIn file s) i) where
@@ -67,7 +69,7 @@ module _ (file : List ℕ) (s : Sailings) (goal : Goal) (first end : ℕ) (stand
             record {
               pairs-held = pairs-after file s goal first end stand inside i low high w room w' held as-row;
               stacks-held = stacks-after file s goal first end stand inside i low high w room w' held as-row;
-              stays = inside-weighed (s .rows) (rowOf (rowsIn file s) i) i (cellOf (offInTicks goal (ownRide file s i) (scanIn file s goal (suc i) end .chosen))) w w'
+              stays = weighs-stays (s .rows) (rowOf (rowsIn file s) i) i (cellOf (offInTicks goal (ownRide file s i) (scanIn file s goal (suc i) end .chosen))) w w'
                   (stand .row-fits i (omega arith) .trip) (omega arith) as-row;
             }
 
@@ -95,7 +97,7 @@ module _ (file : List ℕ) (s : Sailings) (goal : Goal) (first end : ℕ) (stand
         turn-chosen =
             held-chosen file s goal first end stand inside i low high w' room' row-away (weighed .stacks-held) w'' as-row (weighed .pairs-held)
 
-        pub turn-stays : Inside (s .rows) w w''
+        pub turn-stays : SameOutside trips (used (s .rows)) w w''
         turn-stays =
-            inside-then (s .rows) (weighed .stays)
+            outside-then (weighed .stays)
             (inside-chosen file s goal first end stand inside i low high w' room' row-away (weighed .stacks-held) w'' as-row)

@@ -3,12 +3,12 @@ use Prim.Native.Nat.{ℕ, suc, _+_, _≤_, _<_}
 use mathlib.Core.List.{List}
 use mathlib.Core.Option.{Option}
 use mathlib.Core.Path.{_≡_}
-use lib.ListN.{length, getD, drop}
+use lib.ListN.{getD}
 use lib.Seq.{slice}
 use Rattle.timetable.specs.declared.Row.{Row}
 use Rattle.plans.specs.Worth.{Valued}
 use Rattle.plans.specs.Chosen.{Scan, nextOf}
-use Rattle.plan_cells.specs.Cells.{trips, used, missing}
+use Rattle.plan_cells.specs.Cells.{trips, missing}
 use Rattle.plan_rows.specs.declared.Sailings.{Sailings}
 use Rattle.plan_rows.specs.Reading.{rowsIn}
 use Rattle.plans.specs.declared.Goal.{Goal}
@@ -41,8 +41,3 @@ pub record Held (file : List ℕ) (s : Sailings) (goal : Goal) (first end i : �
   pub stacks-held :
       (stop : ℕ) → stop < 200
       → StackHeld w (suc (s .rows)) (slice first end (rowsIn file s)) (slice i end (rowsIn file s)) (scanIn file s goal i end .chosen) stop
-
--- the cells behind those that planning uses stay
-pub record Inside (n : ℕ) (w w' : List ℕ) : Type 0 where
-  pub same-length : length w' ≡ length w
-  pub rest-kept : drop (used n) w' ≡ drop (used n) w

@@ -4,9 +4,9 @@ use mathlib.Core.Bool.{cond}
 use mathlib.Core.List.{List, [], _∷_}
 use mathlib.Core.Path.{_≡_}
 use lib.Dec.{eqb}
-use lib.ListN.{length, getD, drop}
 use Rattle.timetable.specs.declared.Row.{Row}
 use Rattle.plan_cells.specs.Cells.{stops, pairs}
+use Rattle.plan_cells.specs.Outside.{SameOutside}
 use Rattle.plan_scan.specs.Stores.{startOf, sizeOf}
 
 -- how many rows board at a stop
@@ -19,19 +19,13 @@ unfoldable pub below : (ℕ → ℕ) → ℕ → ℕ
 below f zero = 0
 below f (suc stop) = below f stop + f stop
 
--- the cells ahead of the stops' and behind the sizes are as they were
-pub record Apart (w w' : List ℕ) : Type 0 where
-  pub same-length : length w' ≡ length w
-  pub ahead : (k : ℕ) → k < stops → getD w' k 0 ≡ getD w k 0
-  pub behind : drop pairs w' ≡ drop pairs w
-
 -- the sizes count the rows
 pub record Counted (rows : List Row) (w w' : List ℕ) : Type 0 where
-  pub apart : Apart w w'
+  pub outside : SameOutside stops pairs w w'
   pub counts : (stop : ℕ) → stop < 200 → sizeOf w' stop ≡ countAt stop rows
 
 -- a region of pairs for each stop, as large as its size was; the stacks are empty
 pub record Parted (from : ℕ) (w w' : List ℕ) : Type 0 where
-  pub apart : Apart w w'
+  pub outside : SameOutside stops pairs w w'
   pub starts : (stop : ℕ) → stop < 200 → startOf w' stop ≡ from + below (sizeOf w) stop
   pub empty : (stop : ℕ) → stop < 200 → sizeOf w' stop ≡ 0

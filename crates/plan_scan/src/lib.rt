@@ -1,11 +1,12 @@
 // Document 01, "Expected arrival in ticks": worth, leaving row and chosen rows, by one scan backward.
 ghost use mathlib.Core.Path.{_≡_};
 ghost use Prim.Native.Nat.{ℕ, _+_, _≤_, _<_};
-ghost use lib.ListN.{length, drop};
+ghost use lib.ListN.{length};
 ghost use lib.Seq.{slice};
-ghost use Rattle.plan_cells.specs.Cells.{pairs, used, keyOf};
+ghost use Rattle.plan_cells.specs.Cells.{trips, pairs, used, keyOf};
+ghost use Rattle.plan_cells.specs.Outside.{SameOutside};
 ghost use Rattle.plan_rows.specs.Reading.{rowsIn, tablesIn, Stand, TablesHeld};
-ghost use Rattle.plan_scan.specs.Held.{Held, Inside};
+ghost use Rattle.plan_scan.specs.Held.{Held};
 ghost use Rattle.plan_scan.specs.Regions.{below, Counted, Parted};
 ghost use Rattle.plan_scan.specs.Scanned.{scanIn, ScanHeld};
 ghost use Rattle.plan_scan.specs.Stores.{pairCell, paired, sizeOf, Chose, Pushable, Weighable, Weighs};
@@ -40,8 +41,7 @@ pub fn scan_back(
     requires { ⌜ Stand (now file) s × TablesHeld (now tables) (tablesIn (now file) s) × (first ≤ end) × (end ≤ s .rows)
         × (used (s .rows) ≤ length (now work)) ⌝ }
     ensures { λ r. ⌜ ScanHeld (now (work .exit)) (s .rows) first end (scanIn (now (file .entry)) s goal first end)
-        × (length (now (work .exit)) ≡ length (now (work .entry)))
-        × (drop (used (s .rows)) (now (work .exit)) ≡ drop (used (s .rows)) (now (work .entry))) ⌝ }
+        × SameOutside trips (used (s .rows)) (now (work .entry)) (now (work .exit)) ⌝ }
 {
     let none = PAIRS + 2 * s.rows;
     fill(work, TRIPS, MOST_TRIPS, cell(s.rows));
@@ -95,7 +95,7 @@ fn weigh_rows(
     requires { ⌜ Stand (now file) s × TablesHeld (now tables) (tablesIn (now file) s) × (first ≤ end) × (end ≤ s .rows)
         × (used (s .rows) ≤ length (now work)) × Held (now file) s goal first end end (now work) ⌝ }
     ensures { λ r. ⌜ Held (now (file .entry)) s goal first end first (now (work .exit))
-        × Inside (s .rows) (now (work .entry)) (now (work .exit)) ⌝ }
+        × SameOutside trips (used (s .rows)) (now (work .entry)) (now (work .exit)) ⌝ }
 {
     let mut i = end;
     while first < i {

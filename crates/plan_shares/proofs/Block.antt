@@ -1,7 +1,6 @@
 -- A class's block of cells: its running sums, then its longest and its expected delay. Assumes nothing.
 use Prim.Native.Nat.{ℕ, suc, pred, _+_, _*_, _/_, _≤_, _<_}
 use mathlib.Core.List.{List}
-use mathlib.Core.Logic.{inl, inr, ⊎-elim}
 use mathlib.Core.Path.{_≡_, sym, ap, subst, _∙_}
 use native.Mathlib.Omega.{arith}
 use lib.ListN.{length, getD, set, length-set}
@@ -12,8 +11,10 @@ use Rattle.file_layout.specs.Decode.{sharesFrom, tableAt, blockEnd}
 use Rattle.numbers.specs.Numbers.{u16At}
 use Rattle.file_layout.proofs.Blocks.{table-has}
 use Rattle.plans.specs.Worth.{up, weigh}
+use Rattle.plan_cells.specs.Outside.{SameOutside}
+use Rattle.plan_cells.proofs.Outside.{outside-then, outside-wider, outside-set}
 use Rattle.plan_rows.specs.Reading.{blockCell, BlockHeld}
-use Rattle.plan_shares.specs.Summed.{BlockStands, SharesStand, Summed, SameOutside}
+use Rattle.plan_shares.specs.Summed.{BlockStands, SharesStand, Summed}
 
 -- the two cells ahead of the running sums
 module _
@@ -41,30 +42,22 @@ module _
               ap (λ i. getD (set (set cells' (blockCell k + 0) longest-cell) (blockCell k + 1) expected-cell) i 0) first
               ∙ getD-set-other (set cells' (blockCell k + 0) longest-cell) (blockCell k + 1) (blockCell k + 0) expected-cell 0
               (λ q. let z : ⊥ = omega arith in z)
-              ∙ getD-set-same cells' (blockCell k + 0) longest-cell 0 (omega (arith, summed .same-length)) ∙ l;
+              ∙ getD-set-same cells' (blockCell k + 0) longest-cell 0 (omega (arith, summed .outside .same-length)) ∙ l;
           expected-held =
               getD-set-same (set cells' (blockCell k + 0) longest-cell) (blockCell k + 1) expected-cell 0
-              (omega (arith, summed .same-length, length-set cells' (blockCell k + 0) longest-cell))
+              (omega (arith, summed .outside .same-length, length-set cells' (blockCell k + 0) longest-cell))
               ∙ e;
           cumulative-held =
               λ v h.
               apart (blockCell k + 2 + v) (λ q. let z : ⊥ = omega arith in z) (λ q. let z : ⊥ = omega arith in z) ∙ summed .sums v h;
         }
 
-    pub others-kept : SameOutside cells (set (set cells' (blockCell k + 0) longest-cell) (blockCell k + 1) expected-cell) k
+    pub others-kept :
+        SameOutside (blockCell k) (blockCell (suc k)) cells (set (set cells' (blockCell k + 0) longest-cell) (blockCell k + 1) expected-cell)
     others-kept =
-        record {
-          same-length =
-              length-set (set cells' (blockCell k + 0) longest-cell) (blockCell k + 1) expected-cell
-              ∙ length-set cells' (blockCell k + 0) longest-cell ∙ summed .same-length;
-          kept =
-              λ i w.
-              apart i (λ q. ⊎-elim (λ x. let z : ⊥ = omega arith in z) (λ x. let z : ⊥ = omega arith in z) w)
-              (λ q. ⊎-elim (λ x. let z : ⊥ = omega arith in z) (λ x. let z : ⊥ = omega arith in z) w)
-              ∙ summed .kept i
-              (⊎-elim (λ x. inl (let z : i < blockCell k + 2 = omega arith in z))
-              (λ x. inr (let z : blockCell k + 2 + length shares ≤ i = omega arith in z)) w);
-        }
+        outside-then (outside-wider (omega arith) (omega arith) (summed .outside))
+        (outside-then (outside-set cells' (blockCell k + 0) longest-cell (omega arith) (omega arith))
+        (outside-set (set cells' (blockCell k + 0) longest-cell) (blockCell k + 1) expected-cell (omega arith) (omega arith)))
 
 -- where a standing block's shares stand
 pub block-shares : (file : List ℕ) (at : ℕ) → BlockStands file at → SharesStand file (at + 2) (u16At file at)
@@ -120,7 +113,7 @@ module _
         → Summed cells cells' (256 * k + 2) (sharesFrom file (at + 2) (suc longest')) (suc longest') → longest-cell ≡ longest'
         → expected-cell ≡ (late + 15) / 16
         → BlockHeld (set (set cells' (256 * k + 0) longest-cell) (256 * k + 1) expected-cell) k (tableAt file at)
-        × SameOutside cells (set (set cells' (256 * k + 0) longest-cell) (256 * k + 1) expected-cell) k
+        × SameOutside (blockCell k) (blockCell (suc k)) cells (set (set cells' (256 * k + 0) longest-cell) (256 * k + 1) expected-cell)
     table-held cells cells' k longest-cell expected-cell inside room summed l e =
         let held : Summed cells cells' (blockCell k + 2) (tableAt file at) (length (tableAt file at)) =
         subst (Summed cells cells' (blockCell k + 2) (tableAt file at)) counted

@@ -10,9 +10,10 @@ use Rattle.timetable.specs.Timetable.{sharesOf}
 use Rattle.file_layout.specs.Decode.{tableAt, blockEnd}
 use Rattle.file_layout.proofs.Blocks.{next-block, table-has}
 use Rattle.file_layout.specs.Sound.{blockAt}
+use Rattle.plan_cells.specs.Outside.{SameOutside}
 use Rattle.plan_rows.specs.declared.Sailings.{Sailings}
 use Rattle.plan_rows.specs.Reading.{tablesIn, blockCell, BlockHeld, BlocksStand}
-use Rattle.plan_shares.specs.Summed.{BlockStands, SameOutside}
+use Rattle.plan_shares.specs.Summed.{BlockStands}
 
 -- a class's block stands where it starts
 pub block-stands : (file : List ℕ) (s : Sailings) → BlocksStand file s → (c : ℕ) → c < s .classes → BlockStands file (blockAt file (s .tablestart) c)
@@ -24,15 +25,13 @@ block-stands file s b c h =
     }
 
 -- a block of an earlier class stays
-block-kept : (cells cells' : List ℕ) (k c : ℕ) (shares : List ℕ) → SameOutside cells cells' k → c < k → length shares ≤ 254
+block-kept : (cells cells' : List ℕ) (k c : ℕ) (shares : List ℕ) → SameOutside (blockCell k) (blockCell (suc k)) cells cells' → c < k → length shares ≤ 254
     → BlockHeld cells c shares → BlockHeld cells' c shares
 block-kept cells cells' k c shares same earlier few held =
     record {
-      longest-held = same .kept (blockCell c) (inl (let z : blockCell c < blockCell k = omega arith in z)) ∙ held .longest-held;
-      expected-held = same .kept (blockCell c + 1) (inl (let z : blockCell c + 1 < blockCell k = omega arith in z)) ∙ held .expected-held;
-      cumulative-held =
-          λ v h.
-          same .kept (blockCell c + 2 + v) (inl (let z : blockCell c + 2 + v < blockCell k = omega arith in z)) ∙ held .cumulative-held v h;
+      longest-held = same .ahead (blockCell c) (omega arith) ∙ held .longest-held;
+      expected-held = same .ahead (blockCell c + 1) (omega arith) ∙ held .expected-held;
+      cumulative-held = λ v h. same .ahead (blockCell c + 2 + v) (omega arith) ∙ held .cumulative-held v h;
     }
 
 -- the blocks of the classes below k are held, and the next one starts at `block`
@@ -49,7 +48,7 @@ read-none file s cells room =
 
 pub read-more : (file : List ℕ) (s : Sailings) → BlocksStand file s → (cells cells' : List ℕ) (k block end : ℕ)
     → ReadSoFar file s cells k block → k < s .classes → end ≡ blockEnd file block → BlockHeld cells' k (tableAt file block)
-    → SameOutside cells cells' k → ReadSoFar file s cells' (k + 1) end
+    → SameOutside (blockCell k) (blockCell (suc k)) cells cells' → ReadSoFar file s cells' (k + 1) end
 read-more file s b cells cells' k block end so-far inside ends here same =
     let one : suc k ≡ k + 1 = omega arith in
     record {

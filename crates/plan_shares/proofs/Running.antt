@@ -3,7 +3,7 @@ use Prim.Native.Nat.{ℕ, zero, suc, _+_, _*_, _≤_, _<_}
 use mathlib.Core.List.{List, [], _∷_}
 use mathlib.Core.Logic.{_⊎_, inl, inr, ⊎-elim}
 use mathlib.Core.Path.{_≡_, refl, sym, ap, subst, _∙_}
-use native.Mathlib.Nat.{mul-le-mul-left, add-zero, zero-add, add-suc, suc-add, add-assoc, not-suc-le-zero, le-of-suc-le-suc}
+use native.Mathlib.Nat.{eq-or-lt-of-le, mul-le-mul-left, add-zero, zero-add, add-suc, suc-add, add-assoc, not-suc-le-zero, le-of-suc-le-suc}
 use native.Mathlib.Omega.{arith}
 use lib.ListN.{length, getD, take, set, length-set}
 use lib.Seq.{getD-set-same, getD-set-other}
@@ -12,6 +12,7 @@ use Rattle.file_layout.specs.Decode.{sharesFrom}
 use Rattle.numbers.specs.Numbers.{u16At}
 use Rattle.file_layout.proofs.Blocks.{shares-length}
 use Rattle.plans.specs.Worth.{weigh}
+use Rattle.plan_cells.proofs.Outside.{outside-same, outside-then, outside-wider, outside-set}
 use Rattle.plan_shares.specs.Summed.{Summed}
 
 pub share-of-file : (s : List ℕ) (at n k : ℕ) → k < n → getD (sharesFrom s at n) k 0 ≡ u16At s (at + 2 * k)
@@ -48,31 +49,22 @@ sum-part (x ∷ xs) (suc k) = omega (arith, sum-part xs k)
 
 pub summed-none : (cells : List ℕ) (into : ℕ) (shares : List ℕ) → Summed cells cells into shares 0
 summed-none cells into shares =
-    record { same-length = refl; sums = λ v h. absurd (not-suc-le-zero h); kept = λ i w. refl }
+    record { sums = λ v h. absurd (not-suc-le-zero h); outside = outside-same into (into + 0) cells }
 
 -- one running sum more
 pub summed-more : (cells cells' : List ℕ) (into : ℕ) (shares : List ℕ) (k total : ℕ) → into + k < length cells
     → total ≡ sum (take (suc k) shares) → Summed cells cells' into shares k → Summed cells (set cells' (into + k) total) into shares (suc k)
 summed-more cells cells' into shares k total h e s =
     record {
-      same-length = length-set cells' (into + k) total ∙ s .same-length;
-      sums = λ v l. at v (lt-or v k l);
-      kept =
-          λ i w.
-          getD-set-other cells' (into + k) i total 0 (λ q. ⊎-elim (λ x. let z : ⊥ = omega arith in z) (λ x. let z : ⊥ = omega arith in z) w)
-          ∙ s .kept i (⊎-elim (λ x. inl x) (λ x. inr (let z : into + k ≤ i = omega arith in z)) w);
+      sums = λ v l. at v (eq-or-lt-of-le (let z : v ≤ k = omega arith in z));
+      outside =
+          outside-then (outside-wider (omega arith) (omega arith) (s .outside)) (outside-set cells' (into + k) total (omega arith) (omega arith));
     }
   where
-    lt-or : (v k : ℕ) → v < suc k → (v ≡ k) ⊎ (v < k)
-    lt-or zero zero l = inl refl
-    lt-or zero (suc k) l = inr (omega arith)
-    lt-or (suc v) zero l = absurd (let z : ⊥ = omega arith in z)
-    lt-or (suc v) (suc k) l = ⊎-elim (λ q. inl (ap suc q)) (λ m. inr (omega arith)) (lt-or v k (omega arith))
-
     at : (v : ℕ) → (v ≡ k) ⊎ (v < k) → getD (set cells' (into + k) total) (into + v) 0 ≡ sum (take (suc v) shares)
     at v (inl q) =
         ap (λ n. getD (set cells' (into + k) total) (into + n) 0) q
-        ∙ getD-set-same cells' (into + k) total 0 (omega (arith, s .same-length))
+        ∙ getD-set-same cells' (into + k) total 0 (omega (arith, s .outside .same-length))
         ∙ e ∙ ap (λ n. sum (take (suc n) shares)) (sym q)
     at v (inr l) = getD-set-other cells' (into + k) (into + v) total 0 (λ q. let z : ⊥ = omega arith in z) ∙ s .sums v l
 

@@ -1,12 +1,12 @@
--- Running sums of a class's shares in lent cells, and the cells that stay as they were.
+-- Running sums of a class's shares in lent cells.
 use Prim.Native.Nat.{ℕ, suc, _+_, _*_, _≤_, _<_}
 use mathlib.Core.List.{List}
-use mathlib.Core.Logic.{_⊎_}
 use mathlib.Core.Path.{_≡_}
 use lib.ListN.{length, getD, take}
 use Rattle.timetable.specs.Classes.{whole, sum}
 use Rattle.file_layout.specs.Decode.{sharesFrom, tableAt, blockEnd}
-use Rattle.plan_rows.specs.Reading.{blockCell, SharesFit}
+use Rattle.plan_cells.specs.Outside.{SameOutside}
+use Rattle.plan_rows.specs.Reading.{SharesFit}
 
 -- shares of delays 0 to `longest` stand in the file from byte `at` on, and sum to no more than the whole
 pub record SharesStand (file : List ℕ) (at longest : ℕ) : Type 0 where
@@ -21,11 +21,5 @@ pub record BlockStands (file : List ℕ) (at : ℕ) : Type 0 where
 
 -- the first `count` running sums of the shares stand in the cells from `into` on, and all others are as they were
 pub record Summed (cells cells' : List ℕ) (into : ℕ) (shares : List ℕ) (count : ℕ) : Type 0 where
-  pub same-length : length cells' ≡ length cells
   pub sums : (v : ℕ) → v < count → getD cells' (into + v) 0 ≡ sum (take (suc v) shares)
-  pub kept : (i : ℕ) → (i < into) ⊎ (into + count ≤ i) → getD cells' i 0 ≡ getD cells i 0
-
--- cells of other classes are as they were
-pub record SameOutside (cells cells' : List ℕ) (class : ℕ) : Type 0 where
-  pub same-length : length cells' ≡ length cells
-  pub kept : (i : ℕ) → (i < blockCell class) ⊎ (blockCell (suc class) ≤ i) → getD cells' i 0 ≡ getD cells i 0
+  pub outside : SameOutside into (into + count) cells cells'

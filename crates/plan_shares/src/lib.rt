@@ -4,8 +4,9 @@ ghost use Prim.Native.Nat.{suc, _+_, _<_};
 ghost use lib.ListN.{length};
 ghost use Rattle.file_layout.specs.Decode.{sharesFrom, tableAt, blockEnd};
 ghost use Rattle.plans.specs.Worth.{weigh};
-ghost use Rattle.plan_rows.specs.Reading.{tablesIn, BlocksStand, BlockHeld, TablesHeld};
-ghost use Rattle.plan_shares.specs.Summed.{BlockStands, SharesStand, SameOutside, Summed};
+ghost use Rattle.plan_cells.specs.Outside.{SameOutside};
+ghost use Rattle.plan_rows.specs.Reading.{tablesIn, blockCell, BlocksStand, BlockHeld, TablesHeld};
+ghost use Rattle.plan_shares.specs.Summed.{BlockStands, SharesStand, Summed};
 use numbers::cell;
 use numbers::u16_at;
 use plan_rows::BLOCK;
@@ -31,7 +32,7 @@ pub fn read_tables(file: &[u8], s: Sailings, tables: &mut [u32])
 fn read_table(file: &[u8], at: usize, k: usize, tables: &mut [u32]) -> usize
     requires { ⌜ BlockStands (now file) at × (k < 16) × (length (now tables) ≡ 4096) ⌝ }
     ensures { λ r. ⌜ (r ≡ blockEnd (now (file .entry)) at) × BlockHeld (now (tables .exit)) k (tableAt (now (file .entry)) at)
-        × SameOutside (now (tables .entry)) (now (tables .exit)) k ⌝ }
+        × SameOutside (blockCell k) (blockCell (suc k)) (now (tables .entry)) (now (tables .exit)) ⌝ }
 {
     let longest = u16_at(file, at);
     let into = BLOCK * k;

@@ -4,13 +4,13 @@ use native.Mathlib.Omega.{arith}
 use mathlib.Core.List.{List}
 use mathlib.Core.Option.{Option, none, some}
 use mathlib.Core.Path.{_≡_, refl, sym, ap, subst, _∙_}
-use lib.ListN.{length, drop}
-use lib.Seq.{drop-drop}
+use lib.ListN.{length}
 use Rattle.numbers.specs.Over.{over}
 use Rattle.timetable.specs.Timetable.{Timetable}
 use Rattle.query.specs.declared.Query.{Query}
 use Rattle.plans.specs.Plan.{Plan, planned, planBefore, earliest}
 use Rattle.plan_cells.specs.Cells.{missing, cellOf}
+use Rattle.plan_cells.proofs.Outside.{outside-then, outside-wider}
 use Rattle.plan_slice.specs.Slice.{written}
 use Rattle.plan_whole.specs.declared.Planned.{Planned}
 use Rattle.plan_whole.specs.declared.Planned.the-variants.{Plan as AsPlan, Refused as NoPlan}
@@ -40,17 +40,11 @@ plan-answers o p rides expected latest bound plan after e a b c d w =
 -- work cleared where only its first cells were used
 pub kept-later : (from room : ℕ) (work after : List ℕ) → from ≤ room → KeptBehind from work after → KeptBehind room work after
 kept-later from room work after h kept =
-    let far : from + (room - from) ≡ room = omega arith in
-    record {
-      same-length = kept .same-length;
-      kept =
-          subst (λ n. drop n after ≡ drop n work) far
-          (sym (drop-drop (room - from) from after) ∙ ap (drop (room - from)) (kept .kept) ∙ drop-drop (room - from) from work);
-    }
+    outside-wider (omega arith) h kept
 
 pub kept-both : (from : ℕ) (work between after : List ℕ) → KeptBehind from work between → KeptBehind from between after → KeptBehind from work after
 kept-both from work between after one two =
-    record { same-length = two .same-length ∙ one .same-length; kept = two .kept ∙ one .kept }
+    outside-then one two
 
 -- E or none, as a cell tells it
 pub no-arrival-cell : (o : Option ℕ) (r : ℕ) → r ≡ cellOf o → ((e : ℕ) → o ≡ some e → e < 65536) → r ≡ missing → o ≡ none

@@ -4,7 +4,7 @@ use mathlib.Core.List.{List}
 use mathlib.Core.Logic.{_≢_}
 use mathlib.Core.Option.{Option}
 use mathlib.Core.Path.{_≡_}
-use lib.ListN.{length, drop}
+use lib.ListN.{length}
 use Rattle.timetable.specs.declared.Row.{Row}
 use Rattle.file_layout.specs.declared.Format.{Format}
 use Rattle.file_layout.specs.declared.Trailer.{Trailer}
@@ -16,6 +16,8 @@ use Rattle.plans.specs.Sound.{Timely}
 use Rattle.plans.specs.Worth.{firstOpen}
 use Rattle.plans.specs.Chosen.{inTicks}
 use Rattle.plans.specs.Plan.{Plan, chosenFor, planWithin}
+use Rattle.plan_cells.specs.Outside.{SameOutside}
+use Rattle.plan_cells.specs.Cells.{trips}
 use Rattle.plan_rows.specs.declared.Sailings.{Sailings}
 use Rattle.plan_rows.specs.Reading.{rowsIn, tablesIn, timetableIn, Stand, Cut, TablesHeld}
 use Rattle.plan_rows.specs.Sections.{Plannable}
@@ -67,6 +69,5 @@ planIn file s q bound =
     planWithin (timetableIn file s) q bound (firstOpen (chosenFor (timetableIn file s) (goalOf q bound)) (q .source) (q .minute))
 
 -- cells from `from` on are as they were
-pub record KeptBehind (from : ℕ) (work work' : List ℕ) : Type 0 where
-  pub same-length : length work' ≡ length work
-  pub kept : drop from work' ≡ drop from work
+abbrev pub KeptBehind : (from : ℕ) (work work' : List ℕ) → Type 0
+KeptBehind from work work' = SameOutside trips from work work'

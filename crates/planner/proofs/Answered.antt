@@ -11,6 +11,7 @@ use Rattle.file_layout.specs.Decode.{decode}
 use Rattle.query.specs.declared.Query.{Query}
 use Rattle.plans.specs.Plan.{planned, earliest}
 use Rattle.plan_cells.specs.Cells.{filled}
+use Rattle.plan_cells.proofs.Outside.{outside-drop}
 use Rattle.plan_whole.specs.declared.Planned.{Planned}
 use Rattle.plan_whole.specs.declared.Planned.the-variants.{Refused as NoPlan}
 use Rattle.plan_whole.specs.Answers.{Answers}
@@ -35,7 +36,7 @@ pub cleared-behind : (room : ℕ) (work after : List ℕ) → KeptBehind room wo
 unfolding cleared
 cleared-behind room work after kept =
     let zero-room : 0 + room ≡ room = omega arith in
-    ap (λ n. replicate room 0 ++ drop n after) zero-room ∙ ap (λ (l : List ℕ). replicate room 0 ++ l) (kept .kept)
+    ap (λ n. replicate room 0 ++ drop n after) zero-room ∙ ap (λ (l : List ℕ). replicate room 0 ++ l) (outside-drop kept room (omega arith))
 
 module _ (f : Format) (file : List ℕ) (q : Query) (work plan : List ℕ) where
   -- refusals 1 to 7 change no slice

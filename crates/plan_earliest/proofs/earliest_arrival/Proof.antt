@@ -1,7 +1,8 @@
 -- `plan_earliest::earliest_arrival` meets its contract: blank cells, then the sweep. Assumes nothing.
 use native.Mathlib.Omega.{arith}
-use Rattle.plan_earliest.specs.Swept.{SameBehind}
-use Rattle.plan_earliest.proofs.Steps.{behind-both}
+use Rattle.plan_cells.specs.Cells.{trips, pairs}
+use Rattle.plan_cells.specs.Outside.{SameOutside}
+use Rattle.plan_cells.proofs.Outside.{outside-then}
 use Rattle.plan_earliest.proofs.Start.{Blank, blanked, start-behind, set-out}
 use Rattle.plan_earliest.proofs.Answer.{answer-earliest}
 use borrow.Author.Needs.{needs}
@@ -57,10 +58,10 @@ mul-result c = search needs
 
 -- only the cells of trips and stops were touched
 behind :
-    (c : tie.After-slice-known5) → SameBehind (entry (sweep c) .args .work .now) (c .before .before .before .sail-until .last .1 .1 .1 .1 .1 .0)
+    (c : tie.After-slice-known5) → SameOutside trips pairs (entry (sweep c) .args .work .now) (c .before .before .before .sail-until .last .1 .1 .1 .1 .1 .0)
 behind c =
     let a = entry (sweep c) in
-    behind-both (start-behind (blank (sweep c)) (a .args .source) (a .pre .2) (sweep c .before .cell .ensures))
+    outside-then (start-behind (blank (sweep c)) (a .args .source) (a .pre .2) (sweep c .before .cell .ensures))
     (c .before .before .before .sail-until .ensures .0)
 
 slice-read-result : tie.Need-slice-read-result
@@ -78,8 +79,7 @@ returns c =
     let found = c .before .before .before .sail-until .ensures .1 (a .args .source) (a .args .minute) in (
       answer-earliest (a .args .file .now) (a .args .s) (a .pre .0) (a .args .source) (a .args .target) (a .args .minute) (a .args .first)
           (a .pre .4) (a .pre .5) (a .pre .6) out found,
-      behind c .same-length,
-      behind c .same-cells,
+      behind c,
     )
 
 pub earliest-arrival-spec : {M : Type 1} → statement M

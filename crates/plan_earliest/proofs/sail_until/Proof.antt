@@ -1,24 +1,27 @@
 -- `plan_earliest::sail_until` meets its contract: the rows below `i` are swept. Assumes nothing.
 use Prim.Native.Nat.{ℕ, _-_, _≤_}
-use mathlib.Core.Path.{refl, sym, subst, _∙_}
+use mathlib.Core.Path.{sym, subst, _∙_}
 use native.Mathlib.Omega.{arith}
+use Rattle.plan_cells.specs.Cells.{trips, pairs}
+use Rattle.plan_cells.specs.Outside.{SameOutside}
+use Rattle.plan_cells.proofs.Outside.{outside-same}
 use Rattle.plan_rows.specs.Reading.{timetableIn}
 use Rattle.plan_earliest.specs.Cells.{Placed}
 use Rattle.plan_earliest.proofs.InFile.{row-placed, row-behind, row-swept, stops-there, ends-there}
-use Rattle.plan_earliest.specs.Swept.{Swept, SameBehind}
+use Rattle.plan_earliest.specs.Swept.{Swept}
 use Rattle.plan_earliest.proofs.sail_until.Statement.{statement}
 use Rattle.plan_earliest.proofs.sail_until.Tie as tie
 
 abbrev Inv-loop : tie.InvT-loop
 Inv-loop file s tables target first work₀ i₀ work i =
-    (first ≤ i) × (i ≤ s .rows) × SameBehind work₀ work
+    (first ≤ i) × (i ≤ s .rows) × SameOutside trips pairs work₀ work
     × ((source minute : ℕ) → Swept (timetableIn file s) source minute first work₀ → Swept (timetableIn file s) source minute i work)
 
 abbrev μ-loop : tie.MeasureT-loop
 μ-loop file s tables target first work₀ i₀ work i = s .rows - i
 
 loop-holds : tie.Need-loop-holds Inv-loop μ-loop
-loop-holds c = (omega arith, omega arith, record { same-length = refl; same-cells = refl }, λ _ _ sw. sw)
+loop-holds c = (omega arith, omega arith, outside-same trips pairs (c .before .before .before .args .work .now), λ _ _ sw. sw)
 
 nth-row-requires : tie.Need-nth-row-requires Inv-loop μ-loop
 nth-row-requires c κs = (c .before .before .before .before .before .before .pre .0, omega arith)

@@ -6,10 +6,13 @@ use native.Mathlib.Nat.{zero-add}
 use native.Mathlib.Omega.{arith}
 use lib.ListN.{set}
 use Rattle.plans.proofs.Open.{found-member}
+use Rattle.plan_cells.specs.Cells.{trips, stops}
+use Rattle.plan_cells.specs.Outside.{SameOutside}
+use Rattle.plan_cells.proofs.Outside.{outside-then, outside-wider}
 use Rattle.plan_scan.specs.Scanned.{scanIn}
 use Rattle.plan_extract.specs.Marks.{HeadAlone}
 use Rattle.plan_extract.proofs.Headed.{headed-kept, headed-alone}
-use Rattle.plan_extract.proofs.Kept.{Kept, kept-drop, kept-held}
+use Rattle.plan_extract.proofs.Kept.{kept-held}
 use Rattle.plan_extract.proofs.Timed.{known}
 use borrow.Author.Needs.{needs}
 use Rattle.plan_extract.proofs.write_plan.Statement.{statement}
@@ -34,11 +37,11 @@ entered c = c .before .before .before .before .before .before
 abbrev marked : tie.After-fill → List ℕ
 marked c = set (c .fill .last .0) (0 + entered c .args .head) 1
 
-kept : (c : tie.After-fill) → Kept (entered c .args .work .now) (marked c)
+kept : (c : tie.After-fill) → SameOutside trips stops (entered c .args .work .now) (marked c)
 kept c =
     let a = entered c in
     let h = a .args .head in
-    subst (λ l. Kept (a .args .work .now) (set l (0 + h) 1)) (sym (c .fill .ensures))
+    subst (λ l. SameOutside trips stops (a .args .work .now) (set l (0 + h) 1)) (sym (c .fill .ensures))
     (headed-kept (a .args .work .now) (a .args .s .rows) (0 + h) h (zero-add h) (head-inside a) (a .pre .0 .few-rows) (omega (arith, a .pre .4)))
 
 alone : (c : tie.After-fill) → HeadAlone (marked c) (entered c .args .s .rows) (entered c .args .head)
@@ -79,7 +82,7 @@ write-wanted-requires c κs =
 same-length : tie.Need-same-length
 same-length c =
     let f = c .before .before .before .before .before .before .before .before .before in
-    c .before .before .before .before .write-wanted .ensures .1 ∙ kept f .same-length
+    c .before .before .before .before .write-wanted .ensures .1 .same-length ∙ kept f .same-length
 
 same-length-2 : tie.Need-same-length-2
 same-length-2 c = search needs
@@ -89,7 +92,7 @@ returns c =
     let a = c .before .before .before .before .before .before .before .before .before .before .before .before .before .before .before in
     let k = kept (c .before .before .before .before .before .before .before .before .before) in
     let w = c .before .before .before .before .write-wanted .ensures in
-    (w .0, w .1 ∙ k .same-length, w .2 ∙ kept-drop k (4 * a .args .s .rows + 2402) (omega arith))
+    (w .0, outside-then (outside-wider (omega arith) (omega arith) k) (w .1))
 
 pub write-plan-spec : {M : Type 1} → statement M
 write-plan-spec =

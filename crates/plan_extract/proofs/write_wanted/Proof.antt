@@ -11,11 +11,13 @@ use Rattle.plans.specs.Worth.{Valued}
 use Rattle.plans.proofs.Open.{found-member}
 use Rattle.plans.proofs.Order.{Ordered}
 use Rattle.plans.proofs.OwnWorth.{OwnWorth}
+use Rattle.plan_cells.specs.Cells.{trips, stops}
+use Rattle.plan_cells.specs.Outside.{SameOutside}
+use Rattle.plan_cells.proofs.Outside.{outside-same, outside-then, outside-wider}
 use Rattle.plan_scan.specs.Scanned.{scanIn}
 use Rattle.plan_extract.specs.Marks.{Catching}
-use Rattle.plan_extract.proofs.Kept.{Kept, kept-none, kept-on, kept-drop}
 use Rattle.plan_extract.proofs.Timed.{ordered, own-worth, known}
-use Rattle.plan_extract.proofs.Passing.{kept as passed-kept}
+use Rattle.plan_extract.proofs.Passing.{marks-only}
 use Rattle.plan_extract.proofs.Writing.{writing-start, writing-pass, writing-end, plan-length}
 use Rattle.plan_extract.proofs.Turn.{AtRow, Turn, leave-inside, class-inside, landing-fits, met, arrived, changed}
 use Rattle.plan_extract.proofs.write_wanted.Statement.{statement}
@@ -23,7 +25,7 @@ use Rattle.plan_extract.proofs.write_wanted.Tie as tie
 
 abbrev Inv-loop : tie.InvT-loop
 Inv-loop file s tables goal first head end work₀ plan₀ rides₀ latest₀ i₀ work plan rides latest i =
-    (i ≤ end) × (rides ≤ i) × (latest < 65536) × Kept work₀ work × AtRow file s goal first head end plan₀ work plan rides latest i
+    (i ≤ end) × (rides ≤ i) × (latest < 65536) × SameOutside trips stops work₀ work × AtRow file s goal first head end plan₀ work plan rides latest i
 
 abbrev μ-loop : tie.MeasureT-loop
 μ-loop file s tables goal first head end work₀ plan₀ rides₀ latest₀ i₀ work plan rides latest i = end - i
@@ -56,7 +58,7 @@ loop-holds c =
       omega (arith, head-inside a),
       omega arith,
       omega arith,
-      kept-none (a .args .work .now),
+      outside-same trips stops (a .args .work .now),
       λ f. writing-start (chosen a) (all .0) f (a .args .goal .target) (a .args .s .rows) (all .1) p w (a .pre .8),
     )
 
@@ -189,7 +191,7 @@ loop-again c =
       omega (arith, turn m .below),
       omega (arith, l .inv .1),
       omega (arith, r .later .ensures, lands-soon (r .before .before), l .inv .2),
-      kept-on (l .inv .3) (record { same-length = passed .same-length; same-cell = passed-kept (l .work) _ _ _ (stack-met r away) passed }),
+      outside-then (l .inv .3) (marks-only (l .work) _ _ _ (stack-met r away) passed),
       changed (turn m) (w .result) (w .ensures .0) (n .result) (n .ensures .0) (d .result) (d .ensures .0) (w .last .1 .1 .1 .0) (w .ensures .1)
           (r .later .result) (r .later .ensures) away (c .before .before .want .last .1 .1 .1 .0) passed,
     )
@@ -241,8 +243,7 @@ returns c =
     let l = c .before .before .loop in (
       (λ f. let done = writing-end (l .inv .4 f) (λ v m. omega (arith, c .before .loop-test .left, before-end a v m)) in
           (done .0, done .1, c .cell .ensures ∙ done .2)),
-      l .inv .3 .same-length,
-      kept-drop (l .inv .3) (4 * a .args .s .rows + 2402) (omega arith),
+      outside-wider (omega arith) (omega arith) (l .inv .3),
     )
 
 pub write-wanted-spec : {M : Type 1} → statement M

@@ -73,13 +73,13 @@ mul-work : tie.Need-mul-work Inv-loop μ-loop
 mul-work c = omega (arith, boards c)
 
 slice-read-work : tie.Need-slice-read-work Inv-loop μ-loop
-slice-read-work c = omega (arith, boards (c .before), c .before .before .before .before .loop .inv .2 .apart .same-length)
+slice-read-work c = omega (arith, boards (c .before), c .before .before .before .before .loop .inv .2 .outside .same-length)
 
 add-work : tie.Need-add-work Inv-loop μ-loop
 add-work c = omega (arith, few (c .before))
 
 slice-write-work : tie.Need-slice-write-work Inv-loop μ-loop
-slice-write-work c = omega (arith, boards (c .before), c .before .before .before .before .loop .inv .2 .apart .same-length)
+slice-write-work c = omega (arith, boards (c .before), c .before .before .before .before .loop .inv .2 .outside .same-length)
 
 add-i : tie.Need-add-i Inv-loop μ-loop
 add-i c = omega arith
@@ -91,7 +91,7 @@ loop-again : tie.Need-loop-again Inv-loop μ-loop
 loop-again c = (omega arith, omega arith, counted-on (c .before))
 
 same-length : tie.Need-same-length Inv-loop μ-loop
-same-length c = c .before .loop .inv .2 .apart .same-length
+same-length c = c .before .loop .inv .2 .outside .same-length
 
 returns : tie.Need-returns Inv-loop μ-loop
 returns c =

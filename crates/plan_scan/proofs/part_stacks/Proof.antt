@@ -36,7 +36,7 @@ mul-work : tie.Need-mul-work Inv-loop μ-loop
 mul-work c = omega arith
 
 slice-write-work : tie.Need-slice-write-work Inv-loop μ-loop
-slice-write-work c = omega (arith, c .before .loop .inv .2 .apart .same-length)
+slice-write-work c = omega (arith, c .before .loop .inv .2 .outside .same-length)
 
 -- the stop's size is as it was
 size-left :
@@ -59,7 +59,7 @@ mul-start : tie.Need-mul-start Inv-loop μ-loop
 mul-start c = omega arith
 
 slice-read-start : tie.Need-slice-read-start Inv-loop μ-loop
-slice-read-start c = simp length-set (omega (arith, c .before .before .loop .inv .2 .apart .same-length))
+slice-read-start c = simp length-set (omega (arith, c .before .before .loop .inv .2 .outside .same-length))
 
 add-start-2 : tie.Need-add-start-2 Inv-loop μ-loop
 add-start-2 c =
@@ -73,7 +73,7 @@ mul-work-2 : tie.Need-mul-work-2 Inv-loop μ-loop
 mul-work-2 c = omega arith
 
 slice-write-work-2 : tie.Need-slice-write-work-2 Inv-loop μ-loop
-slice-write-work-2 c = simp length-set (omega (arith, c .before .before .loop .inv .2 .apart .same-length))
+slice-write-work-2 c = simp length-set (omega (arith, c .before .before .loop .inv .2 .outside .same-length))
 
 add-stop : tie.Need-add-stop Inv-loop μ-loop
 add-stop c = omega arith
@@ -87,17 +87,17 @@ loop-again c =
     let l = c .before .before .loop in (
       omega arith,
       further (a .args .work .now) (a .args .from) (l .start) (l .stop) (getD (set (l .work) (stops + l .stop) (l .start)) (sizes + l .stop) 0) (l .inv .1) (size-left c),
-      parting-on (a .args .from) (l .stop) (l .start) (a .args .work .now) (l .work) (omega (arith, l .inv .2 .apart .same-length)) (omega arith) (l .inv .1) (l .inv .2),
+      parting-on (a .args .from) (l .stop) (l .start) (a .args .work .now) (l .work) (omega (arith, l .inv .2 .outside .same-length)) (omega arith) (l .inv .1) (l .inv .2),
     )
 
 same-length : tie.Need-same-length Inv-loop μ-loop
-same-length c = c .before .loop .inv .2 .apart .same-length
+same-length c = c .before .loop .inv .2 .outside .same-length
 
 returns : tie.Need-returns Inv-loop μ-loop
 returns c =
     let p = c .before .loop .inv .2 in
     record {
-      apart = p .apart;
+      outside = p .outside;
       starts = λ stop h. p .starts stop (omega arith);
       empty = λ stop h. p .empty stop (omega arith);
     }

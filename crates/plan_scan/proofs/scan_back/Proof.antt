@@ -6,9 +6,10 @@ use native.Mathlib.Omega.{arith}
 use borrow.Author.Needs.{needs}
 use lib.ListN.{length, getD, set}
 use Rattle.plan_cells.specs.Cells.{trips, used, missing}
+use Rattle.plan_cells.specs.Outside.{SameOutside}
+use Rattle.plan_cells.proofs.Outside.{outside-then}
 use Rattle.plan_scan.specs.Stores.{pairCell, sizeOf}
-use Rattle.plan_scan.specs.Held.{Held, Inside}
-use Rattle.plan_scan.proofs.Inside.{inside-then}
+use Rattle.plan_scan.specs.Held.{Held}
 use Rattle.plan_scan.proofs.Bounds.{held-ends}
 use Rattle.plan_scan.proofs.Laid.{emptied, no-sizes, no-next, parts-fit, laid-stays, laid-held}
 use Rattle.plan_scan.proofs.scan_back.Statement.{statement}
@@ -29,43 +30,55 @@ fill-requires c κs = search needs
 fill-requires-2 : tie.Need-fill-requires-2
 fill-requires-2 c κs = search needs
 
+-- the entry, from where trips and sizes are filled, and from where the stacks are parted
+abbrev begun : tie.After-fill2 → tie.Start
+begun c = c .before .before .before .before .before .before .before .before .before .before .before
+
+abbrev emptied-at : tie.After-part-stacks → tie.After-fill2
+emptied-at c = c .before .before .before .before .before .before .before .before .before
+
 -- the cells once trips and sizes are filled
-emptied-here : (c : tie.After-fill2) → Inside (c .before .before .before .before .before .before .before .before .before .before .before .args .s .rows) (c .before .before .before .before .before .before .before .before .before .before .before .args .work .now) (c .fill2 .last .0)
+abbrev filled-trips : tie.After-fill2 → List ℕ
+filled-trips c = c .before .before .before .before .fill .last .0
+
+emptied-here : (c : tie.After-fill2) → SameOutside trips (used (begun c .args .s .rows)) (begun c .args .work .now) (c .fill2 .last .0)
 emptied-here c =
-    let a = c .before .before .before .before .before .before .before .before .before .before .before in
-    emptied (a .args .s .rows) (a .args .work .now) (c .before .before .before .before .fill .last .0) (c .fill2 .last .0) (c .before .before .before .before .before .cell .result) (a .pre .4) (c .before .before .before .before .before .cell .ensures)
+    let n = c .before .before .before .before .before .cell in
+    emptied (begun c .args .s .rows) (begun c .args .work .now) (filled-trips c) (c .fill2 .last .0) (n .result) (begun c .pre .4) (n .ensures)
     (c .before .before .before .before .fill .ensures) (c .fill2 .ensures)
 
-room-here : (c : tie.After-fill2) → used (c .before .before .before .before .before .before .before .before .before .before .before .args .s .rows) ≤ length (c .fill2 .last .0)
-room-here c = omega (arith, c .before .before .before .before .before .before .before .before .before .before .before .pre .4, emptied-here c .same-length)
+room-here : (c : tie.After-fill2) → used (begun c .args .s .rows) ≤ length (c .fill2 .last .0)
+room-here c = omega (arith, begun c .pre .4, emptied-here c .same-length)
 
 no-sizes-here : (c : tie.After-fill2) → (stop : ℕ) → stop < 200 → sizeOf (c .fill2 .last .0) stop ≡ 0
 no-sizes-here c =
-    let a = c .before .before .before .before .before .before .before .before .before .before .before in
-    no-sizes (a .args .s .rows) (a .args .work .now) (c .before .before .before .before .fill .last .0) (c .fill2 .last .0) (c .before .before .before .before .before .cell .result) (a .pre .4) (c .before .before .before .before .before .cell .ensures)
+    let n = c .before .before .before .before .before .cell in
+    no-sizes (begun c .args .s .rows) (begun c .args .work .now) (filled-trips c) (c .fill2 .last .0) (n .result) (begun c .pre .4) (n .ensures)
     (c .before .before .before .before .fill .ensures) (c .fill2 .ensures)
 
-no-next-here : (c : tie.After-fill2) → (trip : ℕ) → trip < 2000 → getD (c .fill2 .last .0) (trips + trip) 0 ≡ c .before .before .before .before .before .before .before .before .before .before .before .args .s .rows
+no-next-here : (c : tie.After-fill2) → (trip : ℕ) → trip < 2000 → getD (c .fill2 .last .0) (trips + trip) 0 ≡ begun c .args .s .rows
 no-next-here c =
-    let a = c .before .before .before .before .before .before .before .before .before .before .before in
-    no-next (a .args .s .rows) (a .args .work .now) (c .before .before .before .before .fill .last .0) (c .fill2 .last .0) (c .before .before .before .before .before .cell .result) (a .pre .4) (c .before .before .before .before .before .cell .ensures)
+    let n = c .before .before .before .before .before .cell in
+    no-next (begun c .args .s .rows) (begun c .args .work .now) (filled-trips c) (c .fill2 .last .0) (n .result) (begun c .pre .4) (n .ensures)
     (c .before .before .before .before .fill .ensures) (c .fill2 .ensures)
 
 count-boardings-requires : tie.Need-count-boardings-requires
 count-boardings-requires c κs =
-    let a = c .before .before .before .before .before .before .before .before .before .before .before .before .before .before in
-    (a .pre .0, a .pre .2, a .pre .3, omega (arith, room-here (c .before .before .before)), no-sizes-here (c .before .before .before))
+    let f = c .before .before .before in
+    let a = begun f in
+    (a .pre .0, a .pre .2, a .pre .3, omega (arith, room-here f), no-sizes-here f)
 
 add-part-stacks : tie.Need-add-part-stacks
 add-part-stacks c = search needs
 
 part-stacks-requires : tie.Need-part-stacks-requires
 part-stacks-requires c κs =
-    let a = c .before .before .before .before .before .before .before .before .before .before .before .before .before .before .before .before .before .before .before in
+    let f = c .before .before .before .before .before .before .before .before in
+    let a = begun f in
     let counted = c .before .before .before .before .count-boardings in (
-      omega (arith, room-here (c .before .before .before .before .before .before .before .before), counted .ensures .apart .same-length),
-      parts-fit (a .args .file .now) (a .args .s) (a .args .goal) (a .args .first) (a .args .end) (a .pre .0) (a .pre .3) (c .before .before .before .before .before .before .before .before .fill2 .last .0)
-          (counted .last .1 .1 .1 .1 .0) (room-here (c .before .before .before .before .before .before .before .before)) (counted .ensures),
+      omega (arith, room-here f, counted .ensures .outside .same-length),
+      parts-fit (a .args .file .now) (a .args .s) (a .args .goal) (a .args .first) (a .args .end) (a .pre .0) (a .pre .3) (f .fill2 .last .0)
+          (counted .last .1 .1 .1 .1 .0) (room-here f) (counted .ensures),
     )
 
 mul-work : tie.Need-mul-work
@@ -76,50 +89,60 @@ slice-write-work c = search needs
 
 -- the cells once the stacks are parted and pair n holds no worth
 closed-here : tie.After-part-stacks → List ℕ
-closed-here c = set (c .part-stacks .last .1 .0) (pairCell (c .before .before .before .before .before .before .before .before .before .before .before .before .before .before .before .before .before .before .before .before .args .s .rows)) missing
+closed-here c = set (c .part-stacks .last .1 .0) (pairCell (begun (emptied-at c) .args .s .rows)) missing
 
-laid-here : (c : tie.After-part-stacks) → let a = c .before .before .before .before .before .before .before .before .before .before .before .before .before .before .before .before .before .before .before .before .args in Held (a .file .now) (a .s) (a .goal) (a .first) (a .end) (a .end) (closed-here c)
+abbrev counted-cells : tie.After-part-stacks → List ℕ
+counted-cells c = c .before .before .before .before .before .count-boardings .last .1 .1 .1 .1 .0
+
+laid-here : (c : tie.After-part-stacks) → let a = begun (emptied-at c) .args in Held (a .file .now) (a .s) (a .goal) (a .first) (a .end) (a .end) (closed-here c)
 unfolding closed-here
 laid-here c =
-    let a = c .before .before .before .before .before .before .before .before .before .before .before .before .before .before .before .before .before .before .before .before in
-    laid-held (a .args .file .now) (a .args .s) (a .args .goal) (a .args .first) (a .args .end) (a .pre .0) (a .pre .3) (c .before .before .before .before .before .before .before .before .before .fill2 .last .0)
-    (c .before .before .before .before .before .count-boardings .last .1 .1 .1 .1 .0) (room-here (c .before .before .before .before .before .before .before .before .before)) (c .before .before .before .before .before .count-boardings .ensures) (c .part-stacks .last .1 .0) (c .part-stacks .ensures)
-    (no-next-here (c .before .before .before .before .before .before .before .before .before))
+    let f = emptied-at c in
+    let a = begun f in
+    laid-held (a .args .file .now) (a .args .s) (a .args .goal) (a .args .first) (a .args .end) (a .pre .0) (a .pre .3) (f .fill2 .last .0)
+    (counted-cells c) (room-here f) (c .before .before .before .before .before .count-boardings .ensures) (c .part-stacks .last .1 .0)
+    (c .part-stacks .ensures) (no-next-here f)
 
-stays-here : (c : tie.After-part-stacks) → Inside (c .before .before .before .before .before .before .before .before .before .before .before .before .before .before .before .before .before .before .before .before .args .s .rows) (c .before .before .before .before .before .before .before .before .before .before .before .before .before .before .before .before .before .before .before .before .args .work .now) (closed-here c)
+stays-here : (c : tie.After-part-stacks)
+    → let a = begun (emptied-at c) .args in SameOutside trips (used (a .s .rows)) (a .work .now) (closed-here c)
 unfolding closed-here
 stays-here c =
-    let a = c .before .before .before .before .before .before .before .before .before .before .before .before .before .before .before .before .before .before .before .before in
-    inside-then (a .args .s .rows) (emptied-here (c .before .before .before .before .before .before .before .before .before))
-    (laid-stays (a .args .file .now) (a .args .s) (a .args .goal) (a .args .first) (a .args .end) (a .pre .0) (a .pre .3) (c .before .before .before .before .before .before .before .before .before .fill2 .last .0)
-    (c .before .before .before .before .before .count-boardings .last .1 .1 .1 .1 .0) (room-here (c .before .before .before .before .before .before .before .before .before)) (c .before .before .before .before .before .count-boardings .ensures) (c .part-stacks .last .1 .0) (c .part-stacks .ensures)
-    (no-next-here (c .before .before .before .before .before .before .before .before .before)))
+    let f = emptied-at c in
+    let a = begun f in
+    outside-then (emptied-here f)
+    (laid-stays (a .args .file .now) (a .args .s) (a .args .goal) (a .args .first) (a .args .end) (a .pre .0) (a .pre .3) (f .fill2 .last .0)
+    (counted-cells c) (room-here f) (c .before .before .before .before .before .count-boardings .ensures) (c .part-stacks .last .1 .0)
+    (c .part-stacks .ensures) (no-next-here f))
 
-room-closed : (c : tie.After-part-stacks) → used (c .before .before .before .before .before .before .before .before .before .before .before .before .before .before .before .before .before .before .before .before .args .s .rows) ≤ length (closed-here c)
-room-closed c = omega (arith, c .before .before .before .before .before .before .before .before .before .before .before .before .before .before .before .before .before .before .before .before .pre .4, stays-here c .same-length)
+room-closed : (c : tie.After-part-stacks) → used (begun (emptied-at c) .args .s .rows) ≤ length (closed-here c)
+room-closed c = omega (arith, begun (emptied-at c) .pre .4, stays-here c .same-length)
 
 weigh-rows-requires : tie.Need-weigh-rows-requires
 unfolding closed-here
 weigh-rows-requires c κs =
-    let a = c .before .before .before .before .before .before .before .before .before .before .before .before .before .before .before .before .before .before .before .before .before .before .before in
     let parted = c .before .before .before in
+    let a = begun (emptied-at parted) in
     (a .pre .0, a .pre .1, a .pre .2, a .pre .3, room-closed parted, laid-here parted)
 
-scanned-stays :
-    (c : tie.After-slice-known6) → Inside (c .before .before .before .before .before .before .before .before .before .before .before .before .before .before .before .before .before .before .before .before .before .before .before .before .before .before .args .s .rows) (c .before .before .before .before .before .before .before .before .before .before .before .before .before .before .before .before .before .before .before .before .before .before .before .before .before .before .args .work .now) (c .before .before .weigh-rows .last .1 .1 .1 .1 .1 .1 .0)
+abbrev parted-at : tie.After-slice-known6 → tie.After-part-stacks
+parted-at c = c .before .before .before .before .before .before
+
+scanned-stays : (c : tie.After-slice-known6)
+    → let a = begun (emptied-at (parted-at c)) .args in
+    SameOutside trips (used (a .s .rows)) (a .work .now) (c .before .before .weigh-rows .last .1 .1 .1 .1 .1 .1 .0)
 unfolding closed-here
-scanned-stays c = inside-then (c .before .before .before .before .before .before .before .before .before .before .before .before .before .before .before .before .before .before .before .before .before .before .before .before .before .before .args .s .rows) (stays-here (c .before .before .before .before .before .before)) (c .before .before .weigh-rows .ensures .1)
+scanned-stays c = outside-then (stays-here (parted-at c)) (c .before .before .weigh-rows .ensures .1)
 
 same-length : tie.Need-same-length
 same-length c = scanned-stays c .same-length
 
 returns : tie.Need-returns
 returns c =
-    let a = c .before .before .before .before .before .before .before .before .before .before .before .before .before .before .before .before .before .before .before .before .before .before .before .before .before .before in (
+    let a = begun (emptied-at (parted-at c)) in
+    let weighed = c .before .before .weigh-rows in (
       held-ends (a .args .file .now) (a .args .s) (a .args .goal) (a .args .first) (a .args .end) (a .pre .0) (a .pre .3)
-          (c .before .before .weigh-rows .last .1 .1 .1 .1 .1 .1 .0) (a .pre .2) (c .before .before .weigh-rows .ensures .0),
-      scanned-stays c .same-length,
-      scanned-stays c .rest-kept,
+          (weighed .last .1 .1 .1 .1 .1 .1 .0) (a .pre .2) (weighed .ensures .0),
+      scanned-stays c,
     )
 
 pub scan-back-spec : {M : Type 1} → statement M

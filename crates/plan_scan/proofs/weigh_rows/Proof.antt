@@ -3,23 +3,24 @@ use Prim.Native.Nat.{suc, _-_, _≤_, _<_}
 use mathlib.Core.Path.{_≡_, subst}
 use native.Mathlib.Omega.{arith}
 use lib.ListN.{length}
-use Rattle.plan_cells.specs.Cells.{used}
-use Rattle.plan_scan.specs.Held.{Held, Inside}
-use Rattle.plan_scan.proofs.Inside.{inside-same, inside-then}
+use Rattle.plan_cells.specs.Cells.{trips, used}
+use Rattle.plan_cells.specs.Outside.{SameOutside}
+use Rattle.plan_cells.proofs.Outside.{outside-same, outside-then}
+use Rattle.plan_scan.specs.Held.{Held}
 use Rattle.plan_scan.proofs.Turn.{Weighed, turn-weighable, turn-some-ready, turn-weighed, turn-unchosen, turn-pushable, turn-chosen, turn-stays}
 use Rattle.plan_scan.proofs.weigh_rows.Statement.{statement}
 use Rattle.plan_scan.proofs.weigh_rows.Tie as tie
 
 abbrev Inv-loop : tie.InvT-loop
 Inv-loop file s tables goal first end work₀ i₀ work i =
-    (first ≤ i) × (i ≤ end) × Held file s goal first end i work × Inside (s .rows) work₀ work
+    (first ≤ i) × (i ≤ end) × Held file s goal first end i work × SameOutside trips (used (s .rows)) work₀ work
 
 abbrev μ-loop : tie.MeasureT-loop
 μ-loop file s tables goal first end work₀ i₀ work i = i
 
 loop-holds : tie.Need-loop-holds Inv-loop μ-loop
 loop-holds c =
-    let a = c .before .before .before in (a .pre .2, (let z : a .args .end ≤ a .args .end = omega arith in z), a .pre .5, inside-same (a .args .s .rows) (a .args .work .now))
+    let a = c .before .before .before in (a .pre .2, (let z : a .args .end ≤ a .args .end = omega arith in z), a .pre .5, outside-same trips (used (a .args .s .rows)) (a .args .work .now))
 
 sub-i : tie.Need-sub-i Inv-loop μ-loop
 sub-i c = omega arith
@@ -100,7 +101,7 @@ loop-again c =
       turn-chosen (a .args .file .now) (a .args .s) (a .args .goal) (a .args .first) (a .args .end) (a .pre .0) (a .pre .3) (l .i - 1) (first-here (c .before .before .before .before .before .before .before .before .before .before .before .before .before))
           (end-here (c .before .before .before .before .before .before .before .before .before .before .before .before .before)) (l .work) (room-here (c .before .before .before .before .before .before .before .before .before .before .before .before .before)) (c .before .before .before .before .before .before .before .before .before .before .before .before .before .nth-row .result) (c .before .before .before .before .before .before .before .before .before .before .before .before .before .nth-row .ensures .0)
           w (weighed-here (c .before .before .before .before .before .before .before .before .before)) (c .before .before .before .before .if1 .taken) chosen (c .before .before .choose .ensures),
-      inside-then (a .args .s .rows) (l .inv .3)
+      outside-then (l .inv .3)
           (turn-stays (a .args .file .now) (a .args .s) (a .args .goal) (a .args .first) (a .args .end) (a .pre .0) (a .pre .3) (l .i - 1) (first-here (c .before .before .before .before .before .before .before .before .before .before .before .before .before))
           (end-here (c .before .before .before .before .before .before .before .before .before .before .before .before .before)) (l .work) (room-here (c .before .before .before .before .before .before .before .before .before .before .before .before .before)) (c .before .before .before .before .before .before .before .before .before .before .before .before .before .nth-row .result) (c .before .before .before .before .before .before .before .before .before .before .before .before .before .nth-row .ensures .0)
           w (weighed-here (c .before .before .before .before .before .before .before .before .before)) (c .before .before .before .before .if1 .taken) chosen (c .before .before .choose .ensures)),
@@ -119,7 +120,7 @@ loop-again-2 c =
       turn-unchosen (a .args .file .now) (a .args .s) (a .args .goal) (a .args .first) (a .args .end) (a .pre .0) (a .pre .3) (l .i - 1) (first-here (c .before .before .before .before .before .before .before .before .before))
           (end-here (c .before .before .before .before .before .before .before .before .before)) (l .work) (room-here (c .before .before .before .before .before .before .before .before .before)) (c .before .before .before .before .before .before .before .before .before .nth-row .result) (c .before .before .before .before .before .before .before .before .before .nth-row .ensures .0)
           w (weighed-here (c .before .before .before .before .before)) (c .if1 .left),
-      inside-then (a .args .s .rows) (l .inv .3) (weighed-here (c .before .before .before .before .before) .stays),
+      outside-then (l .inv .3) (weighed-here (c .before .before .before .before .before) .stays),
     )
 
 same-length : tie.Need-same-length Inv-loop μ-loop

@@ -89,7 +89,7 @@ loop-again c =
     (sym (c .cell .ensures)) more
 
 same-length : tie.Need-same-length Inv-loop μ-loop
-same-length c = c .before .loop .inv .summed .same-length
+same-length c = c .before .loop .inv .summed .outside .same-length
 
 returns : tie.Need-returns Inv-loop μ-loop
 returns c =

@@ -67,7 +67,7 @@ slice-write-tables-2 : tie.Need-slice-write-tables-2
 slice-write-tables-2 c =
     let r = c .before .before .before .before in
     let k = r .before .before .before .before .before .args .k in
-    omega (arith, r .read-shares .ensures .1 .same-length, length-set (r .read-shares .last .1 .1 .1 .1 .0) (256 * k + 0) (c .before .cell .result))
+    omega (arith, r .read-shares .ensures .1 .outside .same-length, length-set (r .read-shares .last .1 .1 .1 .1 .0) (256 * k + 0) (c .before .cell .result))
 
 add-result : tie.Need-add-result
 unfolding blockEnd

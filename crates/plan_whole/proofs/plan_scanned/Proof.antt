@@ -1,9 +1,10 @@
 -- `plan_whole::plan_scanned` meets its contract: the top of the source's stack begins the plan. Assumes nothing.
 use Prim.Native.Nat.{_+_, _-_, _*_, _%_, _<_, _≤_}
-use mathlib.Core.Path.{_≡_, refl, sym, ap, ap₂, subst, _∙_}
+use mathlib.Core.Path.{_≡_, sym, ap, ap₂, subst, _∙_}
 use native.Mathlib.Omega.{arith}
 use lib.ListN.{getD}
-use Rattle.plan_cells.specs.Cells.{used, stackSize}
+use Rattle.plan_cells.specs.Cells.{trips, used, stackSize}
+use Rattle.plan_cells.proofs.Outside.{outside-same}
 use Rattle.plan_scan.specs.Scanned.{scanIn}
 use Rattle.plan_extract.specs.Extracted.{FirstRide}
 use Rattle.plan_whole.specs.Steps.{planIn}
@@ -107,7 +108,7 @@ returns c =
     ∙ (let z : c .before .before .number .result ≡ 0 = omega arith in z) in (
       no-plan-answers (planIn (a .args .file .now) (a .args .s) (a .args .q) (a .args .goal .bound)) (c .no-plan .result) (a .args .plan .now)
           (told a .0 none-here) (c .no-plan .ensures),
-      record { same-length = refl; kept = refl },
+      outside-same trips (used (a .args .s .rows)) (a .args .work .now),
     )
 
 add-number-2 : tie.Need-add-number-2
@@ -195,7 +196,7 @@ returns-2 c =
       plan-answers (planIn (a .args .file .now) (a .args .s) (a .args .q) (a .args .goal .bound)) _ _ _ _ _ (a .args .plan .now) _ (t .is-plan)
           (c .before .cell .ensures ∙ made .1) (ap (λ n. getD (a .args .work .now) (n + 1) 0) (same-top (topped (given-back c))) ∙ t .worth) (made .2)
           (c .cell2 .ensures) (made .0),
-      record { same-length = w .ensures .1; kept = w .ensures .2 },
+      w .ensures .1,
     )
 
 pub plan-scanned-spec : {M : Type 1} → statement M

@@ -42,7 +42,7 @@ plan-scanned-requires c κs =
     let scanned = c .before .before .before .before .scan-back in (
       a .pre .0,
       looked-at (c .before .before .before .before .before .before),
-      (let z : used (a .args .s .rows) ≤ length (scanned .last .1 .1 .1 .1 .1 .1 .0) = omega (arith, a .pre .3, scanned .ensures .1) in z),
+      (let z : used (a .args .s .rows) ≤ length (scanned .last .1 .1 .1 .1 .1 .1 .0) = omega (arith, a .pre .3, scanned .ensures .1 .same-length) in z),
       a .pre .4,
       scanned .ensures .0,
     )
@@ -60,7 +60,7 @@ returns c =
     let p = c .before .before .before .before .plan-scanned in (
       p .ensures .0,
       kept-both (used (a .args .s .rows)) (a .args .work .now) (scanned .last .1 .1 .1 .1 .1 .1 .0) (p .last .1 .1 .1 .1 .1 .1 .1 .0)
-          (record { same-length = scanned .ensures .1; kept = scanned .ensures .2 }) (p .ensures .1),
+          (scanned .ensures .1) (p .ensures .1),
     )
 
 pub plan-within-spec : {M : Type 1} → statement M
