@@ -1,8 +1,8 @@
--- The work slice's regions, and the stack of chosen rows that a stop has in it.
-use Prim.Native.Nat.{ℕ, zero, suc, _+_, _*_}
-use mathlib.Core.List.{List, [], _∷_, _++_}
+-- The work slice's regions, its pairs of cells, and cells that are filled.
+use Prim.Native.Nat.{ℕ, _+_, _*_}
+use mathlib.Core.List.{List, _++_}
 use mathlib.Core.Option.{Option, none, some}
-use lib.ListN.{getD, take, drop, replicate}
+use lib.ListN.{take, drop, set, replicate}
 
 -- the first cell of each region: a trip's cell or a row's mark; where a stop's stack starts; its size; pairs of cells
 abbrev pub trips : ℕ
@@ -30,31 +30,13 @@ abbrev pub cellOf : Option ℕ → ℕ
 cellOf none = missing
 cellOf (some x) = x
 
--- an entry of a stack: 2,048 × departure + row, then the row's worth
-pub record Entry : Type 0 where
-  pub key : ℕ
-  pub worth : ℕ
+-- the first cell of pair i
+abbrev pub pairCell : ℕ → ℕ
+pairCell i = pairs + 2 * i
 
-abbrev pub keyOf : (departure row : ℕ) → ℕ
-keyOf departure row = 2048 * departure + row
-
-abbrev pub entryAt : List ℕ → ℕ → Entry
-entryAt work at = record { key = getD work at 0; worth = getD work (at + 1) 0 }
-
--- `size` entries from cell `at` on, the last one first: the latest departure stands at the bottom
-unfoldable pub stackAt : List ℕ → ℕ → ℕ → List Entry
-stackAt work at zero = []
-stackAt work at (suc size) = entryAt work (at + 2 * size) ∷ stackAt work at size
-
--- where a stop's stack starts, and its entries
-abbrev pub stackStart : List ℕ → ℕ → ℕ
-stackStart work stop = pairs + 2 * getD work (stops + stop) 0
-
-abbrev pub stackSize : List ℕ → ℕ → ℕ
-stackSize work stop = getD work (sizes + stop) 0
-
-abbrev pub stackOf : List ℕ → ℕ → List Entry
-stackOf work stop = stackAt work (stackStart work stop) (stackSize work stop)
+-- a pair of cells: a row's worth and leaving row, or an entry's key and worth
+abbrev pub paired : List ℕ → (pair front behind : ℕ) → List ℕ
+paired w pair front behind = set (set w (pairCell pair) front) (pairCell pair + 1) behind
 
 -- `count` cells from `at` on become `value`
 abbrev pub filled : List ℕ → (at count value : ℕ) → List ℕ

@@ -1,3 +1,3 @@
--- The work slice: its regions, and what a stop's stack of chosen rows holds.
+-- The work slice: its regions, its pairs of cells, and what a step leaves alone in it.
 pub mod Cells
 pub mod Outside

@@ -4,7 +4,6 @@ ghost use mathlib.Core.Logic.{_≢_};
 ghost use Prim.Native.Nat.{ℕ, _+_, _≤_, _<_};
 ghost use lib.ListN.{length};
 ghost use Rattle.plans.specs.Plan.{earliest};
-ghost use Rattle.query.specs.declared.Query.{Query};
 ghost use Rattle.plan_cells.specs.Cells.{trips, pairs, cellOf};
 ghost use Rattle.plan_cells.specs.Outside.{SameOutside};
 ghost use Rattle.plan_rows.specs.Reading.{rowsIn, tablesIn, timetableIn, Stand, Cut, TablesHeld};

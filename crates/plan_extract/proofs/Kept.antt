@@ -1,16 +1,15 @@
 -- Marks change nothing of what the scan left in the cells behind them. Assumes nothing.
-use Prim.Native.Nat.{ℕ, zero, suc, _+_, _-_, _*_, _≤_}
-use mathlib.Core.List.{List, _∷_}
+use Prim.Native.Nat.{ℕ, suc, _+_, _-_, _*_, _≤_}
+use mathlib.Core.List.{List}
 use mathlib.Core.Option.{Option, none, some}
-use mathlib.Core.Path.{_≡_, refl, sym, ap, ap₂, subst, _∙_}
+use mathlib.Core.Path.{_≡_, sym, ap, ap₂, subst, _∙_}
 use native.Mathlib.Omega.{arith}
-use lib.ListN.{length, getD, drop, length-drop}
-use lib.Seq.{ext-getD, getD-drop}
 use Rattle.plans.specs.Worth.{Valued}
 use Rattle.plans.specs.Chosen.{Scan}
-use Rattle.plan_cells.specs.Cells.{trips, stops, stackAt, stackStart, stackSize, pairs, used}
+use Rattle.plan_cells.specs.Cells.{trips, stops, pairs, used}
+use Rattle.plan_stacks.specs.Stacks.{stackAt, stackStart, stackSize}
 use Rattle.plan_cells.specs.Outside.{SameOutside}
-use Rattle.plan_scan.proofs.Paired.{stack-same}
+use Rattle.plan_stacks.proofs.Entries.{stack-same}
 use Rattle.plan_scan.specs.Scanned.{ScanHeld, PairHolds, bestIn}
 
 module _ {old new : List ℕ} (k : SameOutside trips stops old new) where

@@ -3,7 +3,6 @@ pub mod Passing
 pub mod Going
 pub mod Timed
 pub mod Kept
-pub mod Stacked
 pub mod Windows
 pub mod Wanting
 pub mod Writing

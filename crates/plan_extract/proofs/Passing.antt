@@ -1,30 +1,29 @@
 -- Down a stop's stack, entry by entry: each entry that is caught is marked, and nothing else. Assumes nothing.
 use Prim.Native.Nat.{ℕ, zero, suc, _+_, _-_, _*_, _/_, _%_, _≤_, _<_}
 use mathlib.Core.List.{List}
-use mathlib.Core.Logic.{_⊎_, inl, inr, ⊎-elim, _≢_}
+use mathlib.Core.Logic.{_⊎_, inl, inr, ⊎-elim}
 use mathlib.Core.Path.{_≡_, refl, sym, ap, subst, _∙_}
 use native.Mathlib.Nat.{eq-or-lt-of-le}
 use native.Mathlib.Omega.{arith}
 use mathlib.Core.Bool.{Bool, true, false, not}
-use borrow.Author.Tests.{eqb-true, eqb-false, leb-true, leb-false, not-true, not-false}
-use lib.Dec.{eqb, leb}
+use borrow.Author.Tests.{leb-true, leb-false, not-true, not-false}
+use lib.Dec.{leb}
 use lib.ListN.{length, getD, set, length-set}
-use lib.Seq.{getD-set-same, getD-set-other}
 use Rattle.laws.proofs.Tests.{ifb}
-use Rattle.plan_cells.specs.Cells.{trips, stops, stackStart, stackSize}
+use Rattle.plan_cells.specs.Cells.{trips, stops}
+use Rattle.plan_stacks.specs.Stacks.{keyStep, stackStart, stackSize, entryDeparture, Falling, FirstOpenAt, entryRow}
 use Rattle.plan_cells.specs.Outside.{SameOutside}
 use Rattle.plan_cells.proofs.Outside.{set-cell}
-use Rattle.plan_landing.specs.Landing.{departureAt, Falling, FirstOpenAt}
-use Rattle.plan_extract.specs.Marks.{entryRow, Caught, Catching, Passed, AllPassed}
+use Rattle.plan_extract.specs.Marks.{Caught, Catching, Passed, AllPassed}
 
 -- what the test of an entry's departure says
-pub missed : (landing key departure : ℕ) (opened : Bool) → opened ≡ leb landing departure → departure ≡ key / 2048 → not opened ≡ true
-    → key / 2048 < landing
+pub missed : (landing key departure : ℕ) (opened : Bool) → opened ≡ leb landing departure → departure ≡ key / keyStep → not opened ≡ true
+    → key / keyStep < landing
 missed landing key departure opened test departs shut =
     subst (λ k. k < landing) departs (leb-false landing departure (sym test ∙ not-true opened shut))
 
-pub reached : (landing key departure : ℕ) (opened : Bool) → opened ≡ leb landing departure → departure ≡ key / 2048 → not opened ≡ false
-    → landing ≤ key / 2048
+pub reached : (landing key departure : ℕ) (opened : Bool) → opened ≡ leb landing departure → departure ≡ key / keyStep → not opened ≡ false
+    → landing ≤ key / keyStep
 reached landing key departure opened test departs shut =
     subst (λ k. landing ≤ k) departs (leb-true landing departure (sym test ∙ not-false opened shut))
 
@@ -97,27 +96,27 @@ module _ (work : List ℕ) (land arrival landing : ℕ) (c : Catching work land 
       }
 
   module _ {new : List ℕ} {entry key : ℕ} (d : Down work new start size arrival landing entry key) where
-    row-is : key % 2048 ≡ entryRow work start (d .place)
-    row-is = ap (λ k. k % 2048) (d .key-is)
+    row-is : key % keyStep ≡ entryRow work start (d .place)
+    row-is = ap (λ k. k % keyStep) (d .key-is)
 
-    down-marked : (at : ℕ) → at ≡ key % 2048 → Passed work (set new at 1) start size arrival landing (d .place)
+    down-marked : (at : ℕ) → at ≡ key % keyStep → Passed work (set new at 1) start size arrival landing (d .place)
     down-marked at here =
         subst (λ k. Passed work (set new k 1) start size arrival landing (d .place)) (sym (here ∙ row-is))
         (let row = c .rows (d .place) (d .caught .inside) in
         passed-on (d .passed) (d .caught) (let z : entryRow work start (d .place) < length work = omega (arith, c .cells) in z))
 
-    departs-is : key / 2048 ≡ departureAt work start (d .place)
-    departs-is = ap (λ k. k / 2048) (d .key-is)
+    departs-is : key / keyStep ≡ entryDeparture work start (d .place)
+    departs-is = ap (λ k. k / keyStep) (d .key-is)
 
     -- an entry that departs too early is not the last
-    not-last : key / 2048 < landing → 1 ≤ d .place
+    not-last : key / keyStep < landing → 1 ≤ d .place
     not-last early = go (d .place) departs-is
       where
-        go : (p : ℕ) → key / 2048 ≡ departureAt work start p → 1 ≤ p
+        go : (p : ℕ) → key / keyStep ≡ entryDeparture work start p → 1 ≤ p
         go zero e = absurd (let z : ⊥ = omega (arith, c .safe) in z)
         go (suc p) e = omega arith
 
-    pub down-on : (at : ℕ) → at ≡ key % 2048 → key / 2048 < landing
+    pub down-on : (at : ℕ) → at ≡ key % keyStep → key / keyStep < landing
         → Down work (set new at 1) start size arrival landing (entry - 2) (getD (set new at 1) (entry - 2) 0)
     down-on at here early =
         let marked : Passed work (set new at 1) start size arrival landing (d .place) = down-marked at here in
@@ -132,18 +131,18 @@ module _ (work : List ℕ) (land arrival landing : ℕ) (c : Catching work land 
               record {
                 inside = (let z : d .place - 1 < size = omega (arith, d .caught .inside) in z);
                 opens =
-                    (let falls : departureAt work start (d .place) < departureAt work start (d .place - 1) =
+                    (let falls : entryDeparture work start (d .place) < entryDeparture work start (d .place - 1) =
                     c .falling .falls (d .place - 1) (d .place) (omega arith) (d .caught .inside) in
                     omega (arith, d .caught .opens));
                 needed =
                     λ k above h.
-                    ⊎-elim (λ same. omega (arith, ap (departureAt work start) (sym next ∙ same), departs-is))
+                    ⊎-elim (λ same. omega (arith, ap (entryDeparture work start) (sym next ∙ same), departs-is))
                     (λ higher. d .caught .needed k (let z : d .place < k = omega arith in z) h) (eq-or-lt-of-le above);
               };
           passed = subst (λ p. Passed work (set new at 1) start size arrival landing p) (sym next) marked;
         }
 
-    pub down-last : (at : ℕ) → at ≡ key % 2048 → landing ≤ key / 2048 → AllPassed work (set new at 1) land arrival landing
+    pub down-last : (at : ℕ) → at ≡ key % keyStep → landing ≤ key / keyStep → AllPassed work (set new at 1) land arrival landing
     down-last at here opened =
         let marked : Passed work (set new at 1) start size arrival landing (d .place) = down-marked at here in
         record {

@@ -19,12 +19,12 @@ use Rattle.plans.specs.Plan.{Window, inWindow, wanted, windowsOf}
 use Rattle.plans.proofs.Open.{boards-stop, boards-minute, can-board, found-member, found-boards}
 use Rattle.plans.proofs.Order.{Before, Ordered, members-apart, first-before}
 use Rattle.plans.proofs.OwnWorth.{Moves}
-use Rattle.plan_cells.specs.Cells.{stackStart, stackSize}
-use Rattle.plan_landing.specs.Landing.{StackHolds, Climbing, departureAt}
-use Rattle.plan_extract.specs.Marks.{entryRow, Caught, Catching, AllPassed}
+use Rattle.plan_stacks.specs.Stacks.{stackStart, stackSize, entryDeparture, entryRow}
+use Rattle.plan_stacks.specs.Chosen.{StackHolds, Climbing}
+use Rattle.plan_extract.specs.Marks.{Caught, Catching, AllPassed}
 use Rattle.plan_extract.proofs.Windows.{window, window-boards, window-until, in-window, one-more}
 use Rattle.laws.proofs.Options.{same-thing}
-use Rattle.plan_extract.proofs.Stacked.{Stands, entry-ride, ride-entry, falls}
+use Rattle.plan_stacks.proofs.Stacked.{Stands, entry-ride, ride-entry, falls}
 
 -- of n rows, those marked are the chosen rows whose rides the windows want
 pub record Marking (work : List ℕ) (n : ℕ) (chosen : List Valued) (ws : List Window) : Type 0 where
@@ -83,16 +83,16 @@ module _ {chosen behind : List Valued} {v safe : Valued} (l : Lands chosen behin
     abbrev size : ℕ
     size = stackSize work (v .ride .to)
 
-    fall : (k q : ℕ) → k < q → q < size → departureAt work start q < departureAt work start k
+    fall : (k q : ℕ) → k < q → q < size → entryDeparture work start q < entryDeparture work start k
     fall = falls work (v .ride .to) chosen holds climbing v
 
     safe-place : (place : ℕ) × Stands work (v .ride .to) chosen place safe
     safe-place = ride-entry work (v .ride .to) chosen holds climbing safe safe-member safe-from
 
     -- an entry from the safe one up departs no later
-    no-later : (k : ℕ) → safe-place .0 ≤ k → k < size → departureAt work start k ≤ safe .ride .departs
+    no-later : (k : ℕ) → safe-place .0 ≤ k → k < size → entryDeparture work start k ≤ safe .ride .departs
     no-later k above below =
-        ⊎-elim (λ same. omega (arith, ap (departureAt work start) same, safe-place .1 .departs))
+        ⊎-elim (λ same. omega (arith, ap (entryDeparture work start) same, safe-place .1 .departs))
         (λ higher. omega (arith, fall (safe-place .0) k higher below, safe-place .1 .departs)) (eq-or-lt-of-le above)
 
     -- an entry caught is not below the safe one
@@ -122,7 +122,7 @@ module _ {chosen behind : List Valued} {v safe : Valued} (l : Lands chosen behin
           found .0,
           record {
             inside = found .1 .inside;
-            opens = (let z : v .ride .arrives ≤ departureAt work start (found .0) = omega (arith, found .1 .departs) in z);
+            opens = (let z : v .ride .arrives ≤ entryDeparture work start (found .0) = omega (arith, found .1 .departs) in z);
             needed =
                 λ q above below.
                 lt-of-not-le (λ open'.
@@ -135,9 +135,9 @@ module _ {chosen behind : List Valued} {v safe : Valued} (l : Lands chosen behin
         )
 
     -- no entry departs after the bottom one
-    bottom-last : (k : ℕ) → k < size → departureAt work start k ≤ departureAt work start 0
+    bottom-last : (k : ℕ) → k < size → entryDeparture work start k ≤ entryDeparture work start 0
     bottom-last k below =
-        ⊎-elim (λ same. omega (arith, ap (departureAt work start) same)) (λ above. omega (arith, fall 0 k above below))
+        ⊎-elim (λ same. omega (arith, ap (entryDeparture work start) same)) (λ above. omega (arith, fall 0 k above below))
         (eq-or-lt-of-le (let z : 0 ≤ k = omega arith in z))
 
     -- the stack of the landing stop, as catching asks for it
@@ -145,7 +145,7 @@ module _ {chosen behind : List Valued} {v safe : Valued} (l : Lands chosen behin
         → ((u : Valued) → List·Memᴰ u chosen → u .ride .board < n) → Catching work (v .ride .to) (v .ride .arrives) (latest (v .ride))
     catching n stop cells room few rows =
         let lowest = bottom-last (safe-place .0) (safe-place .1 .inside) in
-        let last : latest (v .ride) ≤ departureAt work start 0 = omega (arith, safe-place .1 .departs, safe-late) in
+        let last : latest (v .ride) ≤ entryDeparture work start 0 = omega (arith, safe-place .1 .departs, safe-late) in
         record {
           stop = stop;
           cells = cells;
@@ -154,7 +154,7 @@ module _ {chosen behind : List Valued} {v safe : Valued} (l : Lands chosen behin
                 some-entry = (let z : 0 < size = omega (arith, safe-place .1 .inside) in z);
                 inside = room;
                 falls = fall;
-                bottom = (let z : v .ride .arrives ≤ departureAt work start 0 = omega arith in z);
+                bottom = (let z : v .ride .arrives ≤ entryDeparture work start 0 = omega arith in z);
               };
           rows =
               λ k h. let found = entry-ride work (v .ride .to) chosen holds climbing v k h in

@@ -16,7 +16,7 @@ use Rattle.plans.proofs.Extracted.{up-to-wants}
 use Rattle.plans.proofs.Open.{boards-stop, found-member, found-boards}
 use Rattle.plans.proofs.Order.{Ordered, members-apart, first-before}
 use Rattle.plans.proofs.OwnWorth.{OwnWorth}
-use Rattle.plan_landing.specs.Landing.{StackHolds, Climbing}
+use Rattle.plan_stacks.specs.Chosen.{StackHolds, Climbing}
 use Rattle.plan_slice.specs.Slice.{written, withRide}
 use Rattle.plan_slice.proofs.Written.{length-over, length-more, over-none, over-more}
 use Rattle.plan_extract.specs.Extracted.{FirstRide, ridesOf}

@@ -1,21 +1,16 @@
 -- Which rows are wanted, as the lent cells mark them: a row's mark is 1 once a ride of the plan may be changed to its ride.
-use Prim.Native.Nat.{ℕ, _+_, _*_, _%_, _≤_, _<_}
+use Prim.Native.Nat.{ℕ, _≤_, _<_}
 use mathlib.Core.List.{List}
 use mathlib.Core.Logic.{_⊎_}
 use mathlib.Core.Path.{_≡_}
 use lib.ListN.{length, getD}
-use Rattle.plan_cells.specs.Cells.{stackStart, stackSize}
-use Rattle.plan_landing.specs.Landing.{departureAt, Falling}
-
--- the row of a stack's entry, by its place from the bottom
-abbrev pub entryRow : List ℕ → (start place : ℕ) → ℕ
-entryRow work start place = getD work (start + 2 * place) 0 % 2048
+use Rattle.plan_stacks.specs.Stacks.{stackStart, stackSize, entryDeparture, entryRow, Falling}
 
 -- an entry from `arrival` on, up to and including the first at or after `landing`: all that depart before it do so before `landing`
 pub record Caught (work : List ℕ) (start size arrival landing place : ℕ) : Type 0 where
   pub inside : place < size
-  pub opens : arrival ≤ departureAt work start place
-  pub needed : (k : ℕ) → place < k → k < size → departureAt work start k < landing
+  pub opens : arrival ≤ entryDeparture work start place
+  pub needed : (k : ℕ) → place < k → k < size → entryDeparture work start k < landing
 
 -- the stack of a landing stop, whose last entry departs at or after `landing`
 pub record Catching (work : List ℕ) (land arrival landing : ℕ) : Type 0 where
@@ -24,7 +19,7 @@ pub record Catching (work : List ℕ) (land arrival landing : ℕ) : Type 0 wher
   pub falling : Falling work (stackStart work land) (stackSize work land) arrival
   pub rows : (k : ℕ) → k < stackSize work land → entryRow work (stackStart work land) k < 2000
   pub late : arrival ≤ landing
-  pub safe : landing ≤ departureAt work (stackStart work land) 0
+  pub safe : landing ≤ entryDeparture work (stackStart work land) 0
 
 -- the entries caught from place `place` up are marked, and nothing else is changed
 pub record Passed (old new : List ℕ) (start size arrival landing place : ℕ) : Type 0 where

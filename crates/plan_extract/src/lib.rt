@@ -1,6 +1,6 @@
 // Document 01, "Expected arrival in ticks": the plan, by one pass forward over the wanted rows.
 ghost use mathlib.Core.Path.{_≡_};
-ghost use Prim.Native.Nat.{ℕ, _+_, _*_, _≤_, _<_, max};
+ghost use Prim.Native.Nat.{_+_, _*_, _≤_, _<_, max};
 ghost use lib.ListN.{length, getD};
 ghost use Rattle.plans.specs.Plan.{latestOf};
 ghost use Rattle.plan_cells.specs.Cells.{trips, used, pairs};
@@ -14,19 +14,18 @@ ghost use Rattle.plan_extract.specs.Marks.{Catching, AllPassed, HeadAlon
 use numbers::cell;
 use numbers::number;
 use plan_cells::PAIRS;
-use plan_cells::SIZES;
-use plan_cells::STOPS;
 use plan_cells::TRIPS;
 use plan_cells::fill;
-use plan_landing::departure_of;
-use plan_landing::first_open;
-use plan_landing::row_of;
 use plan_rows::BLOCK;
 use plan_rows::LONGEST;
 use plan_rows::Sailings;
 use plan_rows::nth_row;
 use plan_rows::opens;
 use plan_slice::write_ride;
+use plan_stacks::departure_of;
+use plan_stacks::first_open;
+use plan_stacks::row_of;
+use plan_stacks::stack_of;
 use plans::Goal;
 
 // How many rides a plan has, and the largest a + M of them.
@@ -133,9 +132,8 @@ fn want(land: usize, arrival: usize, landing: usize, work: &mut [u32])
     requires { ⌜ Catching (now work) land arrival landing ⌝ }
     ensures { λ r. ⌜ AllPassed (now (work .entry)) (now (work .exit)) land arrival landing ⌝ }
 {
-    let size = number(work[SIZES + land]);
-    let start = PAIRS + 2 * number(work[STOPS + land]);
-    let mut entry = first_open(work, start, size, arrival);
+    let stack = stack_of(work, land);
+    let mut entry = first_open(work, stack, arrival);
     let mut key = work[entry];
     while !opens(departure_of(key), landing) {
         work[TRIPS + row_of(key)] = 1;

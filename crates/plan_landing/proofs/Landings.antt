@@ -14,16 +14,18 @@ use Rattle.laws.proofs.Places.{member-at}
 use Rattle.timetable.specs.Classes.{whole}
 use Rattle.timetable.specs.Timetable.{longest}
 use Rattle.timetable.specs.declared.Row.{Row}
-use Rattle.plan_cells.specs.Cells.{cellOf, missing, stackStart, stackSize}
+use Rattle.plan_cells.specs.Cells.{cellOf, missing}
+use Rattle.plan_stacks.specs.Stacks.{stackStart, stackSize, Falling, FirstOpenAt, entryDeparture, entryWorth}
 use Rattle.plans.specs.declared.Goal.{Goal}
 use Rattle.plans.specs.Journeys.{within}
 use Rattle.plans.specs.Worth.{Valued, firstOpen, caught, worthOr, weigh, up, arrivalWorth, changeWorth}
 use Rattle.plans.specs.Chosen.{offInTicks, whenSafe}
-use Rattle.plan_landing.specs.Landing.{Ready, EntryFits, Falling, FirstOpenAt, atStop, departureAt, rideOff}
-use Rattle.plan_landing.specs.Boarding.{Boarding, worthAt}
-use Rattle.plan_landing.proofs.AtStop.{first-open-at-stop, caught-at-stop, at-stop-from, first-open-at, first-open-none, safe-at}
+use Rattle.plan_landing.specs.Landing.{Ready, rideOff}
+use Rattle.plan_stacks.specs.Chosen.{EntryFits, atStop}
+use Rattle.plan_landing.specs.Boarding.{Boarding}
+use Rattle.plan_stacks.proofs.AtStop.{first-open-at-stop, caught-at-stop, at-stop-from, first-open-at, first-open-none, safe-at}
 use Rattle.plan_landing.proofs.Runs.{weigh-bound}
-use Rattle.plan_landing.proofs.Stack.{stack-size, worth-at, departure-at, falls-behind}
+use Rattle.plan_stacks.proofs.Entries.{stack-size, worth-at, departure-at, falls-behind}
 
 -- stands for a ride where there is none
 noRide : Valued
@@ -44,25 +46,25 @@ module _ {row : Row} {tables work shares : List ℕ} {chosen : List Valued} (rea
       (member-at (atStop (row .land) chosen) down noRide (omega (arith, size-is)))
 
   departs : (down place : ℕ) → down + suc place ≡ stackSize work (row .land)
-      → departureAt work (stackStart work (row .land)) place ≡ getD (atStop (row .land) chosen) down noRide .ride .departs
+      → entryDeparture work (stackStart work (row .land)) place ≡ getD (atStop (row .land) chosen) down noRide .ride .departs
   departs down place e =
       departure-at work (stackStart work (row .land)) (stackSize work (row .land)) (atStop (row .land) chosen) (ready .stack-holds) down
       place noRide e (fits down place e)
 
   worths : (down place : ℕ) → down + suc place ≡ stackSize work (row .land)
-      → worthAt work (stackStart work (row .land)) place ≡ getD (atStop (row .land) chosen) down noRide .worth
+      → entryWorth work (stackStart work (row .land)) place ≡ getD (atStop (row .land) chosen) down noRide .worth
   worths down place e =
       worth-at work (stackStart work (row .land)) (stackSize work (row .land)) (atStop (row .land) chosen) (ready .stack-holds) down
       place noRide e
 
   falls : (k l : ℕ) → k < l → l < stackSize work (row .land)
-      → departureAt work (stackStart work (row .land)) l < departureAt work (stackStart work (row .land)) k
+      → entryDeparture work (stackStart work (row .land)) l < entryDeparture work (stackStart work (row .land)) k
   falls k l h below =
       let size = stackSize work (row .land) in
       let rises = ready .climbing .climbs (size - suc l) (size - suc k) noRide (omega arith) (omega (arith, size-is)) in
       omega (arith, departs (size - suc k) k (omega arith), departs (size - suc l) l (omega arith))
 
-  pub falling : (minute : ℕ) → 0 < stackSize work (row .land) → minute ≤ departureAt work (stackStart work (row .land)) 0
+  pub falling : (minute : ℕ) → 0 < stackSize work (row .land) → minute ≤ entryDeparture work (stackStart work (row .land)) 0
       → Falling work (stackStart work (row .land)) (stackSize work (row .land)) minute
   falling minute filled bottom =
       record { some-entry = filled; inside = ready .stack-inside; falls = falls; bottom = bottom }
@@ -74,7 +76,7 @@ module _ {row : Row} {tables work shares : List ℕ} {chosen : List Valued} (rea
       ∙ first-open-none (atStop (row .land) chosen) (row .land) minute noRide (λ k h. absurd (let z : ⊥ = omega (arith, size-is) in z))
 
   -- all rides depart before the minute, since the last one does
-  pub all-gone : (minute : ℕ) → 0 < stackSize work (row .land) → departureAt work (stackStart work (row .land)) 0 < minute
+  pub all-gone : (minute : ℕ) → 0 < stackSize work (row .land) → entryDeparture work (stackStart work (row .land)) 0 < minute
       → firstOpen chosen (row .land) minute ≡ none
   all-gone minute filled gone =
       let size = stackSize work (row .land) in
@@ -87,7 +89,7 @@ module _ {row : Row} {tables work shares : List ℕ} {chosen : List Valued} (rea
       (falls-behind {middle = 0} (falling 0 filled (omega arith)) gone (size - suc k) (omega arith) (omega arith)))
 
   -- the last ride departs at or after the minute
-  pub safe-landing : (minute worth : ℕ) → 0 < stackSize work (row .land) → minute ≤ departureAt work (stackStart work (row .land)) 0
+  pub safe-landing : (minute worth : ℕ) → 0 < stackSize work (row .land) → minute ≤ entryDeparture work (stackStart work (row .land)) 0
       → whenSafe (firstOpen chosen (row .land) minute) worth ≡ some worth
   safe-landing minute worth filled late =
       let size = stackSize work (row .land) in
@@ -100,16 +102,16 @@ module _ {row : Row} {tables work shares : List ℕ} {chosen : List Valued} (rea
   module _ (at : ℕ) (found : FirstOpenAt work (stackStart work (row .land)) (stackSize work (row .land)) (row .arrival) at) where
     -- rides above one have left at a minute from the landing on, if those down to the first one have
     left : (k minute : ℕ) → row .arrival ≤ minute
-        → ((l : ℕ) → k < l → l ≤ found .place → departureAt work (stackStart work (row .land)) l < minute)
-        → (q : ℕ) → k < q → q < stackSize work (row .land) → departureAt work (stackStart work (row .land)) q < minute
+        → ((l : ℕ) → k < l → l ≤ found .place → entryDeparture work (stackStart work (row .land)) l < minute)
+        → (q : ℕ) → k < q → q < stackSize work (row .land) → entryDeparture work (stackStart work (row .land)) q < minute
     left k minute after missed q h below =
-        ifb (λ _. departureAt work (stackStart work (row .land)) q < minute) (leb q (found .place))
+        ifb (λ _. entryDeparture work (stackStart work (row .land)) q < minute) (leb q (found .place))
         (λ yes'. missed q h (leb-true q (found .place) yes'))
         (λ no'. lt-of-lt-of-le (found .missed q (leb-false q (found .place) no') below) after)
 
-    catches : (k minute : ℕ) → k ≤ found .place → row .arrival ≤ minute → minute ≤ departureAt work (stackStart work (row .land)) k
-        → ((l : ℕ) → k < l → l ≤ found .place → departureAt work (stackStart work (row .land)) l < minute)
-        → caught chosen (row .land) minute ≡ worthAt work (stackStart work (row .land)) k
+    catches : (k minute : ℕ) → k ≤ found .place → row .arrival ≤ minute → minute ≤ entryDeparture work (stackStart work (row .land)) k
+        → ((l : ℕ) → k < l → l ≤ found .place → entryDeparture work (stackStart work (row .land)) l < minute)
+        → caught chosen (row .land) minute ≡ entryWorth work (stackStart work (row .land)) k
     unfolding caught worthOr
     catches k minute below after opened missed =
         let size = stackSize work (row .land) in
@@ -125,7 +127,7 @@ module _ {row : Row} {tables work shares : List ℕ} {chosen : List Valued} (rea
         subst (λ m. m < minute) (departs i (size - suc i) there) (left k minute after missed (size - suc i) (omega arith) (omega arith))))
         ∙ sym (worths down k place)
 
-    pub boarding : (landing : ℕ) → landing ≡ row .arrival + longest shares → landing ≤ departureAt work (stackStart work (row .land)) 0
+    pub boarding : (landing : ℕ) → landing ≡ row .arrival + longest shares → landing ≤ entryDeparture work (stackStart work (row .land)) 0
         → Boarding work tables (stackStart work (row .land)) (found .place) (row .arrival) landing (256 * row .class + 2) shares
         (λ minute. caught chosen (row .land) minute)
     boarding landing lands late =
@@ -185,7 +187,7 @@ module _ {row : Row} {tables work shares : List ℕ} {chosen : List Valued} (rea
         ∙ ap (λ o. whenSafe o (changeWorth (rideOff row shares) chosen)) unsafe))
 
     pub off-changing : (row .land ≡ goal .target → ⊥) → 0 < stackSize work (row .land)
-        → landing ≤ departureAt work (stackStart work (row .land)) 0
+        → landing ≤ entryDeparture work (stackStart work (row .land)) 0
         → up whole (weigh shares (row .arrival) (λ minute. caught chosen (row .land) minute))
         ≡ cellOf (offInTicks goal (rideOff row shares) chosen)
     unfolding changeWorth

@@ -1,7 +1,4 @@
 -- Laws of a stop's chosen rides, of its stack and the search in it, and of sums over delays.
-pub mod AtStop
-pub mod Stack
-pub mod Search
 pub mod Runs
 pub mod Turns
 pub mod Landings

@@ -10,7 +10,7 @@ use lib.ListN.{length, getD, take, drop}
 use Rattle.laws.proofs.Tests.{ifb}
 use Rattle.timetable.specs.Classes.{sum}
 use Rattle.plans.specs.Worth.{weigh}
-use Rattle.plan_landing.specs.Landing.{departureAt}
+use Rattle.plan_stacks.specs.Stacks.{keyStep, entryDeparture}
 use Rattle.plan_landing.specs.Boarding.{Boarding}
 use Rattle.plan_landing.proofs.Runs.{longest-on, sum-rest, sum-take-grows, weigh-on, weigh-end}
 
@@ -20,10 +20,10 @@ pub record Turn (work : List ℕ) (start first arrival : ℕ) (shares : List ℕ
   pub passed : ℕ
   pub below : place ≤ first
   pub stands : entry ≡ start + 2 * place
-  pub departs : departure ≡ departureAt work start place
+  pub departs : departure ≡ entryDeparture work start place
   pub few : passed ≤ length shares
   pub counted : done ≡ sum (take passed shares)
-  pub missed : (l : ℕ) → place < l → l ≤ first → departureAt work start l < arrival + passed
+  pub missed : (l : ℕ) → place < l → l ≤ first → entryDeparture work start l < arrival + passed
   pub onward : arrival + passed ≤ departure
   pub so-far : weigh shares arrival caught ≡ total + weigh (drop passed shares) (arrival + passed) caught
   pub small : total ≤ done * 16777216
@@ -45,7 +45,7 @@ pub record MoreRoom (tables : List ℕ) (arrival cell entry departure done : ℕ
 
 module _ {work tables : List ℕ} {start first arrival landing cell : ℕ} {shares : List ℕ} {caught : ℕ → ℕ}
     (b : Boarding work tables start first arrival landing cell shares caught) where
-  pub begins : (at departure : ℕ) → at ≡ start + 2 * first → departure ≡ departureAt work start first
+  pub begins : (at departure : ℕ) → at ≡ start + 2 * first → departure ≡ entryDeparture work start first
       → Turn work start first arrival shares caught at departure 0 0
   unfolding sum
   begins at departure stands departs =
@@ -77,7 +77,7 @@ module _ {work tables : List ℕ} {start first arrival landing cell : ℕ} {shar
         ifb (λ _. 1 ≤ t .place) (ltb 0 (t .place)) (λ some. ltb-true 0 (t .place) some)
         (λ none.
         let bottom : t .place ≡ 0 = omega (arith, ltb-false 0 (t .place) none) in
-        let departs : departure ≡ departureAt work start 0 = t .departs ∙ ap (departureAt work start) bottom in
+        let departs : departure ≡ entryDeparture work start 0 = t .departs ∙ ap (entryDeparture work start) bottom in
         absurd (let z : ⊥ = omega (arith, b .safe) in z))
 
     pub room : Room work arrival entry departure done total
@@ -107,14 +107,14 @@ module _ {work tables : List ℕ} {start first arrival landing cell : ℕ} {shar
         ∙ ap (λ e. getD work (e + 1) 0) (sym (t .stands))
 
     pub turns : (share next : ℕ) → departure < landing → share ≡ getD tables (cell + (departure - arrival)) 0
-        → next ≡ getD work (entry - 2) 0 / 2048
+        → next ≡ getD work (entry - 2) 0 / keyStep
         → Turn work start first arrival shares caught (entry - 2) next share (total + (share - done) * getD work (entry + 1) 0)
     turns share next early held departs =
         let upto = suc (departure - arrival) in
         let lower = lower-place early in
         let place : entry - 2 ≡ start + 2 * (t .place - 1) = omega (arith, t .stands) in
         let worth = getD work (entry + 1) 0 in
-        let departs-there : next ≡ departureAt work start (t .place - 1) = departs ∙ ap (λ e. getD work e 0 / 2048) place in
+        let departs-there : next ≡ entryDeparture work start (t .place - 1) = departs ∙ ap (λ e. getD work e 0 / keyStep) place in
         let share-held : share ≡ sum (take upto shares) = held ∙ share-is early in
         let on = weigh-on shares arrival (t .passed) upto worth caught (omega (arith, t .onward)) (omega (arith, delay-inside early))
         (λ v l u. run v l (omega (arith, t .onward)))
@@ -136,13 +136,13 @@ module _ {work tables : List ℕ} {start first arrival landing cell : ℕ} {shar
           small = omega (arith, t .small, more-room early .share-grows, held, mul-le-mul-left (share - done) (room .worth-fits));
         }
       where
-        missed-on : (l : ℕ) → t .place - 1 < l → l ≤ first → departureAt work start l < arrival + suc (departure - arrival)
+        missed-on : (l : ℕ) → t .place - 1 < l → l ≤ first → entryDeparture work start l < arrival + suc (departure - arrival)
         missed-on l h k =
-            ifb (λ _. departureAt work start l < arrival + suc (departure - arrival)) (ltb (t .place) l)
+            ifb (λ _. entryDeparture work start l < arrival + suc (departure - arrival)) (ltb (t .place) l)
             (λ above. omega (arith, t .missed l (ltb-true (t .place) l above) k, t .onward))
             (λ same.
             let here : t .place ≡ l = omega (arith, ltb-false (t .place) l same) in
-            subst (λ p. departureAt work start p < arrival + suc (departure - arrival)) here (omega (arith, t .departs, t .onward)))
+            subst (λ p. entryDeparture work start p < arrival + suc (departure - arrival)) here (omega (arith, t .departs, t .onward)))
 
     -- the last one catches all delays that are left
     pub ends : landing ≤ departure → weigh shares arrival caught ≡ total + (4096 - done) * getD work (entry + 1) 0

@@ -6,11 +6,7 @@ use lib.ListN.{length, getD, take}
 use Rattle.timetable.specs.Timetable.{longest}
 use Rattle.timetable.specs.Classes.{sum}
 use Rattle.plan_rows.specs.Reading.{SharesFit}
-use Rattle.plan_landing.specs.Landing.{departureAt}
-
--- the worth of a stack's entry, by its place from the bottom
-abbrev pub worthAt : List ℕ → (start place : ℕ) → ℕ
-worthAt work start place = getD work (start + 2 * place + 1) 0
+use Rattle.plan_stacks.specs.Stacks.{entryDeparture, entryWorth}
 
 -- entries from place `first` down to the bottom, met by one who arrives at minute `arrival` with these shares of delays; `caught` is the worth of
 -- the ride caught at a minute
@@ -20,13 +16,13 @@ pub record Boarding (work tables : List ℕ) (start first arrival landing cell :
   pub held : (v : ℕ) → v < length shares → getD tables (cell + v) 0 ≡ sum (take (suc v) shares)
   pub shares-fit : SharesFit shares
   pub lands : landing ≡ arrival + longest shares
-  pub falls : (k l : ℕ) → k < l → l ≤ first → departureAt work start l < departureAt work start k
-  pub opens : arrival ≤ departureAt work start first
-  pub safe : landing ≤ departureAt work start 0
-  pub worth-fits : (k : ℕ) → k ≤ first → worthAt work start k ≤ 16777216
+  pub falls : (k l : ℕ) → k < l → l ≤ first → entryDeparture work start l < entryDeparture work start k
+  pub opens : arrival ≤ entryDeparture work start first
+  pub safe : landing ≤ entryDeparture work start 0
+  pub worth-fits : (k : ℕ) → k ≤ first → entryWorth work start k ≤ 16777216
   pub catches :
-      (k minute : ℕ) → k ≤ first → arrival ≤ minute → minute ≤ departureAt work start k
-      → ((l : ℕ) → k < l → l ≤ first → departureAt work start l < minute) → caught minute ≡ worthAt work start k
+      (k minute : ℕ) → k ≤ first → arrival ≤ minute → minute ≤ entryDeparture work start k
+      → ((l : ℕ) → k < l → l ≤ first → entryDeparture work start l < minute) → caught minute ≡ entryWorth work start k
 
 -- some stack, shares and worths stand there
 pub record SomeBoarding (work tables : List ℕ) (at arrival landing cell : ℕ) : Type 0 where

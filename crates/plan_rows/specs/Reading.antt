@@ -1,6 +1,6 @@
 -- What planning asks of a file's bytes, and what the lent cells hold of its delay tables.
 use Prim.Native.Nat.{ℕ, suc, _+_, _*_, _≤_, _<_}
-use mathlib.Core.List.{List, []}
+use mathlib.Core.List.{List}
 use mathlib.Core.Path.{_≡_}
 use lib.ListN.{length, getD, take}
 use Rattle.timetable.specs.Timetable.{Timetable, sharesOf, longest, rowOf}

@@ -6,12 +6,13 @@ use native.Mathlib.Omega.{arith}
 use lib.ListN.{getD}
 use lib.Seq.{slice, slice-empty, length-slice}
 use Rattle.plans.specs.Chosen.{inTicks, Scan, scan, nextOf}
-use Rattle.plan_cells.specs.Cells.{trips, missing, stackAt, stackStart}
+use Rattle.plan_cells.specs.Cells.{trips, missing, pairCell}
+use Rattle.plan_stacks.specs.Stacks.{stackAt, stackStart, startPair, stackSize}
 use Rattle.plan_rows.specs.declared.Sailings.{Sailings}
 use Rattle.plan_rows.specs.Reading.{rowsIn, tablesIn, Stand}
 use Rattle.plans.specs.declared.Goal.{Goal}
-use Rattle.plan_landing.specs.Landing.{atStop}
-use Rattle.plan_scan.specs.Stores.{pairCell, startOf, sizeOf, worthAt}
+use Rattle.plan_stacks.specs.Chosen.{atStop}
+use Rattle.plan_scan.specs.Stores.{rowWorth}
 use Rattle.plan_scan.specs.Regions.{countAt, below}
 use Rattle.plan_scan.specs.Scanned.{scanIn, ScanHeld}
 use Rattle.plan_scan.specs.Held.{PairsHeld, StackHeld, Held}
@@ -28,9 +29,9 @@ module _ (file : List ℕ) (s : Sailings) (goal : Goal) (first end : ℕ) (stand
 
   -- no row has been weighed: no trip has a next row, the stacks are empty
   pub held-begins :
-      (w : List ℕ) → ((trip : ℕ) → trip < 2000 → getD w (trips + trip) 0 ≡ s .rows) → worthAt w (s .rows) ≡ missing
-      → ((stop : ℕ) → stop < 200 → startOf w stop ≡ suc (s .rows) + below (λ k. countAt k (slice first end (rowsIn file s))) stop)
-      → ((stop : ℕ) → stop < 200 → sizeOf w stop ≡ 0) → Held file s goal first end end w
+      (w : List ℕ) → ((trip : ℕ) → trip < 2000 → getD w (trips + trip) 0 ≡ s .rows) → rowWorth w (s .rows) ≡ missing
+      → ((stop : ℕ) → stop < 200 → startPair w stop ≡ suc (s .rows) + below (λ k. countAt k (slice first end (rowsIn file s))) stop)
+      → ((stop : ℕ) → stop < 200 → stackSize w stop ≡ 0) → Held file s goal first end end w
   unfolding nextOf atStop stackAt
   held-begins w no-next last starts empty =
       record {

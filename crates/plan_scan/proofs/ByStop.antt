@@ -14,8 +14,8 @@ use Rattle.plans.specs.Rides.{Ride}
 use Rattle.plans.specs.Worth.{Valued}
 use Rattle.plans.specs.Chosen.{Aim, firstAt, leads, others, choose}
 use Rattle.plans.proofs.Choice.{Choice, worthless, at-target, behind, added, choice, same-minute}
-use Rattle.plan_landing.specs.Landing.{atStop}
-use Rattle.plan_landing.proofs.AtStop.{at-stop-here, at-stop-elsewhere}
+use Rattle.plan_stacks.specs.Chosen.{atStop}
+use Rattle.plan_stacks.proofs.AtStop.{at-stop-here, at-stop-elsewhere}
 
 -- at the stop or elsewhere
 pub at-head {ℓ} : (P : Type ℓ) (s : ℕ) (v : Valued) (vs : List Valued) → (v .ride .from ≡ s → atStop s (v ∷ vs) ≡ v ∷ atStop s vs → P)

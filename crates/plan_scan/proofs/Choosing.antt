@@ -14,19 +14,19 @@ use Rattle.timetable.specs.declared.Row.{Row}
 use Rattle.plans.specs.Worth.{Valued}
 use Rattle.plans.specs.Chosen.{Aim, choose}
 use Rattle.plans.proofs.Order.{Ordered}
-use Rattle.plan_cells.specs.Cells.{Entry, missing, keyOf, stackAt, stackStart, stackSize}
-use Rattle.plan_landing.specs.Landing.{atStop, entryOf, EntryFits}
-use Rattle.plan_landing.proofs.AtStop.{at-stop-member}
-use Rattle.plan_scan.specs.Stores.{pairCell, startOf, sizeOf, worthAt, Chose, worthless, alone, not-below, replaces, ahead}
+use Rattle.plan_stacks.specs.Stacks.{keyStep, Entry, keyOf, stackAt, stackStart, stackSize, startPair}
+use Rattle.plan_cells.specs.Cells.{missing, pairCell}
+use Rattle.plan_stacks.specs.Chosen.{atStop, entryOf, EntryFits}
+use Rattle.plan_stacks.proofs.AtStop.{at-stop-member}
+use Rattle.plan_scan.specs.Stores.{rowWorth, Chose, worthless, alone, not-below, replaces, ahead}
 use Rattle.plan_scan.specs.Regions.{countAt, below}
 use Rattle.plan_scan.specs.Scanned.{PairHolds}
 use Rattle.plan_scan.specs.Held.{StackHeld}
-use Rattle.plan_scan.proofs.Paired.{entry}
+use Rattle.plan_stacks.proofs.Entries.{entry, stack-kept, stack-none, Top, stack-top}
 use Rattle.plan_scan.proofs.Regions.{count-here, count-more, below-later}
 use Rattle.plan_scan.proofs.ByStop.{at-from, choose-elsewhere, choose-none, own-alone, own-kept, own-replaces, own-ahead}
 use Rattle.plan_scan.proofs.Rising.{at-ordered, departs-later}
 use Rattle.plan_scan.proofs.PairsHeld.{Holds, pair-holds}
-use Rattle.plan_scan.proofs.StackHeld.{stack-kept, stack-none, Top, stack-top}
 use Rattle.plan_scan.proofs.Stored.{stored, stored-start, stored-size, stored-other, stored-stack, stored-own-size, pushed-stored}
 
 -- what is known of a row that has been weighed, and of the rides chosen behind it
@@ -40,10 +40,10 @@ pub record Choosable (row : Row) (i : ℕ) (aim : Aim) (best : Option Valued) (c
   pub fits : (v : Valued) → List·Memᴰ v chosen → EntryFits v
   pub rising : (v : Valued) → List·Memᴰ v chosen → row .departure ≤ v .ride .departs
 
-key-departure : (departs row key : ℕ) → row < 2048 → key ≡ keyOf departs row → key / 2048 ≡ departs
+key-departure : (departs row key : ℕ) → row < keyStep → key ≡ keyOf departs row → key / keyStep ≡ departs
 key-departure departs row key small e =
-    ap (λ x. x / 2048) e ∙ mul-add-div (let z : 0 < 2048 = omega arith in z) departs row
-    ∙ (let none' : row / 2048 ≡ 0 = div-eq-of-lt small in let z : departs + row / 2048 ≡ departs = omega arith in z)
+    ap (λ x. x / keyStep) e ∙ mul-add-div (let z : 0 < keyStep = omega arith in z) departs row
+    ∙ (let none' : row / keyStep ≡ 0 = div-eq-of-lt small in let z : departs + row / keyStep ≡ departs = omega arith in z)
 
 worth-none : (best : Option Valued) (a b : ℕ) → Holds a b best → a ≡ missing → best ≡ none
 worth-none none a b h e = refl
@@ -60,24 +60,24 @@ module _ (row : Row) (i : ℕ) (aim : Aim) (best : Option Valued) (chosen : List
   own = held (row .board) (c .board)
 
   -- an entry no higher than the stack's top lies in the stop's region
-  in-region : (k : ℕ) → k ≤ sizeOf w (row .board)
-      → startOf w (row .board) + k < from + (below (λ s. countAt s all) (row .board) + countAt (row .board) all)
+  in-region : (k : ℕ) → k ≤ stackSize w (row .board)
+      → startPair w (row .board) + k < from + (below (λ s. countAt s all) (row .board) + countAt (row .board) all)
   in-region k h =
       let start = own .start in
       let few = own .room in
       let here = count-here (row .board) row rest refl in
       let more = suffix (row .board) in omega arith
 
-  pub stored-inside : (k : ℕ) → k ≤ sizeOf w (row .board) → pairCell (startOf w (row .board) + k) + 1 < length w
+  pub stored-inside : (k : ℕ) → k ≤ stackSize w (row .board) → pairCell (startPair w (row .board) + k) + 1 < length w
   stored-inside k h =
       let region = in-region k h in
       let ends = below-later (λ s. countAt s all) (row .board) 200 (c .board) in omega arith
 
   -- other stops' regions lie apart
   Beside : (k j : ℕ) → Type 0
-  Beside k j = (j ≡ pairCell (startOf w (row .board) + k) → ⊥) × (j ≡ pairCell (startOf w (row .board) + k) + 1 → ⊥)
+  Beside k j = (j ≡ pairCell (startPair w (row .board) + k) → ⊥) × (j ≡ pairCell (startPair w (row .board) + k) + 1 → ⊥)
 
-  apart : (k : ℕ) → k ≤ sizeOf w (row .board) → (stop : ℕ) → stop < 200 → (row .board ≡ stop → ⊥) → (j : ℕ)
+  apart : (k : ℕ) → k ≤ stackSize w (row .board) → (stop : ℕ) → stop < 200 → (row .board ≡ stop → ⊥) → (j : ℕ)
       → stackStart w stop ≤ j → j < stackStart w stop + 2 * stackSize w stop → Beside k j
   unfolding Beside
   apart k h stop inside ne j low high =
@@ -114,8 +114,8 @@ module _ (row : Row) (i : ℕ) (aim : Aim) (best : Option Valued) (chosen : List
       }
 
   -- the row's entry was stored k pairs behind the start
-  put : (k : ℕ) → k ≤ sizeOf w (row .board)
-      → entry (keyOf (row .departure) i) (worthAt w i) ∷ stackAt w (stackStart w (row .board)) k ≡ map entryOf (atStop (row .board) (choose aim best chosen))
+  put : (k : ℕ) → k ≤ stackSize w (row .board)
+      → entry (keyOf (row .departure) i) (rowWorth w i) ∷ stackAt w (stackStart w (row .board)) k ≡ map entryOf (atStop (row .board) (choose aim best chosen))
       → (stop : ℕ) → stop < 200 → StackHeld (stored row i k w) from all (row ∷ rest) (choose aim best chosen) stop
   unfolding Beside
   put k low now stop h =
@@ -142,12 +142,12 @@ module _ (row : Row) (i : ℕ) (aim : Aim) (best : Option Valued) (chosen : List
 
   module _ (holds : PairHolds w i best) where
     -- the row has no worth
-    none-chosen : worthAt w i ≡ missing → atStop (row .board) (choose aim best chosen) ≡ atStop (row .board) chosen
+    none-chosen : rowWorth w i ≡ missing → atStop (row .board) (choose aim best chosen) ≡ atStop (row .board) chosen
     none-chosen e =
         ap (atStop (row .board)) (ap (λ (o : Option Valued). choose aim o chosen)
         (worth-none best (getD w (pairCell i) 0) (getD w (pairCell i + 1) 0) (pair-holds w i best holds) e) ∙ choose-none aim chosen)
 
-    module _ (v : Valued) (is : best ≡ some v) (worth : worthAt w i ≡ v .worth) where
+    module _ (v : Valued) (is : best ≡ some v) (worth : rowWorth w i ≡ v .worth) where
       own-away : v .ride .from ≢ aim .target
       own-away q = c .away (sym (c .stop v is) ∙ q)
 
@@ -157,34 +157,34 @@ module _ (row : Row) (i : ℕ) (aim : Aim) (best : Option Valued) (chosen : List
       to-own : (l : List Valued) → atStop (v .ride .from) (choose aim (some v) chosen) ≡ l → atStop (row .board) (choose aim best chosen) ≡ l
       to-own l e = ap₂ (λ (s : ℕ) (o : Option Valued). atStop s (choose aim o chosen)) (sym (c .stop v is)) is ∙ e
 
-      own-entry : entry (keyOf (row .departure) i) (worthAt w i) ≡ entryOf v
+      own-entry : entry (keyOf (row .departure) i) (rowWorth w i) ≡ entryOf v
       own-entry = ap₂ entry (ap₂ keyOf (sym (c .minute v is)) (sym (c .boarded v is))) worth
 
       -- the stack with the row's entry on top of those of `under`
       topped : (k : ℕ) (under : List Valued) → stackAt w (stackStart w (row .board)) k ≡ map entryOf under
           → atStop (v .ride .from) (choose aim (some v) chosen) ≡ v ∷ under
-          → entry (keyOf (row .departure) i) (worthAt w i) ∷ stackAt w (stackStart w (row .board)) k ≡ map entryOf (atStop (row .board) (choose aim best chosen))
+          → entry (keyOf (row .departure) i) (rowWorth w i) ∷ stackAt w (stackStart w (row .board)) k ≡ map entryOf (atStop (row .board) (choose aim best chosen))
       topped k under stack now =
           ap₂ (λ (e : Entry) (es : List Entry). e ∷ es) own-entry stack ∙ ap (map entryOf) (sym (to-own (v ∷ under) now))
 
-      first-put : sizeOf w (row .board) ≡ 0 → (stop : ℕ) → stop < 200 → StackHeld (stored row i 0 w) from all (row ∷ rest) (choose aim best chosen) stop
+      first-put : stackSize w (row .board) ≡ 0 → (stop : ℕ) → stop < 200 → StackHeld (stored row i 0 w) from all (row ∷ rest) (choose aim best chosen) stop
       first-put size =
           let stack : stackAt w (stackStart w (row .board)) 0 ≡ map entryOf (atStop (row .board) chosen) =
           subst (λ n. stackAt w (stackStart w (row .board)) n ≡ map entryOf (atStop (row .board) chosen)) size (own .holds) in
           let none' : atStop (row .board) chosen ≡ [] = stack-none w (stackStart w (row .board)) (atStop (row .board) chosen) stack in
           put 0 (omega arith) (topped 0 [] (stack ∙ ap (map entryOf) none') (own-alone aim chosen v own-away (at-own [] none')))
 
-      module _ (k : ℕ) (size : sizeOf w (row .board) ≡ suc k) where
+      module _ (k : ℕ) (size : stackSize w (row .board) ≡ suc k) where
         stack : stackAt w (stackStart w (row .board)) (suc k) ≡ map entryOf (atStop (row .board) chosen)
         stack = subst (λ n. stackAt w (stackStart w (row .board)) n ≡ map entryOf (atStop (row .board) chosen)) size (own .holds)
 
         top : Top w (stackStart w (row .board)) k (atStop (row .board) chosen)
         top = stack-top w (stackStart w (row .board)) k (atStop (row .board) chosen) stack
 
-        top-at : pairCell (startOf w (row .board) + k) ≡ stackStart w (row .board) + 2 * k
+        top-at : pairCell (startPair w (row .board) + k) ≡ stackStart w (row .board) + 2 * k
         top-at = omega arith
 
-        top-worth : getD w (pairCell (startOf w (row .board) + k) + 1) 0 ≡ top .first .worth
+        top-worth : getD w (pairCell (startPair w (row .board) + k) + 1) 0 ≡ top .first .worth
         top-worth = ap (λ x. getD w (x + 1) 0) top-at ∙ top .worth
 
         top-member : (x : Valued) → List·Memᴰ x (top .first ∷ top .rest) → List·Memᴰ x chosen × (x .ride .from ≡ row .board)
@@ -195,9 +195,9 @@ module _ (row : Row) (i : ℕ) (aim : Aim) (best : Option Valued) (chosen : List
         first-member : List·Memᴰ (top .first) chosen × (top .first .ride .from ≡ row .board)
         first-member = top-member (top .first) (List·Memᴰ·head refl)
 
-        top-departs : getD w (pairCell (startOf w (row .board) + k)) 0 / 2048 ≡ top .first .ride .departs
+        top-departs : getD w (pairCell (startPair w (row .board) + k)) 0 / keyStep ≡ top .first .ride .departs
         top-departs =
-            key-departure (top .first .ride .departs) (top .first .ride .board) (getD w (pairCell (startOf w (row .board) + k)) 0)
+            key-departure (top .first .ride .departs) (top .first .ride .board) (getD w (pairCell (startPair w (row .board) + k)) 0)
             (c .fits (top .first) (first-member .0) .row) (ap (λ x. getD w x 0) top-at ∙ top .key)
 
         later : (x : Valued) → List·Memᴰ x (top .rest) → top .first .ride .departs < x .ride .departs
@@ -208,18 +208,18 @@ module _ (row : Row) (i : ℕ) (aim : Aim) (best : Option Valued) (chosen : List
         rises : v .ride .departs ≤ top .first .ride .departs
         rises = subst (λ x. x ≤ top .first .ride .departs) (sym (c .minute v is)) (c .rising (top .first) (first-member .0))
 
-        not-chosen : getD w (pairCell (startOf w (row .board) + k) + 1) 0 ≤ worthAt w i
+        not-chosen : getD w (pairCell (startPair w (row .board) + k) + 1) 0 ≤ rowWorth w i
             → atStop (row .board) (choose aim best chosen) ≡ atStop (row .board) chosen
         not-chosen h =
             to-own (top .first ∷ top .rest)
             (own-kept aim chosen v own-away (top .first) (top .rest) (at-own (top .first ∷ top .rest) (top .all)) (omega (arith, top-worth)))
             ∙ sym (top .all)
 
-        module _ (less : worthAt w i < getD w (pairCell (startOf w (row .board) + k) + 1) 0) where
+        module _ (less : rowWorth w i < getD w (pairCell (startPair w (row .board) + k) + 1) 0) where
           below-first : v .worth < top .first .worth
           below-first = omega (arith, top-worth)
 
-          replace-put : getD w (pairCell (startOf w (row .board) + k)) 0 / 2048 ≡ row .departure
+          replace-put : getD w (pairCell (startPair w (row .board) + k)) 0 / keyStep ≡ row .departure
               → (stop : ℕ) → stop < 200 → StackHeld (stored row i k w) from all (row ∷ rest) (choose aim best chosen) stop
           replace-put same =
               put k (omega arith)
@@ -227,7 +227,7 @@ module _ (row : Row) (i : ℕ) (aim : Aim) (best : Option Valued) (chosen : List
               (own-replaces aim chosen v own-away (top .first) (top .rest) (at-own (top .first ∷ top .rest) (top .all)) below-first later rises
               (first-member .1 ∙ sym (c .stop v is)) (sym top-departs ∙ same ∙ sym (c .minute v is))))
 
-          ahead-put : (getD w (pairCell (startOf w (row .board) + k)) 0 / 2048 ≡ row .departure → ⊥)
+          ahead-put : (getD w (pairCell (startPair w (row .board) + k)) 0 / keyStep ≡ row .departure → ⊥)
               → (stop : ℕ) → stop < 200 → StackHeld (stored row i (suc k) w) from all (row ∷ rest) (choose aim best chosen) stop
           ahead-put other =
               put (suc k) (omega arith)
@@ -236,7 +236,7 @@ module _ (row : Row) (i : ℕ) (aim : Aim) (best : Option Valued) (chosen : List
               (λ q. other (top-departs ∙ q ∙ c .minute v is))))
 
     -- the worth that the row has
-    found : (worthAt w i ≡ missing → ⊥) → (v : Valued) × (best ≡ some v) × (worthAt w i ≡ v .worth)
+    found : (rowWorth w i ≡ missing → ⊥) → (v : Valued) × (best ≡ some v) × (rowWorth w i ≡ v .worth)
     found has = worth-some best (getD w (pairCell i) 0) (getD w (pairCell i + 1) 0) (pair-holds w i best holds) has
 
     pub stacks-chosen :
@@ -261,9 +261,9 @@ module _ (row : Row) (i : ℕ) (aim : Aim) (best : Option Valued) (chosen : List
 
   -- what a store leaves of the other cells
   pub chose-or-stored :
-      (w' : List ℕ) → Chose row i w w' → (w' ≡ w) ⊎ ((k : ℕ) × (k ≤ sizeOf w (row .board)) × (w' ≡ stored row i k w))
+      (w' : List ℕ) → Chose row i w w' → (w' ≡ w) ⊎ ((k : ℕ) × (k ≤ stackSize w (row .board)) × (w' ≡ stored row i k w))
   chose-or-stored w' (worthless e q) = inl q
-  chose-or-stored w' (alone has size q) = inr (0, (let z : 0 ≤ sizeOf w (row .board) = omega arith in z), q)
+  chose-or-stored w' (alone has size q) = inr (0, (let z : 0 ≤ stackSize w (row .board) = omega arith in z), q)
   chose-or-stored w' (not-below has k size less q) = inl q
-  chose-or-stored w' (replaces has k size less same q) = inr (k, (let z : k ≤ sizeOf w (row .board) = omega arith in z), q ∙ pushed-stored row i k w (c .board) size)
-  chose-or-stored w' (ahead has k size less other q) = inr (suc k, (let z : suc k ≤ sizeOf w (row .board) = omega arith in z), q)
+  chose-or-stored w' (replaces has k size less same q) = inr (k, (let z : k ≤ stackSize w (row .board) = omega arith in z), q ∙ pushed-stored row i k w (c .board) size)
+  chose-or-stored w' (ahead has k size less other q) = inr (suc k, (let z : suc k ≤ stackSize w (row .board) = omega arith in z), q)

@@ -12,42 +12,42 @@ use Rattle.laws.proofs.Tests.{ifb}
 use Rattle.plan_cells.specs.Cells.{stops, sizes, pairs}
 use Rattle.plan_cells.specs.Outside.{SameOutside}
 use Rattle.plan_cells.proofs.Outside.{outside-same, outside-then, outside-set}
-use Rattle.plan_scan.specs.Stores.{sizeOf}
+use Rattle.plan_stacks.specs.Stacks.{stackSize}
 use Rattle.plan_scan.specs.Regions.{countAt, Counted}
 use Rattle.plan_scan.proofs.Regions.{count-here, count-elsewhere}
 
 pub record Counting (all rest : List Row) (w w' : List ℕ) : Type 0 where
   pub outside : SameOutside stops pairs w w'
-  pub so-far : (stop : ℕ) → stop < 200 → sizeOf w' stop + countAt stop rest ≡ countAt stop all
+  pub so-far : (stop : ℕ) → stop < 200 → stackSize w' stop + countAt stop rest ≡ countAt stop all
 
-pub counting-begins : (rows : List Row) (w : List ℕ) → ((stop : ℕ) → stop < 200 → sizeOf w stop ≡ 0) → Counting rows rows w w
-counting-begins rows w empty = record { outside = outside-same stops pairs w; so-far = λ stop h. let e : sizeOf w stop ≡ 0 = empty stop h in omega arith }
+pub counting-begins : (rows : List Row) (w : List ℕ) → ((stop : ℕ) → stop < 200 → stackSize w stop ≡ 0) → Counting rows rows w w
+counting-begins rows w empty = record { outside = outside-same stops pairs w; so-far = λ stop h. let e : stackSize w stop ≡ 0 = empty stop h in omega arith }
 
 counts-on :
     (all rest : List Row) (r : Row) (w : List ℕ) → pairs ≤ length w → r .board < 200 → (stop : ℕ) → stop < 200
-    → sizeOf w stop + countAt stop (r ∷ rest) ≡ countAt stop all
-    → sizeOf (set w (sizes + r .board) (sizeOf w (r .board) + 1)) stop + countAt stop rest ≡ countAt stop all
+    → stackSize w stop + countAt stop (r ∷ rest) ≡ countAt stop all
+    → stackSize (set w (sizes + r .board) (stackSize w (r .board) + 1)) stop + countAt stop rest ≡ countAt stop all
 counts-on all rest r w room board stop h so-far =
-    ifb (λ b. eqb (r .board) stop ≡ b → sizeOf (set w (sizes + r .board) (sizeOf w (r .board) + 1)) stop + countAt stop rest ≡ countAt stop all) (eqb (r .board) stop)
+    ifb (λ b. eqb (r .board) stop ≡ b → stackSize (set w (sizes + r .board) (stackSize w (r .board) + 1)) stop + countAt stop rest ≡ countAt stop all) (eqb (r .board) stop)
     (λ e _. let here : r .board ≡ stop = eqb-true (r .board) stop e in
     let count = count-here stop r rest here in
-    let stored : sizeOf (set w (sizes + r .board) (sizeOf w (r .board) + 1)) (r .board) ≡ sizeOf w (r .board) + 1 =
-    getD-set-same w (sizes + r .board) (sizeOf w (r .board) + 1) 0 (omega arith) in
-    let moved : sizeOf (set w (sizes + r .board) (sizeOf w (r .board) + 1)) stop ≡ sizeOf w stop + 1 =
-    subst (λ k. sizeOf (set w (sizes + r .board) (sizeOf w (r .board) + 1)) k ≡ sizeOf w k + 1) here stored in
+    let stored : stackSize (set w (sizes + r .board) (stackSize w (r .board) + 1)) (r .board) ≡ stackSize w (r .board) + 1 =
+    getD-set-same w (sizes + r .board) (stackSize w (r .board) + 1) 0 (omega arith) in
+    let moved : stackSize (set w (sizes + r .board) (stackSize w (r .board) + 1)) stop ≡ stackSize w stop + 1 =
+    subst (λ k. stackSize (set w (sizes + r .board) (stackSize w (r .board) + 1)) k ≡ stackSize w k + 1) here stored in
     omega arith)
     (λ e _. let apart : r .board ≡ stop → ⊥ = eqb-false (r .board) stop e in
     let count = count-elsewhere stop r rest apart in
-    let kept : sizeOf (set w (sizes + r .board) (sizeOf w (r .board) + 1)) stop ≡ sizeOf w stop =
-    getD-set-other w (sizes + r .board) (sizes + stop) (sizeOf w (r .board) + 1) 0 (λ q. apart (omega arith)) in
+    let kept : stackSize (set w (sizes + r .board) (stackSize w (r .board) + 1)) stop ≡ stackSize w stop =
+    getD-set-other w (sizes + r .board) (sizes + stop) (stackSize w (r .board) + 1) 0 (λ q. apart (omega arith)) in
     omega arith) refl
 
 pub counting-on :
     (all rest : List Row) (r : Row) (w w' : List ℕ) → pairs ≤ length w → r .board < 200 → Counting all (r ∷ rest) w w'
-    → Counting all rest w (set w' (sizes + r .board) (sizeOf w' (r .board) + 1))
+    → Counting all rest w (set w' (sizes + r .board) (stackSize w' (r .board) + 1))
 counting-on all rest r w w' room board c =
     record {
-      outside = outside-then (c .outside) (outside-set w' (sizes + r .board) (sizeOf w' (r .board) + 1) (omega arith) (omega arith));
+      outside = outside-then (c .outside) (outside-set w' (sizes + r .board) (stackSize w' (r .board) + 1) (omega arith) (omega arith));
       so-far = λ stop h. counts-on all rest r w' (omega (arith, c .outside .same-length)) board stop h (c .so-far stop h);
     }
 

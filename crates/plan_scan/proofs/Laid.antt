@@ -5,14 +5,14 @@ use mathlib.Core.Path.{_≡_, sym, ap, subst, _∙_}
 use native.Mathlib.Omega.{arith}
 use lib.ListN.{length, getD, set}
 use lib.Seq.{slice, length-slice, getD-set-same, getD-set-other}
-use Rattle.plan_cells.specs.Cells.{trips, stops, sizes, pairs, used, missing, filled}
+use Rattle.plan_cells.specs.Cells.{trips, stops, sizes, pairs, used, missing, filled, pairCell}
 use Rattle.plan_cells.specs.Outside.{SameOutside}
 use Rattle.plan_cells.proofs.Filled.{filled-ahead, filled-inside}
 use Rattle.plan_cells.proofs.Outside.{outside-then, outside-wider, outside-set, outside-filled}
 use Rattle.plan_rows.specs.declared.Sailings.{Sailings}
 use Rattle.plan_rows.specs.Reading.{rowsIn, Stand}
 use Rattle.plans.specs.declared.Goal.{Goal}
-use Rattle.plan_scan.specs.Stores.{pairCell, startOf, sizeOf}
+use Rattle.plan_stacks.specs.Stacks.{startPair, stackSize}
 use Rattle.plan_scan.specs.Regions.{countAt, below, Counted, Parted}
 use Rattle.plan_scan.specs.Held.{Held}
 use Rattle.plan_scan.proofs.Regions.{below-same, below-count}
@@ -35,8 +35,8 @@ module _ (n : ℕ) (w w₁ w₂ : List ℕ) (value : ℕ) (room : used n ≤ len
       (subst (λ (l : List ℕ). SameOutside trips (used n) w₁ l) (sym sizes-filled)
       (outside-wider (omega arith) (omega arith) (outside-filled w₁ sizes 200 0 (omega (arith, room₁)))))
 
-  pub no-sizes : (stop : ℕ) → stop < 200 → sizeOf w₂ stop ≡ 0
-  no-sizes stop h = ap (λ (l : List ℕ). sizeOf l stop) sizes-filled ∙ filled-inside w₁ sizes 200 0 stop (omega (arith, room₁)) h
+  pub no-sizes : (stop : ℕ) → stop < 200 → stackSize w₂ stop ≡ 0
+  no-sizes stop h = ap (λ (l : List ℕ). stackSize l stop) sizes-filled ∙ filled-inside w₁ sizes 200 0 stop (omega (arith, room₁)) h
 
   pub no-next : (trip : ℕ) → trip < 2000 → getD w₂ (trips + trip) 0 ≡ n
   no-next trip h =
@@ -45,11 +45,11 @@ module _ (n : ℕ) (w w₁ w₂ : List ℕ) (value : ℕ) (room : used n ≤ len
 
 module _ (file : List ℕ) (s : Sailings) (goal : Goal) (first end : ℕ) (stand : Stand file s) (inside : end ≤ s .rows) (w₂ w₃ : List ℕ)
     (room : used (s .rows) ≤ length w₂) (counted : Counted (slice first end (rowsIn file s)) w₂ w₃) where
-  below-counts : (k : ℕ) → k ≤ 200 → below (sizeOf w₃) k ≡ below (λ stop. countAt stop (slice first end (rowsIn file s))) k
-  below-counts k h = below-same (sizeOf w₃) (λ stop. countAt stop (slice first end (rowsIn file s))) k (λ stop l. counted .counts stop (omega arith))
+  below-counts : (k : ℕ) → k ≤ 200 → below (stackSize w₃) k ≡ below (λ stop. countAt stop (slice first end (rowsIn file s))) k
+  below-counts k h = below-same (stackSize w₃) (λ stop. countAt stop (slice first end (rowsIn file s))) k (λ stop l. counted .counts stop (omega arith))
 
   -- the regions are as many pairs as the rows are at most
-  pub parts-fit : s .rows + 1 + below (sizeOf w₃) 200 < 4294967296
+  pub parts-fit : s .rows + 1 + below (stackSize w₃) 200 < 4294967296
   parts-fit =
       let same = below-counts 200 (let z : 200 ≤ 200 = omega arith in z) in
       let few = below-count (slice first end (rowsIn file s)) 200 in
@@ -80,7 +80,7 @@ module _ (file : List ℕ) (s : Sailings) (goal : Goal) (first end : ℕ) (stand
         ∙ counted .outside .ahead (trips + trip) (omega arith) ∙ no-next trip h)
         (getD-set-same w₄ (pairCell (s .rows)) missing 0 (omega (arith, room₄)))
         (λ stop h. let same = below-counts stop (omega arith) in
-        let start : startOf w₄ stop ≡ s .rows + 1 + below (sizeOf w₃) stop = parted .starts stop h in
+        let start : startPair w₄ stop ≡ s .rows + 1 + below (stackSize w₃) stop = parted .starts stop h in
         beside (stops + stop) (omega arith)
-        ∙ (let z : startOf w₄ stop ≡ suc (s .rows) + below (λ k. countAt k (slice first end (rowsIn file s))) stop = omega arith in z))
+        ∙ (let z : startPair w₄ stop ≡ suc (s .rows) + below (λ k. countAt k (slice first end (rowsIn file s))) stop = omega arith in z))
         (λ stop h. beside (sizes + stop) (omega arith) ∙ parted .empty stop h)

@@ -1,5 +1,4 @@
 -- Laws of the scan: regions and stacks in the lent cells, chosen rides stop by stop, how far a worth can reach, and one turn of the loop.
-pub mod Paired
 pub mod Regions
 pub mod Counting
 pub mod Parting
@@ -9,7 +8,6 @@ pub mod Rising
 pub mod Worths
 pub mod TimetableTo
 pub mod PairsHeld
-pub mod StackHeld
 pub mod Stored
 pub mod Choosing
 pub mod Step

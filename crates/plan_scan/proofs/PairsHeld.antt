@@ -14,13 +14,13 @@ use Rattle.timetable.specs.declared.Row.{Row}
 use Rattle.plans.specs.Rides.{Ride}
 use Rattle.plans.specs.Worth.{Valued}
 use Rattle.plans.specs.Chosen.{Scan, least, getOff, stayOn, nextOf, boardedAt}
-use Rattle.plan_cells.specs.Cells.{pairs, trips, stops, used, missing, cellOf}
+use Rattle.plan_cells.specs.Cells.{pairs, trips, stops, used, missing, cellOf, pairCell, paired}
 use Rattle.plan_cells.specs.Outside.{SameOutside}
 use Rattle.plan_cells.proofs.Outside.{outside-then, outside-set}
-use Rattle.plan_scan.specs.Stores.{pairCell, paired, entered, nextPair, Weighs, gets-off, stays-on}
+use Rattle.plan_scan.specs.Stores.{entered, nextPair, Weighs, gets-off, stays-on}
 use Rattle.plan_scan.specs.Scanned.{bestIn, PairHolds}
 use Rattle.plan_scan.specs.Held.{NextHolds, PairsHeld}
-use Rattle.plan_scan.proofs.Paired.{paired-front, paired-behind, paired-other, outside-paired}
+use Rattle.plan_cells.proofs.Paired.{paired-front, paired-behind, paired-other, outside-paired}
 
 -- two cells hold a best ride
 abbrev pub Holds : (worth leave : ℕ) → Option Valued → Type 0

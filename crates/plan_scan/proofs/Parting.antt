@@ -11,14 +11,14 @@ use Rattle.laws.proofs.Tests.{ifb}
 use Rattle.plan_cells.specs.Cells.{stops, sizes, pairs}
 use Rattle.plan_cells.specs.Outside.{SameOutside}
 use Rattle.plan_cells.proofs.Outside.{outside-same, outside-then, outside-set}
-use Rattle.plan_scan.specs.Stores.{startOf, sizeOf}
+use Rattle.plan_stacks.specs.Stacks.{startPair, stackSize}
 use Rattle.plan_scan.specs.Regions.{below}
 
 pub record Parting (from stop : ℕ) (w w' : List ℕ) : Type 0 where
   pub outside : SameOutside stops pairs w w'
-  pub starts : (k : ℕ) → k < stop → startOf w' k ≡ from + below (sizeOf w) k
-  pub empty : (k : ℕ) → k < stop → sizeOf w' k ≡ 0
-  pub left : (k : ℕ) → stop ≤ k → k < 200 → sizeOf w' k ≡ sizeOf w k
+  pub starts : (k : ℕ) → k < stop → startPair w' k ≡ from + below (stackSize w) k
+  pub empty : (k : ℕ) → k < stop → stackSize w' k ≡ 0
+  pub left : (k : ℕ) → stop ≤ k → k < 200 → stackSize w' k ≡ stackSize w k
 
 pub parting-begins : (from : ℕ) (w : List ℕ) → Parting from 0 w w
 parting-begins from w =
@@ -34,37 +34,37 @@ abbrev pub partedNext : (stop start : ℕ) → List ℕ → List ℕ
 partedNext stop start w = set (set w (stops + stop) start) (sizes + stop) 0
 
 module _ (from stop start : ℕ) (w w' : List ℕ) (room : pairs ≤ length w') (inside : stop < 200) where
-  next-start : startOf (partedNext stop start w') stop ≡ start
+  next-start : startPair (partedNext stop start w') stop ≡ start
   next-start =
       getD-set-other (set w' (stops + stop) start) (sizes + stop) (stops + stop) 0 0 (λ e. omega arith)
       ∙ getD-set-same w' (stops + stop) start 0 (omega arith)
 
-  next-size : sizeOf (partedNext stop start w') stop ≡ 0
+  next-size : stackSize (partedNext stop start w') stop ≡ 0
   next-size = getD-set-same (set w' (stops + stop) start) (sizes + stop) 0 0 (omega (arith, length-set w' (stops + stop) start))
 
-  kept-start : (k : ℕ) → k < 200 → (k ≡ stop → ⊥) → startOf (partedNext stop start w') k ≡ startOf w' k
+  kept-start : (k : ℕ) → k < 200 → (k ≡ stop → ⊥) → startPair (partedNext stop start w') k ≡ startPair w' k
   kept-start k h ne =
       getD-set-other (set w' (stops + stop) start) (sizes + stop) (stops + k) 0 0 (λ e. omega arith)
       ∙ getD-set-other w' (stops + stop) (stops + k) start 0 (λ e. ne (omega arith))
 
-  kept-size : (k : ℕ) → k < 200 → (k ≡ stop → ⊥) → sizeOf (partedNext stop start w') k ≡ sizeOf w' k
+  kept-size : (k : ℕ) → k < 200 → (k ≡ stop → ⊥) → stackSize (partedNext stop start w') k ≡ stackSize w' k
   kept-size k h ne =
       getD-set-other (set w' (stops + stop) start) (sizes + stop) (sizes + k) 0 0 (λ e. ne (omega arith))
       ∙ getD-set-other w' (stops + stop) (sizes + k) start 0 (λ e. omega arith)
 
   pub parting-on :
-      start ≡ from + below (sizeOf w) stop → Parting from stop w w' → Parting from (stop + 1) w (partedNext stop start w')
+      start ≡ from + below (stackSize w) stop → Parting from stop w w' → Parting from (stop + 1) w (partedNext stop start w')
   parting-on here p =
       record {
         outside =
             outside-then (p .outside)
             (outside-then (outside-set w' (stops + stop) start (omega arith) (omega arith))
             (outside-set (set w' (stops + stop) start) (sizes + stop) 0 (omega arith) (omega arith)));
-        starts = λ k h. ifb (λ b. eqb k stop ≡ b → startOf (partedNext stop start w') k ≡ from + below (sizeOf w) k) (eqb k stop)
-            (λ e _. subst (λ j. startOf (partedNext stop start w') j ≡ from + below (sizeOf w) j) (sym (eqb-true k stop e)) (next-start ∙ here))
+        starts = λ k h. ifb (λ b. eqb k stop ≡ b → startPair (partedNext stop start w') k ≡ from + below (stackSize w) k) (eqb k stop)
+            (λ e _. subst (λ j. startPair (partedNext stop start w') j ≡ from + below (stackSize w) j) (sym (eqb-true k stop e)) (next-start ∙ here))
             (λ e _. let ne : k ≡ stop → ⊥ = eqb-false k stop e in kept-start k (omega arith) ne ∙ p .starts k (omega arith)) refl;
-        empty = λ k h. ifb (λ b. eqb k stop ≡ b → sizeOf (partedNext stop start w') k ≡ 0) (eqb k stop)
-            (λ e _. subst (λ j. sizeOf (partedNext stop start w') j ≡ 0) (sym (eqb-true k stop e)) next-size)
+        empty = λ k h. ifb (λ b. eqb k stop ≡ b → stackSize (partedNext stop start w') k ≡ 0) (eqb k stop)
+            (λ e _. subst (λ j. stackSize (partedNext stop start w') j ≡ 0) (sym (eqb-true k stop e)) next-size)
             (λ e _. let ne : k ≡ stop → ⊥ = eqb-false k stop e in kept-size k (omega arith) ne ∙ p .empty k (omega arith)) refl;
         left = λ k low high. kept-size k high (λ e. omega arith) ∙ p .left k (omega arith) high;
       }

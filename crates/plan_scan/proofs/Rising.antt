@@ -7,8 +7,8 @@ use lib.ListN.{length, getD}
 use Rattle.laws.proofs.Places.{member-at}
 use Rattle.plans.specs.Worth.{Valued}
 use Rattle.plans.proofs.Order.{Ordered, nobody, ahead}
-use Rattle.plan_landing.specs.Landing.{atStop}
-use Rattle.plan_landing.proofs.AtStop.{at-stop-member}
+use Rattle.plan_stacks.specs.Chosen.{atStop}
+use Rattle.plan_stacks.proofs.AtStop.{at-stop-member}
 use Rattle.plan_scan.proofs.ByStop.{at-head}
 
 pub at-ordered : (s : ℕ) {vs : List Valued} → Ordered vs → Ordered (atStop s vs)

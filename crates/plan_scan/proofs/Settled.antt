@@ -11,26 +11,27 @@ use denote.Triple.Clauses.{AtExit}
 use lib.ListN.{length, getD}
 use borrow.Fn.Kinds.{Dens, resT, endedOf}
 use Rattle.plans.specs.Worth.{Valued}
-use Rattle.plan_cells.specs.Cells.{used, missing, stackOf}
+use Rattle.plan_cells.specs.Cells.{used, missing, pairCell}
+use Rattle.plan_stacks.specs.Stacks.{stackOf}
 use Rattle.plan_scan.specs.Scanned.{PairHolds, bestIn, scanIn}
-use Rattle.plan_scan.specs.Stores.{pairCell, worthAt}
+use Rattle.plan_scan.specs.Stores.{rowWorth}
 use Rattle.plan_scan.proofs.scan_back.Kinds as kinds
 use Rattle.plan_scan.proofs.scan_back.Reads as reads
 
-same-worth : (w w' : List ℕ) (i : ℕ) (best : Option Valued) → PairHolds w i best → PairHolds w' i best → worthAt w i ≡ worthAt w' i
+same-worth : (w w' : List ℕ) (i : ℕ) (best : Option Valued) → PairHolds w i best → PairHolds w' i best → rowWorth w i ≡ rowWorth w' i
 same-worth w w' i none one other = one ∙ sym other
 same-worth w w' i (some v) one other = one .0 ∙ sym (other .0)
 
 same-leave :
-    (w w' : List ℕ) (i : ℕ) (best : Option Valued) → PairHolds w i best → PairHolds w' i best → (worthAt w i ≡ missing → ⊥)
+    (w w' : List ℕ) (i : ℕ) (best : Option Valued) → PairHolds w i best → PairHolds w' i best → (rowWorth w i ≡ missing → ⊥)
     → getD w (pairCell i + 1) 0 ≡ getD w' (pairCell i + 1) 0
 same-leave w w' i none one other has = absurd (has one)
 same-leave w w' i (some v) one other has = one .1 ∙ sym (other .1)
 
 -- what planning reads of the scan
 pub record SameScan (n first end : ℕ) (w w' : List ℕ) : Type 0 where
-  pub worths : (i : ℕ) → first ≤ i → i < end → worthAt w i ≡ worthAt w' i
-  pub leaves : (i : ℕ) → first ≤ i → i < end → (worthAt w i ≡ missing → ⊥) → getD w (pairCell i + 1) 0 ≡ getD w' (pairCell i + 1) 0
+  pub worths : (i : ℕ) → first ≤ i → i < end → rowWorth w i ≡ rowWorth w' i
+  pub leaves : (i : ℕ) → first ≤ i → i < end → (rowWorth w i ≡ missing → ⊥) → getD w (pairCell i + 1) 0 ≡ getD w' (pairCell i + 1) 0
   pub stacks : (stop : ℕ) → stop < 200 → stackOf w stop ≡ stackOf w' stop
   pub lengths : length w ≡ length w'
   pub rest : (i : ℕ) → used n ≤ i → getD w i 0 ≡ getD w' i 0

@@ -6,7 +6,7 @@ use mathlib.Core.Option.{Option, none, some}
 use mathlib.Core.Path.{_≡_, refl, sym, ap, subst, _∙_}
 use native.Mathlib.Nat.{suc-pred-eq-of-pos}
 use native.Mathlib.Omega.{arith}
-use lib.ListN.{length, getD, drop}
+use lib.ListN.{length, getD}
 use lib.Seq.{slice, slice-cons, length-slice}
 use Rattle.timetable.specs.Timetable.{rowOf, noRow, sharesOf}
 use Rattle.timetable.specs.declared.Row.{Row}
@@ -14,19 +14,21 @@ use Rattle.plans.specs.Worth.{Valued, arrivalWorth, changeWorth}
 use Rattle.plans.specs.Chosen.{inTicks, Scan, choose, offInTicks}
 use Rattle.plan_cells.specs.Outside.{SameOutside}
 use Rattle.plan_cells.proofs.Outside.{outside-same}
-use Rattle.plan_cells.specs.Cells.{trips, stops, sizes, used, cellOf, stackStart, stackSize}
+use Rattle.plan_cells.specs.Cells.{trips, stops, sizes, used, cellOf, pairCell}
+use Rattle.plan_stacks.specs.Stacks.{stackStart, stackSize, startPair}
 use Rattle.plan_rows.specs.declared.Sailings.{Sailings}
 use Rattle.plan_rows.specs.Reading.{rowsIn, tablesIn, Stand, TablesHeld, RowFits}
 use Rattle.plans.specs.declared.Goal.{Goal}
-use Rattle.plan_landing.specs.Landing.{entryOf, atStop, Ready, rideOff}
-use Rattle.plan_scan.specs.Stores.{pairCell, startOf, sizeOf, Weighs, Chose, Weighable, Pushable}
+use Rattle.plan_stacks.specs.Chosen.{entryOf, atStop}
+use Rattle.plan_landing.specs.Landing.{Ready, rideOff}
+use Rattle.plan_scan.specs.Stores.{Weighs, Chose, Weighable, Pushable}
 use Rattle.plan_scan.specs.Regions.{countAt, below}
 use Rattle.plan_scan.specs.Scanned.{scanIn, bestIn, PairHolds}
 use Rattle.plan_scan.specs.Held.{PairsHeld, StackHeld, Held}
 use Rattle.plan_scan.proofs.Regions.{count-slice, count-few, count-here, count-more, below-count, below-later}
 use Rattle.plan_scan.proofs.ByStop.{choose-target}
 use Rattle.plan_scan.proofs.PairsHeld.{inFront, pairs-kept, pairs-weighed, weighs-other}
-use Rattle.plan_scan.proofs.StackHeld.{stack-kept}
+use Rattle.plan_stacks.proofs.Entries.{stack-kept}
 use Rattle.plan_scan.proofs.Stored.{stored, stored-other, outside-stored}
 use Rattle.plan_scan.proofs.Choosing.{Choosable, stacks-chosen, chose-or-stored}
 use Rattle.plan_scan.proofs.TimetableTo.{bestRow, ownRide, scan-step, best-step, BoardsRow, best-boards-row, scan-ordered, climbing, chosen-fits, rising-behind, off-fits}
@@ -127,8 +129,8 @@ module _ (file : List ℕ) (s : Sailings) (goal : Goal) (first end : ℕ) (stand
           → StackHeld w' (suc (s .rows)) (slice first end rows) (slice (suc i) end rows) (after (suc i) .chosen) stop
       stacks-after stop h =
           let old = held .stacks-held stop h in
-          let start : startOf w' stop ≡ startOf w stop = same-behind (stops + stop) (omega arith) (λ e. omega arith) (λ e. omega arith) in
-          let size : sizeOf w' stop ≡ sizeOf w stop = same-behind (sizes + stop) (omega arith) (λ e. omega arith) (λ e. omega arith) in
+          let start : startPair w' stop ≡ startPair w stop = same-behind (stops + stop) (omega arith) (λ e. omega arith) (λ e. omega arith) in
+          let size : stackSize w' stop ≡ stackSize w stop = same-behind (sizes + stop) (omega arith) (λ e. omega arith) (λ e. omega arith) in
           let begins = old .start in
           record {
             start = start ∙ old .start;
@@ -178,7 +180,7 @@ module _ (file : List ℕ) (s : Sailings) (goal : Goal) (first end : ℕ) (stand
       regions-room : pairCell (suc (s .rows) + below (λ stop. countAt stop (slice first end rows)) 200) ≤ length w
       regions-room = omega (arith, regions-end)
 
-      region-used : (k : ℕ) → k ≤ sizeOf w (rowAt i .board) → pairCell (startOf w (rowAt i .board) + k) + 1 < used (s .rows)
+      region-used : (k : ℕ) → k ≤ stackSize w (rowAt i .board) → pairCell (startPair w (rowAt i .board) + k) + 1 < used (s .rows)
       region-used k h =
           let own = stacks (rowAt i .board) (fits .board) in
           let start = own .start in
@@ -199,7 +201,7 @@ module _ (file : List ℕ) (s : Sailings) (goal : Goal) (first end : ℕ) (stand
             own = omega arith;
             key = omega (arith, fits .onward, fits .lands, stand .few-rows);
             few = omega (arith, stand .few-rows);
-            room = (let z = region-used (sizeOf w (rowAt i .board)) (let z : sizeOf w (rowAt i .board) ≤ sizeOf w (rowAt i .board) = omega arith in z) in omega arith);
+            room = (let z = region-used (stackSize w (rowAt i .board)) (let z : stackSize w (rowAt i .board) ≤ stackSize w (rowAt i .board) = omega arith in z) in omega arith);
           }
 
       own-best : PairsHeld w (s .rows) i end (after i) → PairHolds w i (bestRow file s goal end i)
@@ -211,12 +213,12 @@ module _ (file : List ℕ) (s : Sailings) (goal : Goal) (first end : ℕ) (stand
           (pairs-held .weighed i (let z : i ≤ i = omega arith in z) high)
 
       module _ (w' : List ℕ) (chose : Chose (rowAt i) i w w') where
-        or-stored : (w' ≡ w) ⊎ ((k : ℕ) × (k ≤ sizeOf w (rowAt i .board)) × (w' ≡ stored (rowAt i) i k w))
+        or-stored : (w' ≡ w) ⊎ ((k : ℕ) × (k ≤ stackSize w (rowAt i .board)) × (w' ≡ stored (rowAt i) i k w))
         or-stored =
             chose-or-stored (rowAt i) i (inTicks goal) (bestRow file s goal end i) (after (suc i) .chosen) choosable w (suc (s .rows))
             (slice first end rows) (slice (suc i) end rows) stacks suffix regions-room w' chose
 
-        pairs-stay : PairsHeld w (s .rows) i end (after i) → (w' ≡ w) ⊎ ((k : ℕ) × (k ≤ sizeOf w (rowAt i .board)) × (w' ≡ stored (rowAt i) i k w))
+        pairs-stay : PairsHeld w (s .rows) i end (after i) → (w' ≡ w) ⊎ ((k : ℕ) × (k ≤ stackSize w (rowAt i .board)) × (w' ≡ stored (rowAt i) i k w))
             → PairsHeld w' (s .rows) i end (after i)
         pairs-stay held (inl q) = subst (λ (l : List ℕ). PairsHeld l (s .rows) i end (after i)) (sym q) held
         pairs-stay held (inr f) =
@@ -240,7 +242,7 @@ module _ (file : List ℕ) (s : Sailings) (goal : Goal) (first end : ℕ) (stand
                   (slice first end rows) (slice (suc i) end rows) stacks suffix regions-room (own-best pairs-held) w' chose stop h));
             }
 
-        stays-inside : (w' ≡ w) ⊎ ((k : ℕ) × (k ≤ sizeOf w (rowAt i .board)) × (w' ≡ stored (rowAt i) i k w)) → SameOutside trips (used (s .rows)) w w'
+        stays-inside : (w' ≡ w) ⊎ ((k : ℕ) × (k ≤ stackSize w (rowAt i .board)) × (w' ≡ stored (rowAt i) i k w)) → SameOutside trips (used (s .rows)) w w'
         stays-inside (inl q) = subst (λ (l : List ℕ). SameOutside trips (used (s .rows)) w l) (sym q) (outside-same trips (used (s .rows)) w)
         stays-inside (inr f) =
             subst (λ (l : List ℕ). SameOutside trips (used (s .rows)) w l) (sym (f .2))

@@ -20,10 +20,10 @@ use Rattle.plans.proofs.FirstLeast.{chosen-rising, chosen-ordered}
 use Rattle.plan_rows.specs.declared.Sailings.{Sailings}
 use Rattle.plan_rows.specs.Reading.{rowsIn, tablesIn, Stand, RowFits}
 use Rattle.plans.specs.declared.Goal.{Goal}
-use Rattle.plan_landing.specs.Landing.{atStop, Climbing, EntryFits}
+use Rattle.plan_stacks.specs.Chosen.{atStop, Climbing, EntryFits}
 use Rattle.plan_cells.specs.Cells.{missing}
 use Rattle.plan_scan.specs.Scanned.{scanIn}
-use Rattle.plan_landing.proofs.AtStop.{at-stop-member}
+use Rattle.plan_stacks.proofs.AtStop.{at-stop-member}
 use Rattle.plan_scan.proofs.ByStop.{at-from}
 use Rattle.plan_scan.proofs.Rising.{at-ordered, departures-rise}
 use Rattle.plan_scan.proofs.Worths.{off-most}

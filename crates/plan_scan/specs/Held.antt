@@ -12,8 +12,9 @@ use Rattle.plan_cells.specs.Cells.{trips, missing}
 use Rattle.plan_rows.specs.declared.Sailings.{Sailings}
 use Rattle.plan_rows.specs.Reading.{rowsIn}
 use Rattle.plans.specs.declared.Goal.{Goal}
-use Rattle.plan_landing.specs.Landing.{StackHolds}
-use Rattle.plan_scan.specs.Stores.{startOf, sizeOf, worthAt}
+use Rattle.plan_stacks.specs.Chosen.{StackHolds}
+use Rattle.plan_stacks.specs.Stacks.{startPair, stackSize}
+use Rattle.plan_scan.specs.Stores.{rowWorth}
 use Rattle.plan_scan.specs.Scanned.{scanIn, bestIn, PairHolds}
 use Rattle.plan_scan.specs.Regions.{countAt, below}
 
@@ -26,14 +27,14 @@ pub record NextHolds (w : List ℕ) (n i trip : ℕ) (best : Option Valued) : Ty
 -- worths, leaving rows and next rows
 pub record PairsHeld (w : List ℕ) (n i end : ℕ) (sc : Scan) : Type 0 where
   pub weighed : (j : ℕ) → i ≤ j → j < end → PairHolds w j (bestIn sc i j)
-  pub last : worthAt w n ≡ missing
+  pub last : rowWorth w n ≡ missing
   pub next : (trip : ℕ) → trip < 2000 → NextHolds w n i trip (nextOf (sc .weighed) trip)
 
 -- a stop's stack: its region begins behind those of the stops below, and has room for the rows to come; `all` are the scan's rows, `rest`
 -- those that have been weighed
 pub record StackHeld (w : List ℕ) (from : ℕ) (all rest : List Row) (chosen : List Valued) (stop : ℕ) : Type 0 where
-  pub start : startOf w stop ≡ from + below (λ s. countAt s all) stop
-  pub room : sizeOf w stop ≤ countAt stop rest
+  pub start : startPair w stop ≡ from + below (λ s. countAt s all) stop
+  pub room : stackSize w stop ≤ countAt stop rest
   pub holds : StackHolds w stop chosen
 
 pub record Held (file : List ℕ) (s : Sailings) (goal : Goal) (first end i : ℕ) (w : List ℕ) : Type 0 where

@@ -7,7 +7,7 @@ use lib.Dec.{eqb}
 use Rattle.timetable.specs.declared.Row.{Row}
 use Rattle.plan_cells.specs.Cells.{stops, pairs}
 use Rattle.plan_cells.specs.Outside.{SameOutside}
-use Rattle.plan_scan.specs.Stores.{startOf, sizeOf}
+use Rattle.plan_stacks.specs.Stacks.{startPair, stackSize}
 
 -- how many rows board at a stop
 unfoldable pub countAt : ℕ → List Row → ℕ
@@ -22,10 +22,10 @@ below f (suc stop) = below f stop + f stop
 -- the sizes count the rows
 pub record Counted (rows : List Row) (w w' : List ℕ) : Type 0 where
   pub outside : SameOutside stops pairs w w'
-  pub counts : (stop : ℕ) → stop < 200 → sizeOf w' stop ≡ countAt stop rows
+  pub counts : (stop : ℕ) → stop < 200 → stackSize w' stop ≡ countAt stop rows
 
 -- a region of pairs for each stop, as large as its size was; the stacks are empty
 pub record Parted (from : ℕ) (w w' : List ℕ) : Type 0 where
   pub outside : SameOutside stops pairs w w'
-  pub starts : (stop : ℕ) → stop < 200 → startOf w' stop ≡ from + below (sizeOf w) stop
-  pub empty : (stop : ℕ) → stop < 200 → sizeOf w' stop ≡ 0
+  pub starts : (stop : ℕ) → stop < 200 → startPair w' stop ≡ from + below (stackSize w) stop
+  pub empty : (stop : ℕ) → stop < 200 → stackSize w' stop ≡ 0

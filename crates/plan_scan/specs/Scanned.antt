@@ -7,11 +7,12 @@ use lib.ListN.{getD}
 use lib.Seq.{slice}
 use Rattle.plans.specs.Worth.{Valued}
 use Rattle.plans.specs.Chosen.{inTicks, Scan, scan}
-use Rattle.plan_cells.specs.Cells.{pairs, used, missing, stackStart, stackSize}
+use Rattle.plan_cells.specs.Cells.{pairs, used, missing}
+use Rattle.plan_stacks.specs.Stacks.{stackStart, stackSize}
 use Rattle.plan_rows.specs.declared.Sailings.{Sailings}
 use Rattle.plan_rows.specs.Reading.{rowsIn, tablesIn}
 use Rattle.plans.specs.declared.Goal.{Goal}
-use Rattle.plan_landing.specs.Landing.{StackHolds, Climbing}
+use Rattle.plan_stacks.specs.Chosen.{StackHolds, Climbing}
 
 -- the scan of the rows from `first` to before `end`
 abbrev pub scanIn : List ℕ → Sailings → Goal → (first end : ℕ) → Scan

@@ -3,13 +3,14 @@ ghost use mathlib.Core.Path.{_≡_};
 ghost use Prim.Native.Nat.{ℕ, _+_, _≤_, _<_};
 ghost use lib.ListN.{length};
 ghost use lib.Seq.{slice};
-ghost use Rattle.plan_cells.specs.Cells.{trips, pairs, used, keyOf};
+ghost use Rattle.plan_cells.specs.Cells.{trips, pairs, used};
+ghost use Rattle.plan_stacks.specs.Stacks.{stackSize};
 ghost use Rattle.plan_cells.specs.Outside.{SameOutside};
 ghost use Rattle.plan_rows.specs.Reading.{rowsIn, tablesIn, Stand, TablesHeld};
 ghost use Rattle.plan_scan.specs.Held.{Held};
 ghost use Rattle.plan_scan.specs.Regions.{below, Counted, Parted};
 ghost use Rattle.plan_scan.specs.Scanned.{scanIn, ScanHeld};
-ghost use Rattle.plan_scan.specs.Stores.{pairCell, paired, sizeOf, Chose, Pushable, Weighable, Weighs};
+ghost use Rattle.plan_scan.specs.Stores.{Chose, Pushable, Weighable, Weighs};
 use numbers::cell;
 use numbers::number;
 use plan_cells::MOST_STOPS;
@@ -20,11 +21,11 @@ use plan_cells::SIZES;
 use plan_cells::STOPS;
 use plan_cells::TRIPS;
 use plan_cells::fill;
-use plan_landing::KEY;
-use plan_landing::departure_of;
 use plan_landing::getting_off;
 use plan_rows::Sailings;
 use plan_rows::nth_row;
+use plan_stacks::departure_of;
+use plan_stacks::push;
 use plans::Goal;
 use timetable::Row;
 
@@ -55,7 +56,7 @@ pub fn scan_back(
 // How many rows board at each stop.
 fn count_boardings(file: &[u8], s: Sailings, first: usize, end: usize, work: &mut [u32])
     requires { ⌜ Stand (now file) s × (first ≤ end) × (end ≤ s .rows) × (pairs ≤ length (now work))
-        × ((stop : ℕ) → stop < 200 → sizeOf (now work) stop ≡ 0) ⌝ }
+        × ((stop : ℕ) → stop < 200 → stackSize (now work) stop ≡ 0) ⌝ }
     ensures { λ r. ⌜ Counted (slice first end (rowsIn (now (file .entry)) s)) (now (work .entry)) (now (work .exit)) ⌝ }
 {
     let mut i = first;
@@ -69,7 +70,7 @@ fn count_boardings(file: &[u8], s: Sailings, first: usize, end: usize, work: &mu
 
 // A region of pairs for each stop, one behind the other from pair `from` on; the stacks are empty.
 fn part_stacks(from: usize, work: &mut [u32])
-    requires { ⌜ (pairs ≤ length (now work)) × (from + below (sizeOf (now work)) 200 < 4294967296) ⌝ }
+    requires { ⌜ (pairs ≤ length (now work)) × (from + below (stackSize (now work)) 200 < 4294967296) ⌝ }
     ensures { λ r. ⌜ Parted from (now (work .entry)) (now (work .exit)) ⌝ }
 {
     let mut stop = 0;
@@ -142,7 +143,7 @@ fn choose(row: Row, i: usize, work: &mut [u32])
         return;
     }
     if size == 0 {
-        push(row, i, worth, start, work);
+        push(work, start, row.departure, i, worth);
         work[SIZES + board] = 1;
         return;
     }
@@ -151,19 +152,9 @@ fn choose(row: Row, i: usize, work: &mut [u32])
         return;
     }
     if departure_of(work[PAIRS + 2 * top]) == row.departure {
-        push(row, i, worth, top, work);
+        push(work, top, row.departure, i, worth);
     } else {
-        push(row, i, worth, top + 1, work);
+        push(work, top + 1, row.departure, i, worth);
         work[SIZES + board] = cell(size + 1);
     }
-}
-
-// An entry at pair `pair`.
-fn push(row: Row, i: usize, worth: u32, pair: usize, work: &mut [u32])
-    requires { ⌜ (keyOf (row .departure) i < 4294967296) × (pairCell pair + 1 < length (now work)) ⌝ }
-    ensures { λ r. ⌜ now (work .exit) ≡ paired (now (work .entry)) pair (keyOf (row .departure) i) worth ⌝ }
-{
-    let at = PAIRS + 2 * pair;
-    work[at] = cell(KEY * row.departure + i);
-    work[at + 1] = worth;
 }

@@ -1,8 +1,7 @@
 -- Two rides by their numbers: as they are read, one by one, and as one is written. Assumes nothing.
-use mathlib.Core.List.{List, [], _∷_, map}
+use mathlib.Core.List.{[], _∷_}
 use mathlib.Core.Path.{_≡_, refl}
 use Rattle.timetable.specs.Timetable.{Timetable}
-use Rattle.plans.specs.Worth.{Valued}
 use Rattle.plan_slice.specs.Slice.{written, ridesIn, boardIn, leaveIn, worthIn, withRide}
 
 abbrev pub empty : Timetable

@@ -1,11 +1,10 @@
 -- The rides read back from a plan slice: those that were written, and each by its own three numbers. Assumes nothing.
 use Prim.Native.Nat.{ℕ, zero, suc, _+_, _*_, _≤_, _<_}
 use mathlib.Core.List.{List, [], _∷_, _++_, List·Memᴰ, List·Memᴰ·head, List·Memᴰ·tail}
-use mathlib.Core.Path.{_≡_, refl, sym, ap, ap₂, subst, _∙_}
+use mathlib.Core.Path.{_≡_, refl, sym, ap, ap₂, _∙_}
 use native.Mathlib.Omega.{arith}
 use lib.ListN.{length, getD, take, length-append}
 use lib.Seq.{take-at}
-use Rattle.numbers.specs.Over.{over}
 use Rattle.timetable.specs.Timetable.{Timetable}
 use Rattle.plans.specs.Rides.{Ride, IsRide, rideOf}
 use Rattle.plans.specs.Worth.{Valued}

@@ -1,5 +1,5 @@
 -- The first chosen row at the source: what the top of the source's stack holds, and the plan that it begins. Uses a sound file's rows.
-use Prim.Native.Nat.{ℕ, suc, pred, _+_, _-_, _*_, _%_, _≤_, _<_}
+use Prim.Native.Nat.{ℕ, suc, _+_, _-_, _*_, _≤_, _<_}
 use native.Mathlib.Omega.{arith}
 use mathlib.Core.Bool.{cond}
 use mathlib.Core.List.{List, [], _∷_, _++_, List·Memᴰ}
@@ -19,13 +19,13 @@ use Rattle.plans.specs.Chosen.{Aim, inTicks, scan, choose, others, bestOf}
 use Rattle.plans.specs.Plan.{Window, wanted, upTo, windowsOf, extract, ridesFrom, latestOf, chosenFor, planWithin}
 use Rattle.plans.proofs.Choice.{choice, Choice, worthless, at-target, behind, added, same-minute}
 use Rattle.plans.proofs.BestRides.{best-boards, chosen-picked}
-use Rattle.plan_cells.specs.Cells.{Entry, entryAt, stackStart, stackSize}
+use Rattle.plan_stacks.specs.Stacks.{keyOf, entryRow, entryWorth, Entry, entryAt, stackStart, stackSize}
 use Rattle.plan_rows.specs.declared.Sailings.{Sailings}
 use Rattle.plan_rows.specs.Reading.{timetableIn}
 use Rattle.plan_rows.proofs.Cuts.{Idle, scanPart, part-chosen, part-first, part-rides}
-use Rattle.plan_landing.specs.Landing.{atStop, entryOf, EntryFits}
-use Rattle.plan_landing.proofs.AtStop.{first-open-at-stop, first-open-at, first-open-none, at-stop-from, at-stop-member}
-use Rattle.plan_landing.proofs.Stack.{stack-size, entry-at}
+use Rattle.plan_stacks.specs.Chosen.{atStop, entryOf, EntryFits}
+use Rattle.plan_stacks.proofs.AtStop.{first-open-at-stop, first-open-at, first-open-none, at-stop-from, at-stop-member}
+use Rattle.plan_stacks.proofs.Entries.{stack-size, entry-at}
 use Rattle.plan_scan.specs.Scanned.{ScanHeld}
 use Rattle.plan_whole.specs.Steps.{Laid, planIn}
 
@@ -91,18 +91,14 @@ module _
     abbrev size : ℕ
     size = stackSize work (q .source)
 
-    -- the cell of the top of the source's stack
-    abbrev pub top : ℕ
-    top = 2400 + 2 * (getD work (2000 + q .source) 0 + size - 1)
-
     abbrev rides : ℕ → Valued → List Valued
     rides target v = extract target (upTo (q .source) (q .minute) (some v)) (chosen target)
 
     -- what the top of the stack tells of the plan
     pub record Top (target : ℕ) : Type 0 where
       pub ride : Valued
-      pub row : getD work top 0 % 2048 ≡ ride .ride .board
-      pub worth : getD work (top + 1) 0 ≡ ride .worth
+      pub row : entryRow work (stackStart work (q .source)) (size - 1) ≡ ride .ride .board
+      pub worth : entryWorth work (stackStart work (q .source)) (size - 1) ≡ ride .worth
       pub first-here : firstOpen (chosen target) (q .source) (q .minute) ≡ some ride
       pub is-plan :
           planIn file s q bound
@@ -164,14 +160,11 @@ module _
           (part-rides t (laid .timely) q bound first end (laid .cut) ordered idle
           ∙ ap (λ (o : Option Valued). extract (q .target) (upTo (q .source) (q .minute) o) (chosen (q .target))) e)
 
-      top-entry : 0 < size → entryAt work top ≡ entryOf ahead
+      top-entry : 0 < size → entryAt work (stackStart work (q .source) + 2 * (size - 1)) ≡ entryOf ahead
       unfolding here
       top-entry h =
-          let place : pred size + 1 ≡ size = omega arith in
-          let cell : 2400 + 2 * getD work (2000 + q .source) 0 + 2 * pred size ≡ top = omega arith in
-          ap (entryAt work) (sym cell)
-          ∙ entry-at work (stackStart work (q .source)) size here (held .stack-holds (q .source) (laid .source)) 0 (pred size) someone
-          (let z : 0 + suc (pred size) ≡ size = omega arith in z)
+          entry-at work (stackStart work (q .source)) size here (held .stack-holds (q .source) (laid .source)) 0 (size - 1) someone
+          (let z : 0 + suc (size - 1) ≡ size = omega arith in z)
 
       entry-fits : 0 < size → EntryFits ahead
       unfolding here
@@ -185,10 +178,10 @@ module _
         λ h.
             let entry = top-entry h in
             let fits = entry-fits h in
-            let key : getD work top 0 ≡ 2048 * ahead .ride .departs + ahead .ride .board = ap (λ (x : Entry). x .key) entry in
+            let key : getD work (stackStart work (q .source) + 2 * (size - 1)) 0 ≡ keyOf (ahead .ride .departs) (ahead .ride .board) = ap (λ (x : Entry). x .key) entry in
             record {
               ride = ahead;
-              row = (let z : getD work top 0 % 2048 ≡ ahead .ride .board = omega (arith, key, fits .row) in z);
+              row = (let z : entryRow work (stackStart work (q .source)) (size - 1) ≡ ahead .ride .board = omega (arith, key, fits .row) in z);
               worth = ap (λ (x : Entry). x .worth) entry;
               first-here = is-first h;
               is-plan = first-plan ahead (is-first h);

@@ -17,16 +17,14 @@ use file_layout::Trailer;
 use numbers::cell;
 use numbers::number;
 use plan_cells::NONE;
-use plan_cells::PAIRS;
-use plan_cells::SIZES;
-use plan_cells::STOPS;
 use plan_earliest::earliest_arrival;
 use plan_extract::write_plan;
-use plan_landing::row_of;
 use plan_rows::Sailings;
 use plan_rows::rows_before;
 use plan_scan::scan_back;
 use plan_shares::read_tables;
+use plan_stacks::stack_of;
+use plan_stacks::top;
 use plans::Goal;
 use query::Query;
 
@@ -147,18 +145,15 @@ fn plan_scanned(
     ensures { λ r. ⌜ Answers (planIn (now (file .entry)) s q (goal .bound)) r (now (plan .entry)) (now (plan .exit))
         × KeptBehind (used (s .rows)) (now (work .entry)) (now (work .exit)) ⌝ }
 {
-    let source = q.source;
-    let size = number(work[SIZES + source]);
-    if size == 0 {
+    let stack = stack_of(work, q.source);
+    if stack.size == 0 {
         return no_plan(8);
     }
-    let top = PAIRS + 2 * (number(work[STOPS + source]) + size - 1);
-    let head = row_of(work[top]);
-    let expected = work[top + 1];
-    let written = write_plan(file, s, tables, goal, first, head, end, work, plan);
+    let ahead = top(work, stack);
+    let written = write_plan(file, s, tables, goal, first, ahead.row, end, work, plan);
     Planned::Plan {
         rides: cell(written.rides),
-        expected,
+        expected: ahead.worth,
         latest: written.latest,
         bound: cell(goal.bound),
     }

@@ -13,7 +13,6 @@ use Rattle.numbers.specs.Over.{over}
 use Rattle.plans.specs.Plan.{Plan}
 use Rattle.plans.specs.Worth.{Valued}
 use Rattle.plan_slice.specs.Slice.{written}
-use Rattle.numbers.specs.Over.{over}
 use Rattle.plan_whole.specs.Answers.{answerFor, sliceAfter}
 use Rattle.planner.specs.Outcome.{PlanOutcome, refusedPlan, planAnswered}
 use Rattle.sayurimpak.specs.Desk.{DeskOutcome, refused, rideBytes, planBytes, deskAnswered}

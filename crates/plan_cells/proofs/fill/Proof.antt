@@ -1,9 +1,9 @@
 -- `plan_cells::fill` meets its contract: so far `i - at` cells are filled. Assumes nothing.
 use Prim.Native.Nat.{_+_, _-_, _≤_}
-use mathlib.Core.Path.{_≡_, ap, sym, _∙_}
+use mathlib.Core.Path.{_≡_, ap, _∙_}
 use native.Mathlib.Omega.{arith}
 use borrow.Author.Needs.{needs}
-use lib.ListN.{length, set, length-set}
+use lib.ListN.{length}
 use Rattle.plan_cells.specs.Cells.{filled}
 use Rattle.plan_cells.proofs.Filled.{filled-none, filled-on, filled-to, length-filled}
 use Rattle.plan_cells.proofs.fill.Statement.{statement}

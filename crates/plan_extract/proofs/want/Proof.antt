@@ -1,8 +1,8 @@
 -- `plan_extract::want` meets its contract: the entries above the one that the loop is at are passed. Assumes nothing.
-use Prim.Native.Nat.{_+_, _*_, _%_}
-use mathlib.Core.Path.{_≡_, ap}
+use Prim.Native.Nat.{_+_, _%_}
+use mathlib.Core.Path.{_≡_}
 use native.Mathlib.Omega.{arith}
-use Rattle.plan_cells.specs.Cells.{stackStart, stackSize}
+use Rattle.plan_stacks.specs.Stacks.{keyStep, stackStart, stackSize}
 use lib.ListN.{length-set}
 use Rattle.plan_extract.proofs.Passing.{Down}
 use Rattle.plan_extract.proofs.Passing as passing
@@ -10,47 +10,20 @@ use Rattle.plan_extract.proofs.want.Statement.{statement}
 use Rattle.plan_extract.proofs.want.Tie as tie
 
 abbrev Inv-loop : tie.InvT-loop
-Inv-loop land arrival landing work₀ size start entry₀ key₀ work entry key =
+Inv-loop land arrival landing work₀ entry₀ key₀ work entry key =
     Down work₀ work (stackStart work₀ land) (stackSize work₀ land) arrival landing entry key
 
 abbrev μ-loop : tie.MeasureT-loop
-μ-loop land arrival landing work₀ size start entry₀ key₀ work entry key = entry
+μ-loop land arrival landing work₀ entry₀ key₀ work entry key = entry
 
-add-number : tie.Need-add-number Inv-loop μ-loop
-add-number c = omega arith
-
-mul-number : tie.Need-mul-number Inv-loop μ-loop
-mul-number c = omega arith
-
-slice-read-number : tie.Need-slice-read-number Inv-loop μ-loop
-slice-read-number c = omega arith
-
-number-requires : tie.Need-number-requires Inv-loop μ-loop
-number-requires c κs = tt
-
-add-number-2 : tie.Need-add-number-2 Inv-loop μ-loop
-add-number-2 c = omega arith
-
-mul-number-2 : tie.Need-mul-number-2 Inv-loop μ-loop
-mul-number-2 c = omega arith
-
-slice-read-number-2 : tie.Need-slice-read-number-2 Inv-loop μ-loop
-slice-read-number-2 c = omega arith
-
-number-requires-2 : tie.Need-number-requires-2 Inv-loop μ-loop
-number-requires-2 c κs = tt
-
-mul-start : tie.Need-mul-start Inv-loop μ-loop
-mul-start c = omega arith
-
-add-start : tie.Need-add-start Inv-loop μ-loop
-add-start c = omega arith
+stack-of-requires : tie.Need-stack-of-requires Inv-loop μ-loop
+stack-of-requires c κs = (omega arith, omega arith)
 
 first-open-requires : tie.Need-first-open-requires Inv-loop μ-loop
 first-open-requires c κs =
-    let a = c .before .before .before .before .before .before in
+    let a = c .before .before .before .before in
     passing.falling-there (a .args .work .now) (a .args .land) (a .args .arrival) (a .args .landing) (a .pre)
-    (ap (λ k. 2400 + 2 * k) (c .before .number2 .ensures .0)) (c .before .before .before .number .ensures .0)
+    (c .before .stack-of .ensures .0) (c .before .stack-of .ensures .1)
 
 mul-key : tie.Need-mul-key Inv-loop μ-loop
 mul-key c = omega arith
@@ -60,9 +33,9 @@ slice-read-key c = omega arith
 
 loop-holds : tie.Need-loop-holds Inv-loop μ-loop
 loop-holds c =
-    let a = c .before .before .before .before .before .before .before .before in
-    passing.down-first (a .args .work .now) (a .args .land) (a .args .arrival) (a .args .landing) (a .pre)
-    (ap (λ k. 2400 + 2 * k) (c .before .before .before .number2 .ensures .0)) (c .before .before .before .before .before .number .ensures .0)
+    let a = c .before .before .before .before .before .before in
+    let stack = c .before .before .before .stack-of in
+    passing.down-first (a .args .work .now) (a .args .land) (a .args .arrival) (a .args .landing) (a .pre) (stack .ensures .0) (stack .ensures .1)
     (c .before .first-open .ensures)
 
 departure-of-requires : tie.Need-departure-of-requires Inv-loop μ-loop
@@ -97,11 +70,11 @@ loop-less c = omega arith
 
 loop-again : tie.Need-loop-again Inv-loop μ-loop
 loop-again c =
-    let a = c .before .before .before .before .before .before .before .before .before .before .before .before .before .before in
+    let a = c .before .before .before .before .before .before .before .before .before .before .before .before in
     let l = c .before .before .before .before .before .loop in
     let d = c .before .before .before .before .departure-of in
     let o = c .before .before .before .opens in
-    let here : 0 + c .before .row-of .result ≡ l .key % 2048 = omega (arith, c .before .row-of .ensures) in
+    let here : 0 + c .before .row-of .result ≡ l .key % keyStep = omega (arith, c .before .row-of .ensures) in
     passing.down-on (a .args .work .now) (a .args .land) (a .args .arrival) (a .args .landing) (a .pre) (l .inv) (0 + c .before .row-of .result)
     here (passing.missed (a .args .landing) (l .key) (d .result) (o .result) (o .ensures) (d .ensures) (c .before .before .if1 .taken))
 
@@ -122,11 +95,11 @@ same-length c = simp length-set (c .before .before .before .before .loop .inv .p
 
 returns : tie.Need-returns Inv-loop μ-loop
 returns c =
-    let a = c .before .before .before .before .before .before .before .before .before .before .before .before .before in
+    let a = c .before .before .before .before .before .before .before .before .before .before .before in
     let l = c .before .before .before .before .loop in
     let d = c .before .before .before .departure-of in
     let o = c .before .before .opens in
-    let here : 0 + c .row-of2 .result ≡ l .key % 2048 = omega (arith, c .row-of2 .ensures) in
+    let here : 0 + c .row-of2 .result ≡ l .key % keyStep = omega (arith, c .row-of2 .ensures) in
     passing.down-last (a .args .work .now) (a .args .land) (a .args .arrival) (a .args .landing) (a .pre) (l .inv) (0 + c .row-of2 .result) here
     (passing.reached (a .args .landing) (l .key) (d .result) (o .result) (o .ensures) (d .ensures) (c .before .if1 .left))
 
@@ -136,16 +109,7 @@ want-spec =
     (tie.spec
     Inv-loop
     μ-loop
-    add-number
-    mul-number
-    slice-read-number
-    number-requires
-    add-number-2
-    mul-number-2
-    slice-read-number-2
-    number-requires-2
-    mul-start
-    add-start
+    stack-of-requires
     first-open-requires
     mul-key
     slice-read-key

@@ -1,5 +1,5 @@
 -- `plan_extract::write_plan` meets its contract: the marks are cleared but for the first row's, and the pass begins there. Assumes nothing.
-use Prim.Native.Nat.{ℕ, _+_, _*_, _<_}
+use Prim.Native.Nat.{ℕ, _+_, _<_}
 use mathlib.Core.List.{List}
 use mathlib.Core.Path.{sym, subst, _∙_}
 use native.Mathlib.Nat.{zero-add}

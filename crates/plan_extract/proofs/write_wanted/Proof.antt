@@ -1,5 +1,5 @@
 -- `plan_extract::write_wanted` meets its contract: at row i the plan is written as far as the rows before it. Assumes nothing.
-use Prim.Native.Nat.{_+_, _-_, _*_, _≤_, _<_}
+use Prim.Native.Nat.{_+_, _-_, _≤_, _<_}
 use mathlib.Core.List.{List, List·Memᴰ}
 use mathlib.Core.Logic.{_≢_}
 use mathlib.Core.Path.{sym, ap, _∙_}

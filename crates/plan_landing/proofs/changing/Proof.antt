@@ -8,6 +8,7 @@ use borrow.Author.Tests.{leb-true, leb-false, not-true, not-false}
 use lib.ListN.{getD}
 use Rattle.timetable.specs.Classes.{whole}
 use Rattle.plans.specs.Worth.{up}
+use Rattle.plan_stacks.specs.Stacks.{keyStep}
 use Rattle.plan_landing.specs.Boarding.{Boarding}
 use Rattle.plan_landing.proofs.Turns.{Turn, Room, MoreRoom, begins, room, more-room, turns, ends}
 use Rattle.plan_landing.proofs.changing.Statement.{statement}
@@ -100,7 +101,7 @@ loop-holds c =
     λ start first held caught stands boarding.
     let a = c .before .before .before .before .args in
     begins boarding (a .at) (c .departure-of .result) stands
-    (c .departure-of .ensures ∙ ap (λ e. getD (a .work .now) e 0 / 2048) stands)
+    (c .departure-of .ensures ∙ ap (λ e. getD (a .work .now) e 0 / keyStep) stands)
 
 opens-requires : tie.Need-opens-requires Inv-loop μ-loop
 opens-requires c κs = tt

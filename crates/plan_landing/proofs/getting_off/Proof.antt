@@ -8,9 +8,9 @@ use lib.ListN.{getD}
 use borrow.Author.Needs.{needs}
 use borrow.Author.Tests.{leb-true, leb-false, not-true, not-false}
 use Rattle.timetable.specs.Timetable.{longest}
-use Rattle.plan_cells.specs.Cells.{stackStart, stackSize}
+use Rattle.plan_stacks.specs.Stacks.{keyStep, stackStart, stackSize, Falling, FirstOpenAt, entryDeparture}
 use Rattle.plans.specs.Worth.{Valued, caught}
-use Rattle.plan_landing.specs.Landing.{Ready, Falling, FirstOpenAt, departureAt}
+use Rattle.plan_landing.specs.Landing.{Ready}
 use Rattle.plan_landing.proofs.Landings.{falling, none-there, all-gone, boarding, expected-fits, off-late, off-there, off-unsafe, off-changing}
 use Rattle.plan_landing.proofs.getting_off.Statement.{statement}
 use Rattle.plan_landing.proofs.getting_off.Tie as tie
@@ -25,14 +25,14 @@ begun c = c .before .before .before .before .before
 abbrev timed-there : tie.Then1 → tie.After-number
 timed-there c = c .before .before .before .before
 
-abbrev elsewhere : tie.After-number3 → tie.Else1
-elsewhere c = c .before .before .before .before
+abbrev elsewhere : tie.After-stack-of → tie.Else1
+elsewhere c = c .before
 
-abbrev timed : tie.After-number3 → tie.After-number
+abbrev timed : tie.After-stack-of → tie.After-number
 timed c = elsewhere c .before .before .before .before
 
-abbrev stacked : tie.After-opens → tie.After-number3
-stacked c = c .before .before .before .before
+abbrev stacked : tie.After-opens → tie.After-stack-of
+stacked c = c .before .before .before .before .before
 
 -- a + M, as the class's block has it
 abbrev landing : tie.After-number → ℕ
@@ -46,35 +46,25 @@ lands c shares chosen ready =
     ap (λ m. a .row .arrival + m)
     (c .number .ensures .0 ∙ ap (λ k. getD (a .tables .now) k 0) (add-zero (256 * a .row .class)) ∙ ready .block .longest-held)
 
--- the stack's size and first cell, as read
-size-read : (c : tie.After-number3) →
-    let a = begun (timed c) .args in
-    c .before .before .number2 .result ≡ stackSize (a .work .now) (a .row .land)
-size-read c = c .before .before .number2 .ensures .0
-
-start-read : (c : tie.After-number3) →
-    let a = begun (timed c) .args in
-    2400 + 2 * c .number3 .result ≡ stackStart (a .work .now) (a .row .land)
-start-read c = ap (λ x. 2400 + 2 * x) (c .number3 .ensures .0)
-
 some-entry : (c : tie.Else3) →
-    let a = begun (timed (c .before)) .args in
+    let a = begun (timed (c .before .before)) .args in
     0 < stackSize (a .work .now) (a .row .land)
-some-entry c = omega (arith, c .if3 .left, size-read (c .before))
+some-entry c = omega (arith, c .if3 .left, c .before .before .stack-of .ensures .1)
 
 -- the bottom entry's departure, as read
 bottom-read : (c : tie.After-opens) →
     let a = begun (timed (stacked c)) .args in
-    c .before .departure-of .result ≡ departureAt (a .work .now) (stackStart (a .work .now) (a .row .land)) 0
+    c .before .departure-of .result ≡ entryDeparture (a .work .now) (stackStart (a .work .now) (a .row .land)) 0
 bottom-read c =
     let a = begun (timed (stacked c)) .args in
-    let there : 2400 + 2 * stacked c .number3 .result ≡ stackStart (a .work .now) (a .row .land) + 2 * 0 = omega (arith, start-read (stacked c)) in
-    c .before .departure-of .ensures ∙ ap (λ x. getD (a .work .now) x 0 / 2048) there
+    let s = stacked c .stack-of in
+    let there : s .result .start ≡ stackStart (a .work .now) (a .row .land) + 2 * 0 = omega (arith, s .ensures .0) in
+    c .before .departure-of .ensures ∙ ap (λ x. getD (a .work .now) x 0 / keyStep) there
 
 gone : (c : tie.Then4) →
     let t = timed (stacked (c .before)) in
     let a = begun t .args in
-    departureAt (a .work .now) (stackStart (a .work .now) (a .row .land)) 0 < landing t
+    entryDeparture (a .work .now) (stackStart (a .work .now) (a .row .land)) 0 < landing t
 gone c =
     let t = timed (stacked (c .before)) in
     subst (λ d. d < landing t) (bottom-read (c .before))
@@ -84,7 +74,7 @@ gone c =
 late : (c : tie.Else4) →
     let t = timed (stacked (c .before)) in
     let a = begun t .args in
-    landing t ≤ departureAt (a .work .now) (stackStart (a .work .now) (a .row .land)) 0
+    landing t ≤ entryDeparture (a .work .now) (stackStart (a .work .now) (a .row .land)) 0
 late c =
     let t = timed (stacked (c .before)) in
     subst (λ d. landing t ≤ d) (bottom-read (c .before))
@@ -98,8 +88,8 @@ found : (c : tie.After-first-open) →
 found c =
     let s = stacked (c .before .before) in
     let a = begun (timed s) .args in
-    moved (λ start size. FirstOpenAt (a .work .now) start size (a .row .arrival) (c .first-open .result)) (sym (start-read s))
-    (sym (size-read s)) (c .first-open .ensures)
+    moved (λ start size. FirstOpenAt (a .work .now) start size (a .row .arrival) (c .first-open .result)) (sym (s .stack-of .ensures .0))
+    (sym (s .stack-of .ensures .1)) (c .first-open .ensures)
 
 mul-class : tie.Need-mul-class
 mul-class c = search needs
@@ -161,43 +151,17 @@ returns-2 c =
     ∙ off-there ready (a .goal) (landing t) (lands t shares chosen ready) (there .if1 .taken)
     (sym (soon .ensures) ∙ not-false (soon .result) (c .before .before .before .if2 .left))
 
-add-number-2 : tie.Need-add-number-2
-add-number-2 c = search needs
-
-mul-number-2 : tie.Need-mul-number-2
-mul-number-2 c = search needs
-
-shared-slice-read-number-2 : tie.Need-shared-slice-read-number-2
-shared-slice-read-number-2 c = search needs
-
-number-requires-2 : tie.Need-number-requires-2
-number-requires-2 c κs = search needs
-
-add-number-3 : tie.Need-add-number-3
-add-number-3 c = search needs
-
-mul-number-3 : tie.Need-mul-number-3
-mul-number-3 c = search needs
-
-shared-slice-read-number-3 : tie.Need-shared-slice-read-number-3
-shared-slice-read-number-3 c = search needs
-
-number-requires-3 : tie.Need-number-requires-3
-number-requires-3 c κs = search needs
-
-mul-start : tie.Need-mul-start
-mul-start c = search needs
-
-add-start : tie.Need-add-start
-add-start c = search needs
+stack-of-requires : tie.Need-stack-of-requires
+stack-of-requires c κs = search needs
 
 returns-3 : tie.Need-returns-3
 returns-3 c =
     λ shares chosen ready.
-    let t = timed (c .before) in
+    let s = c .before .before in
+    let t = timed s in
     let goal = begun t .args .goal in
-    off-unsafe ready goal (landing t) (lands t shares chosen ready) (elsewhere (c .before) .if1 .left)
-    (none-there ready (landing t) (sym (size-read (c .before)) ∙ c .if3 .taken))
+    off-unsafe ready goal (landing t) (lands t shares chosen ready) (elsewhere s .if1 .left)
+    (none-there ready (landing t) (sym (s .stack-of .ensures .1) ∙ c .if3 .taken))
 
 mul-departure-of : tie.Need-mul-departure-of
 mul-departure-of c = search needs
@@ -224,7 +188,7 @@ first-open-requires : tie.Need-first-open-requires
 first-open-requires c κs =
     let s = stacked (c .before) in
     let begin = begun (timed s) in
-    moved (λ start size. Falling (begin .args .work .now) start size (begin .args .row .arrival)) (start-read s) (size-read s)
+    moved (λ start size. Falling (begin .args .work .now) start size (begin .args .row .arrival)) (s .stack-of .ensures .0) (s .stack-of .ensures .1)
     (falling (begin .pre .ready) (begin .args .row .arrival) (some-entry (c .before .before .before .before)) (omega (arith, late c)))
 
 add-changing : tie.Need-add-changing
@@ -277,16 +241,7 @@ getting-off-spec =
     shared-slice-read-result
     add-result-2
     returns-2
-    add-number-2
-    mul-number-2
-    shared-slice-read-number-2
-    number-requires-2
-    add-number-3
-    mul-number-3
-    shared-slice-read-number-3
-    number-requires-3
-    mul-start
-    add-start
+    stack-of-requires
     returns-3
     mul-departure-of
     shared-slice-read-departure-of

@@ -64,7 +64,7 @@ returns-2 : tie.Need-returns-2
 returns-2 c =
     let a = c .before .before .before .before .before .before .before .before .before .before .before .before .args in
     chose-alone (a .row) (a .i) (a .work .now) (c .before .before .before .before .before .before .before .before .number .result) (c .before .before .before .before .before .before .number2 .result) (c .before .before .before .before .before .before .before .before .number .ensures .0)
-    (c .before .before .before .before .before .before .number2 .ensures .0) (c .before .before .before .before .before .if1 .left) (c .before .before .push .last .1 .1 .1 .1 .0) (c .before .before .before .before .if2 .taken) (c .before .before .push .ensures)
+    (c .before .before .before .before .before .before .number2 .ensures .0) (c .before .before .before .before .before .if1 .left) (c .before .before .push .last .0) (c .before .before .before .before .if2 .taken) (c .before .before .push .ensures)
 
 add-top : tie.Need-add-top
 add-top c = search needs
@@ -139,7 +139,7 @@ returns-4 : tie.Need-returns-4
 returns-4 c =
     let a = c .before .before .before .before .before .before .before .before .before .before .before .before .before .before .before .before .before .before .args in
     chose-replacing (a .row) (a .i) (a .work .now) (c .before .before .before .before .before .before .before .before .before .before .before .before .before .before .number .result) (c .before .before .before .before .before .before .before .before .before .before .before .before .number2 .result) (c .before .before .before .before .before .before .before .before .before .before .before .before .before .before .number .ensures .0)
-    (c .before .before .before .before .before .before .before .before .before .before .before .before .number2 .ensures .0) (c .before .before .before .before .before .before .before .before .before .before .before .if1 .left) (c .before .before .push2 .last .1 .1 .1 .1 .0) (c .before .before .before .before .before .before .before .before .before .before .if2 .left) (c .before .before .before .before .before .before .before .before .if3 .left)
+    (c .before .before .before .before .before .before .before .before .before .before .before .before .number2 .ensures .0) (c .before .before .before .before .before .before .before .before .before .before .before .if1 .left) (c .before .before .push2 .last .0) (c .before .before .before .before .before .before .before .before .before .before .if2 .left) (c .before .before .before .before .before .before .before .before .if3 .left)
     (sym (c .before .before .before .before .before .before .departure-of .ensures) ∙ c .before .before .before .before .if4 .taken) (c .before .before .push2 .ensures)
 
 same-length-3 : tie.Need-same-length-3
@@ -149,7 +149,7 @@ returns-5 : tie.Need-returns-5
 returns-5 c =
     let a = c .before .before .before .before .before .before .before .before .before .before .before .before .before .before .before .before .before .before .before .args in
     chose-ahead (a .row) (a .i) (a .work .now) (c .before .before .before .before .before .before .before .before .before .before .before .before .before .before .before .number .result) (c .before .before .before .before .before .before .before .before .before .before .before .before .before .number2 .result) (c .before .before .before .before .before .before .before .before .before .before .before .before .before .before .before .number .ensures .0)
-    (c .before .before .before .before .before .before .before .before .before .before .before .before .before .number2 .ensures .0) (c .before .before .before .before .before .before .before .before .before .before .before .before .if1 .left) (c .before .before .before .push3 .last .1 .1 .1 .1 .0) (c .cell .result) (c .before .before .before .before .before .before .before .before .before .before .before .if2 .left) (c .before .before .before .before .before .before .before .before .before .if3 .left)
+    (c .before .before .before .before .before .before .before .before .before .before .before .before .before .number2 .ensures .0) (c .before .before .before .before .before .before .before .before .before .before .before .before .if1 .left) (c .before .before .before .push3 .last .0) (c .cell .result) (c .before .before .before .before .before .before .before .before .before .before .before .if2 .left) (c .before .before .before .before .before .before .before .before .before .if3 .left)
     (λ q. c .before .before .before .before .before .if4 .left (c .before .before .before .before .before .before .before .departure-of .ensures ∙ q)) (c .before .before .before .push3 .ensures) (c .cell .ensures)
 
 pub choose-spec : {M : Type 1} → statement M

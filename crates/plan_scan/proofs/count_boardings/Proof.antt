@@ -10,7 +10,7 @@ use Rattle.timetable.specs.Timetable.{noRow}
 use Rattle.timetable.specs.declared.Row.{Row}
 use Rattle.plan_cells.specs.Cells.{sizes}
 use Rattle.plan_rows.specs.Reading.{rowsIn}
-use Rattle.plan_scan.specs.Stores.{sizeOf}
+use Rattle.plan_stacks.specs.Stacks.{stackSize}
 use Rattle.plan_scan.proofs.Regions.{count-few}
 use Rattle.plan_scan.proofs.Counting.{Counting, counting-begins, counting-on, counting-done}
 use Rattle.plan_scan.proofs.count_boardings.Statement.{statement}
@@ -36,7 +36,7 @@ boards c =
     let a = c .before .before .before .before .before .before in
     subst (λ (r : Row). r .board < 200) (sym (c .before .nth-row .ensures .0)) (a .pre .0 .row-fits (c .before .before .before .loop .i) (omega arith) .board)
 
-few : (c : tie.After-struct-known Inv-loop μ-loop) → sizeOf (c .before .before .before .loop .work) (c .before .nth-row .result .board) ≤ 2000
+few : (c : tie.After-struct-known Inv-loop μ-loop) → stackSize (c .before .before .before .loop .work) (c .before .nth-row .result .board) ≤ 2000
 few c =
     let a = c .before .before .before .before .before .before in
     let rows = rowsIn (a .args .file .now) (a .args .s) in
@@ -54,7 +54,7 @@ counted-on :
     → let a = c .before .before .before .before .before .before .args in
     let l = c .before .before .before .loop in
     Counting (slice (a .first) (a .end) (rowsIn (a .file .now) (a .s))) (slice (l .i + 1) (a .end) (rowsIn (a .file .now) (a .s))) (a .work .now)
-    (set (l .work) (sizes + c .before .nth-row .result .board) (sizeOf (l .work) (c .before .nth-row .result .board) + 1))
+    (set (l .work) (sizes + c .before .nth-row .result .board) (stackSize (l .work) (c .before .nth-row .result .board) + 1))
 counted-on c =
     let a = c .before .before .before .before .before .before in
     let l = c .before .before .before .loop in

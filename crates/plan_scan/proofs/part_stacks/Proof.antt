@@ -6,7 +6,7 @@ use native.Mathlib.Omega.{arith}
 use lib.ListN.{getD, set, length-set}
 use lib.Seq.{getD-set-other}
 use Rattle.plan_cells.specs.Cells.{stops, sizes}
-use Rattle.plan_scan.specs.Stores.{sizeOf}
+use Rattle.plan_stacks.specs.Stacks.{stackSize}
 use Rattle.plan_scan.specs.Regions.{below}
 use Rattle.plan_scan.proofs.Regions.{below-later, below-next}
 use Rattle.plan_scan.proofs.Parting.{Parting, parting-begins, parting-on}
@@ -14,7 +14,7 @@ use Rattle.plan_scan.proofs.part_stacks.Statement.{statement}
 use Rattle.plan_scan.proofs.part_stacks.Tie as tie
 
 abbrev Inv-loop : tie.InvT-loop
-Inv-loop from work₀ stop₀ start₀ work stop start = (stop ≤ 200) × (start ≡ from + below (sizeOf work₀) stop) × Parting from stop work₀ work
+Inv-loop from work₀ stop₀ start₀ work stop start = (stop ≤ 200) × (start ≡ from + below (stackSize work₀) stop) × Parting from stop work₀ work
 
 abbrev μ-loop : tie.MeasureT-loop
 μ-loop from work₀ stop₀ start₀ work stop start = 200 - stop
@@ -22,7 +22,7 @@ abbrev μ-loop : tie.MeasureT-loop
 cell-requires : tie.Need-cell-requires Inv-loop μ-loop
 cell-requires c κs = omega arith
 
-nothing : (w : List ℕ) (from start : ℕ) → start ≡ from → start ≡ from + below (sizeOf w) 0
+nothing : (w : List ℕ) (from start : ℕ) → start ≡ from → start ≡ from + below (stackSize w) 0
 unfolding below
 nothing w from start e = omega arith
 
@@ -42,15 +42,15 @@ slice-write-work c = omega (arith, c .before .loop .inv .2 .outside .same-length
 size-left :
     (c : tie.After-slice-known2 Inv-loop μ-loop)
     → let l = c .before .before .loop in
-    getD (set (l .work) (stops + l .stop) (l .start)) (sizes + l .stop) 0 ≡ sizeOf (c .before .before .before .before .before .args .work .now) (l .stop)
+    getD (set (l .work) (stops + l .stop) (l .start)) (sizes + l .stop) 0 ≡ stackSize (c .before .before .before .before .before .args .work .now) (l .stop)
 size-left c =
     let l = c .before .before .loop in
     getD-set-other (l .work) (stops + l .stop) (sizes + l .stop) (l .start) 0 (λ e. omega arith)
     ∙ l .inv .2 .left (l .stop) (let z : l .stop ≤ l .stop = omega arith in z) (omega arith)
 
 further :
-    (w : List ℕ) (from start stop size : ℕ) → start ≡ from + below (sizeOf w) stop → size ≡ sizeOf w stop → start + size ≡ from + below (sizeOf w) (stop + 1)
-further w from start stop size e f = omega (arith, below-next (sizeOf w) stop)
+    (w : List ℕ) (from start stop size : ℕ) → start ≡ from + below (stackSize w) stop → size ≡ stackSize w stop → start + size ≡ from + below (stackSize w) (stop + 1)
+further w from start stop size e f = omega (arith, below-next (stackSize w) stop)
 
 add-start : tie.Need-add-start Inv-loop μ-loop
 add-start c = omega arith
@@ -64,7 +64,7 @@ slice-read-start c = simp length-set (omega (arith, c .before .before .loop .inv
 add-start-2 : tie.Need-add-start-2 Inv-loop μ-loop
 add-start-2 c =
     let a = c .before .before .before .before .before .args in
-    omega (arith, size-left c, below-later (sizeOf (a .work .now)) (c .before .before .loop .stop) 200 (omega arith))
+    omega (arith, size-left c, below-later (stackSize (a .work .now)) (c .before .before .loop .stop) 200 (omega arith))
 
 add-work-2 : tie.Need-add-work-2 Inv-loop μ-loop
 add-work-2 c = omega arith

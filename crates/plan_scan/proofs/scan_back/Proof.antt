@@ -5,10 +5,10 @@ use mathlib.Core.Path.{_≡_}
 use native.Mathlib.Omega.{arith}
 use borrow.Author.Needs.{needs}
 use lib.ListN.{length, getD, set}
-use Rattle.plan_cells.specs.Cells.{trips, used, missing}
+use Rattle.plan_cells.specs.Cells.{trips, used, missing, pairCell}
 use Rattle.plan_cells.specs.Outside.{SameOutside}
 use Rattle.plan_cells.proofs.Outside.{outside-then}
-use Rattle.plan_scan.specs.Stores.{pairCell, sizeOf}
+use Rattle.plan_stacks.specs.Stacks.{stackSize}
 use Rattle.plan_scan.specs.Held.{Held}
 use Rattle.plan_scan.proofs.Bounds.{held-ends}
 use Rattle.plan_scan.proofs.Laid.{emptied, no-sizes, no-next, parts-fit, laid-stays, laid-held}
@@ -50,7 +50,7 @@ emptied-here c =
 room-here : (c : tie.After-fill2) → used (begun c .args .s .rows) ≤ length (c .fill2 .last .0)
 room-here c = omega (arith, begun c .pre .4, emptied-here c .same-length)
 
-no-sizes-here : (c : tie.After-fill2) → (stop : ℕ) → stop < 200 → sizeOf (c .fill2 .last .0) stop ≡ 0
+no-sizes-here : (c : tie.After-fill2) → (stop : ℕ) → stop < 200 → stackSize (c .fill2 .last .0) stop ≡ 0
 no-sizes-here c =
     let n = c .before .before .before .before .before .cell in
     no-sizes (begun c .args .s .rows) (begun c .args .work .now) (filled-trips c) (c .fill2 .last .0) (n .result) (begun c .pre .4) (n .ensures)

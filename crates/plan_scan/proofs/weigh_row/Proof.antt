@@ -5,8 +5,8 @@ use mathlib.Core.Path.{_≡_, ap₂, subst}
 use native.Mathlib.Omega.{arith}
 use lib.ListN.{getD, set, length-set}
 use Rattle.timetable.specs.declared.Row.{Row}
-use Rattle.plan_cells.specs.Cells.{trips}
-use Rattle.plan_scan.specs.Stores.{pairCell, paired, entered, Weighs, gets-off, stays-on}
+use Rattle.plan_cells.specs.Cells.{trips, pairCell, paired}
+use Rattle.plan_scan.specs.Stores.{entered, Weighs, gets-off, stays-on}
 use borrow.Author.Needs.{needs}
 use Rattle.plan_scan.proofs.weigh_row.Statement.{statement}
 use Rattle.plan_scan.proofs.weigh_row.Tie as tie

@@ -58,7 +58,7 @@ returns c =
     let r = c .before .before .earliest-arrival .ensures in (
       r .0 (a .args .q .code) ∙ ap cellOf (sym
           (earliest-there (a .args .f) (a .args .file .now) (a .args .trailer) (a .args .q) (a .pre .0) (s .result) (s .ensures))),
-      record { same-length = r .1; kept = r .2 },
+      r .1,
     )
 
 pub earliest-in-room-spec : {M : Type 1} → statement M

@@ -67,7 +67,7 @@ kept : (c : tie.After-earliest-arrival)
 kept c =
     kept-later 2400 (used (begun (laid-out c) .args .trailer .rows)) (begun (laid-out c) .args .work .now)
     (c .earliest-arrival .last .1 .1 .1 .1 .1 .1 .1 .0) (omega arith)
-    (record { same-length = c .earliest-arrival .ensures .1; kept = c .earliest-arrival .ensures .2 })
+    (c .earliest-arrival .ensures .1)
 
 sailings-in-requires : tie.Need-sailings-in-requires
 sailings-in-requires c κs = search needs

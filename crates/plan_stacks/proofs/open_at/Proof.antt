@@ -1,4 +1,4 @@
--- `plan_landing::open_at` meets its contract: a minute and its least key tell the same. Assumes nothing.
+-- `plan_stacks::open_at` meets its contract: a minute and its least key tell the same. Assumes nothing.
 use Prim.Native.Nat.{_*_, _/_}
 use mathlib.Core.Bool.{Bool, true, false, cond}
 use mathlib.Core.Path.{_≡_, ap, _∙_}
@@ -6,9 +6,10 @@ use lib.Dec.{leb}
 use lib.ListN.{getD}
 use mir.Val.{boolByte}
 use borrow.Author.Needs.{needs}
-use Rattle.plan_landing.proofs.Search.{by-keys}
-use Rattle.plan_landing.proofs.open_at.Statement.{statement}
-use Rattle.plan_landing.proofs.open_at.Tie as tie
+use Rattle.plan_stacks.proofs.Search.{by-keys}
+use Rattle.plan_stacks.specs.Stacks.{keyStep}
+use Rattle.plan_stacks.proofs.open_at.Statement.{statement}
+use Rattle.plan_stacks.proofs.open_at.Tie as tie
 
 -- a test as a number
 counted : (one other : Bool) → one ≡ other → boolByte one ≡ cond other 1 0
@@ -37,8 +38,8 @@ returns : tie.Need-returns
 returns c =
     let a = c .before .before .before .before .args in
     let key = getD (a .work .now) (a .at) 0 in
-    counted (c .opens .result) (leb (a .minute) (key / 2048))
-    (c .opens .ensures ∙ ap (λ k. leb (2048 * a .minute) k) (c .before .number .ensures .0) ∙ by-keys (a .minute) key)
+    counted (c .opens .result) (leb (a .minute) (key / keyStep))
+    (c .opens .ensures ∙ ap (λ k. leb (keyStep * a .minute) k) (c .before .number .ensures .0) ∙ by-keys (a .minute) key)
 
 pub open-at-spec : {M : Type 1} → statement M
 open-at-spec =

@@ -1,11 +1,11 @@
--- `plan_landing::quarter` meets its contract: each turn keeps the quarter that holds the answer. Assumes nothing.
+-- `plan_stacks::quarter` meets its contract: each turn keeps the quarter that holds the answer. Assumes nothing.
 use Prim.Native.Nat.{_+_, _*_, _/_, _≤_, _<_}
 use native.Mathlib.Omega.{arith}
-use Rattle.plan_landing.specs.Landing.{departureAt}
-use Rattle.plan_landing.specs.Search.{Narrowed}
-use Rattle.plan_landing.proofs.Search.{Look, looked, at-most-one, few-steps, whole-span, quartered}
-use Rattle.plan_landing.proofs.quarter.Statement.{statement}
-use Rattle.plan_landing.proofs.quarter.Tie as tie
+use Rattle.plan_stacks.specs.Stacks.{entryDeparture}
+use Rattle.plan_stacks.specs.Search.{Narrowed}
+use Rattle.plan_stacks.proofs.Search.{Look, looked, at-most-one, few-steps, whole-span, quartered}
+use Rattle.plan_stacks.proofs.quarter.Statement.{statement}
+use Rattle.plan_stacks.proofs.quarter.Tie as tie
 
 abbrev Inv-loop : tie.InvT-loop
 Inv-loop work start minute low₀ left₀ low left =
@@ -55,29 +55,29 @@ open-at-requires-2 c κs = (omega arith, c .before .before .loop .inv .0)
 first-look : (c : tie.After-open-at Inv-loop μ-loop) →
     let l = c .before .before .loop in
     let a = c .before .before .before .before .args in
-    Look (a .minute) (departureAt (a .work .now) (a .start) (l .low + l .left / 4)) (c .open-at .result)
+    Look (a .minute) (entryDeparture (a .work .now) (a .start) (l .low + l .left / 4)) (c .open-at .result)
 first-look c =
     let l = c .before .before .loop in
     let a = c .before .before .before .before .args in
-    looked (a .minute) (departureAt (a .work .now) (a .start) (l .low + l .left / 4)) (c .open-at .ensures)
+    looked (a .minute) (entryDeparture (a .work .now) (a .start) (l .low + l .left / 4)) (c .open-at .ensures)
 
 second-look : (c : tie.After-open-at2 Inv-loop μ-loop) →
     let l = c .before .before .before .loop in
     let a = c .before .before .before .before .before .args in
-    Look (a .minute) (departureAt (a .work .now) (a .start) (l .low + 2 * (l .left / 4))) (c .open-at2 .result)
+    Look (a .minute) (entryDeparture (a .work .now) (a .start) (l .low + 2 * (l .left / 4))) (c .open-at2 .result)
 second-look c =
     let l = c .before .before .before .loop in
     let a = c .before .before .before .before .before .args in
-    looked (a .minute) (departureAt (a .work .now) (a .start) (l .low + 2 * (l .left / 4))) (c .open-at2 .ensures)
+    looked (a .minute) (entryDeparture (a .work .now) (a .start) (l .low + 2 * (l .left / 4))) (c .open-at2 .ensures)
 
 third-look : (c : tie.After-open-at3 Inv-loop μ-loop) →
     let l = c .before .before .before .before .loop in
     let a = c .before .before .before .before .before .before .args in
-    Look (a .minute) (departureAt (a .work .now) (a .start) (l .low + 3 * (l .left / 4))) (c .open-at3 .result)
+    Look (a .minute) (entryDeparture (a .work .now) (a .start) (l .low + 3 * (l .left / 4))) (c .open-at3 .result)
 third-look c =
     let l = c .before .before .before .before .loop in
     let a = c .before .before .before .before .before .before .args in
-    looked (a .minute) (departureAt (a .work .now) (a .start) (l .low + 3 * (l .left / 4))) (c .open-at3 .ensures)
+    looked (a .minute) (entryDeparture (a .work .now) (a .start) (l .low + 3 * (l .left / 4))) (c .open-at3 .ensures)
 
 steps : (c : tie.After-open-at3 Inv-loop μ-loop) →
     let step = c .before .before .before .before .loop .left / 4 in

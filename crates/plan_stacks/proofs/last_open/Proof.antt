@@ -1,12 +1,12 @@
--- `plan_landing::last_open` meets its contract: one look in a span of two entries, two in one of three. Assumes nothing.
+-- `plan_stacks::last_open` meets its contract: one look in a span of two entries, two in one of three. Assumes nothing.
 use Prim.Native.Nat.{_+_, _*_, _<_}
 use mathlib.Core.Path.{_≡_}
 use native.Mathlib.Omega.{arith}
 use borrow.Author.Needs.{needs}
-use Rattle.plan_landing.specs.Landing.{departureAt}
-use Rattle.plan_landing.proofs.Search.{Look, looked-at, at-most-one, whole-span, halved, parted}
-use Rattle.plan_landing.proofs.last_open.Statement.{statement}
-use Rattle.plan_landing.proofs.last_open.Tie as tie
+use Rattle.plan_stacks.specs.Stacks.{entryDeparture}
+use Rattle.plan_stacks.proofs.Search.{Look, looked-at, at-most-one, whole-span, halved, parted}
+use Rattle.plan_stacks.proofs.last_open.Statement.{statement}
+use Rattle.plan_stacks.proofs.last_open.Tie as tie
 
 -- a minute at which the bottom entry can be boarded is small
 soon : (c : tie.After-shared-slice-known) → c .before .args .minute < 4294967296
@@ -15,21 +15,21 @@ soon c = omega (arith, c .shared-slice-known .given (c .before .args .start + 2 
 -- the looks, each at its place
 upper-of-two : (c : tie.After-open-at) →
     let a = c .before .before .before .before .before .before .args in
-    Look (a .minute) (departureAt (a .work .now) (a .start) (a .span .low + 1)) (c .open-at .result)
+    Look (a .minute) (entryDeparture (a .work .now) (a .start) (a .span .low + 1)) (c .open-at .result)
 upper-of-two c =
     let a = c .before .before .before .before .before .before .args in
     looked-at (a .work .now) (a .start) (a .minute) (a .span .low + 1) (omega arith) (c .open-at .ensures)
 
 middle-of-three : (c : tie.After-open-at2) →
     let a = c .before .before .before .before .before .before .args in
-    Look (a .minute) (departureAt (a .work .now) (a .start) (a .span .low + 1)) (c .open-at2 .result)
+    Look (a .minute) (entryDeparture (a .work .now) (a .start) (a .span .low + 1)) (c .open-at2 .result)
 middle-of-three c =
     let a = c .before .before .before .before .before .before .args in
     looked-at (a .work .now) (a .start) (a .minute) (a .span .low + 1) (omega arith) (c .open-at2 .ensures)
 
 upper-of-three : (c : tie.After-open-at3) →
     let a = c .before .before .before .before .before .before .before .args in
-    Look (a .minute) (departureAt (a .work .now) (a .start) (a .span .low + 2)) (c .open-at3 .result)
+    Look (a .minute) (entryDeparture (a .work .now) (a .start) (a .span .low + 2)) (c .open-at3 .result)
 upper-of-three c =
     let a = c .before .before .before .before .before .before .before .args in
     looked-at (a .work .now) (a .start) (a .minute) (a .span .low + 2) (omega arith) (c .open-at3 .ensures)

@@ -1,11 +1,11 @@
--- `plan_landing::span_from_top` meets its contract: no entry from `high` up can be boarded. Assumes nothing.
+-- `plan_stacks::span_from_top` meets its contract: no entry from `high` up can be boarded. Assumes nothing.
 use Prim.Native.Nat.{_+_, _*_, _-_, _<_}
 use native.Mathlib.Omega.{arith}
-use Rattle.plan_landing.specs.Landing.{departureAt}
-use Rattle.plan_landing.specs.Search.{Narrowed}
-use Rattle.plan_landing.proofs.Search.{Look, looked, saw-open, saw-gone, raised, between}
-use Rattle.plan_landing.proofs.span_from_top.Statement.{statement}
-use Rattle.plan_landing.proofs.span_from_top.Tie as tie
+use Rattle.plan_stacks.specs.Stacks.{entryDeparture}
+use Rattle.plan_stacks.specs.Search.{Narrowed}
+use Rattle.plan_stacks.proofs.Search.{Look, looked, saw-open, saw-gone, raised, between}
+use Rattle.plan_stacks.proofs.span_from_top.Statement.{statement}
+use Rattle.plan_stacks.proofs.span_from_top.Tie as tie
 
 abbrev Inv-loop : tie.InvT-loop
 Inv-loop work start size minute high₀ step₀ high step =
@@ -18,11 +18,11 @@ abbrev μ-loop : tie.MeasureT-loop
 seen : (c : tie.After-open-at Inv-loop μ-loop) →
     let l = c .before .before .loop in
     let a = c .before .before .before .before .args in
-    Look (a .minute) (departureAt (a .work .now) (a .start) (l .high - l .step)) (c .open-at .result)
+    Look (a .minute) (entryDeparture (a .work .now) (a .start) (l .high - l .step)) (c .open-at .result)
 seen c =
     let l = c .before .before .loop in
     let a = c .before .before .before .before .args in
-    looked (a .minute) (departureAt (a .work .now) (a .start) (l .high - l .step)) (c .open-at .ensures)
+    looked (a .minute) (entryDeparture (a .work .now) (a .start) (l .high - l .step)) (c .open-at .ensures)
 
 loop-holds : tie.Need-loop-holds Inv-loop μ-loop
 loop-holds c =

@@ -11,11 +11,10 @@ use Rattle.laws.proofs.Members.{head-or-later}
 use Rattle.laws.proofs.Places.{member-at, place-of}
 use Rattle.laws.proofs.Tests.{ifb}
 use Rattle.plans.specs.Worth.{Valued}
-use Rattle.plan_cells.specs.Cells.{Entry, stackStart, stackSize}
-use Rattle.plan_landing.specs.Landing.{atStop, StackHolds, EntryFits, Climbing, departureAt}
-use Rattle.plan_landing.proofs.AtStop.{at-stop-from, at-stop-member}
-use Rattle.plan_landing.proofs.Stack.{stack-size, entry-at}
-use Rattle.plan_extract.specs.Marks.{entryRow}
+use Rattle.plan_stacks.specs.Stacks.{keyStep, Entry, stackStart, stackSize, entryDeparture, entryRow}
+use Rattle.plan_stacks.specs.Chosen.{atStop, StackHolds, EntryFits, Climbing}
+use Rattle.plan_stacks.proofs.AtStop.{at-stop-from, at-stop-member}
+use Rattle.plan_stacks.proofs.Entries.{stack-size, entry-at}
 
 -- a chosen ride that boards at the stop is one of its rides
 at-stop-holds : (stop : ℕ) (vs : List Valued) {v : Valued} → List·Memᴰ v vs → v .ride .from ≡ stop → List·Memᴰ v (atStop stop vs)
@@ -32,7 +31,7 @@ pub record Stands (work : List ℕ) (stop : ℕ) (chosen : List Valued) (place :
   pub inside : place < stackSize work stop
   pub member : List·Memᴰ v chosen
   pub from : v .ride .from ≡ stop
-  pub departs : departureAt work (stackStart work stop) place ≡ v .ride .departs
+  pub departs : entryDeparture work (stackStart work stop) place ≡ v .ride .departs
   pub row : entryRow work (stackStart work stop) place ≡ v .ride .board
 
 module _ (work : List ℕ) (stop : ℕ) (chosen : List Valued) (holds : StackHolds work stop chosen) (climbing : Climbing stop chosen) where
@@ -47,14 +46,14 @@ module _ (work : List ℕ) (stop : ℕ) (chosen : List Valued) (holds : StackHol
       let v = getD there down d in
       let below : down < length there = omega (arith, size-is) in
       let fits : EntryFits v = climbing .fits v (member-at there down d below) in
-      let key : getD work (stackStart work stop + 2 * place) 0 ≡ 2048 * v .ride .departs + v .ride .board =
+      let key : getD work (stackStart work stop + 2 * place) 0 ≡ keyStep * v .ride .departs + v .ride .board =
       ap (λ (x : Entry). x .key) (entry-at work (stackStart work stop) (stackSize work stop) there holds down place d e) in
       record {
         inside = (let z : place < stackSize work stop = omega arith in z);
         member = at-stop-member stop chosen v (member-at there down d below);
         from = at-stop-from stop chosen down d below;
-        departs = (let z : getD work (stackStart work stop + 2 * place) 0 / 2048 ≡ v .ride .departs = omega (arith, fits .row) in z);
-        row = (let z : getD work (stackStart work stop + 2 * place) 0 % 2048 ≡ v .ride .board = omega (arith, fits .row) in z);
+        departs = (let z : getD work (stackStart work stop + 2 * place) 0 / keyStep ≡ v .ride .departs = omega (arith, fits .row) in z);
+        row = (let z : getD work (stackStart work stop + 2 * place) 0 % keyStep ≡ v .ride .board = omega (arith, fits .row) in z);
       }
 
   -- each entry is a ride, whatever stands for one where there is none
@@ -76,7 +75,7 @@ module _ (work : List ℕ) (stop : ℕ) (chosen : List Valued) (holds : StackHol
 
   -- departures fall from the bottom up
   pub falls : (d : Valued) (k l : ℕ) → k < l → l < stackSize work stop
-      → departureAt work (stackStart work stop) l < departureAt work (stackStart work stop) k
+      → entryDeparture work (stackStart work stop) l < entryDeparture work (stackStart work stop) k
   falls d k l h below =
       let size = stackSize work stop in
       let low : size - suc k + suc k ≡ size = omega arith in

@@ -9,16 +9,16 @@ use borrow.Author.Tests.{leb-true, leb-false, ltb-true, ltb-false, le-leb, lt-le
 use lib.Dec.{leb, ltb}
 use lib.ListN.{getD}
 use Rattle.laws.proofs.Tests.{ifb}
-use Rattle.plan_landing.specs.Landing.{departureAt, Falling, FirstOpenAt}
-use Rattle.plan_landing.specs.Search.{look, Narrowed, Searched}
-use Rattle.plan_landing.proofs.Stack.{falls-behind}
+use Rattle.plan_stacks.specs.Stacks.{keyStep, entryDeparture, Falling, FirstOpenAt}
+use Rattle.plan_stacks.specs.Search.{look, Narrowed, Searched}
+use Rattle.plan_stacks.proofs.Entries.{falls-behind}
 
 -- an entry departs at or after a minute if its key is at least the least of that minute
-pub by-keys : (minute key : ℕ) → leb (2048 * minute) key ≡ leb minute (key / 2048)
+pub by-keys : (minute key : ℕ) → leb (keyStep * minute) key ≡ leb minute (key / keyStep)
 by-keys minute key =
-    ifb (λ b. leb (2048 * minute) key ≡ b) (leb minute (key / 2048))
-    (λ yes'. le-leb (2048 * minute) key (omega (arith, leb-true minute (key / 2048) yes')))
-    (λ no'. lt-leb (2048 * minute) key (omega (arith, leb-false minute (key / 2048) no')))
+    ifb (λ b. leb (keyStep * minute) key ≡ b) (leb minute (key / keyStep))
+    (λ yes'. le-leb (keyStep * minute) key (omega (arith, leb-true minute (key / keyStep) yes')))
+    (λ no'. lt-leb (keyStep * minute) key (omega (arith, leb-false minute (key / keyStep) no')))
 
 -- what a look saw
 pub data Look (minute departure seen : ℕ) : Type 0 where
@@ -52,10 +52,10 @@ few-steps step {a = a} {b = b} {c = c} first second third =
     omega (arith, mul-le-mul-left step few)
 
 -- a look at the cell of a place
-pub looked-at : (work : List ℕ) (start minute place : ℕ) {at seen : ℕ} → at ≡ start + 2 * place → seen ≡ look minute (getD work at 0 / 2048)
-    → Look minute (departureAt work start place) seen
+pub looked-at : (work : List ℕ) (start minute place : ℕ) {at seen : ℕ} → at ≡ start + 2 * place → seen ≡ look minute (getD work at 0 / keyStep)
+    → Look minute (entryDeparture work start place) seen
 looked-at work start minute place {at} {seen} there same =
-    subst (λ x. Look minute (getD work x 0 / 2048) seen) there (looked minute (getD work at 0 / 2048) same)
+    subst (λ x. Look minute (getD work x 0 / keyStep) seen) there (looked minute (getD work at 0 / keyStep) same)
 
 -- a stack without its upper entries
 lower : {work : List ℕ} {start size minute n : ℕ} → Falling work start size minute → 0 < n → n ≤ size → Falling work start n minute
@@ -98,7 +98,7 @@ within {work} {start} {size} {minute} {low} {left} span part =
       opens = part .opens;
       missed =
           λ k above below.
-          ifb (λ _. departureAt work start k < minute) (ltb k (low + left))
+          ifb (λ _. entryDeparture work start k < minute) (ltb k (low + left))
           (λ under. part .missed k above (ltb-true k (low + left) under))
           (λ over. span .missed k (ltb-false k (low + left) over) below);
     }
@@ -117,7 +117,7 @@ answered {place = place} span =
 
 -- from an entry of a span that can be boarded up to the span's end
 pub raised : {work : List ℕ} {start size minute low left place count : ℕ} → Narrowed work start size minute low left → 0 < count
-    → place + count ≡ low + left → minute ≤ departureAt work start place → Narrowed work start size minute place count
+    → place + count ≡ low + left → minute ≤ entryDeparture work start place → Narrowed work start size minute place count
 raised span some-entry same opens =
     record {
       some-entry = some-entry;
@@ -133,8 +133,8 @@ moved {work} {start} {size} {minute} {place} {other} {count} same span =
 
 module _ {work : List ℕ} {start size minute : ℕ} (stack : Falling work start size minute) where
   -- from an entry that can be boarded up to one that has left, or further
-  pub between : {low left : ℕ} (over : ℕ) → 0 < left → low + left ≤ size → minute ≤ departureAt work start low
-      → departureAt work start over < minute → over ≤ low + left → Narrowed work start size minute low left
+  pub between : {low left : ℕ} (over : ℕ) → 0 < left → low + left ≤ size → minute ≤ entryDeparture work start low
+      → entryDeparture work start over < minute → over ≤ low + left → Narrowed work start size minute low left
   between over some-entry inside opens missed h =
       record {
         some-entry = some-entry;
@@ -144,13 +144,13 @@ module _ {work : List ℕ} {start size minute : ℕ} (stack : Falling work start
       }
 
   -- above an entry that has left, none can be boarded
-  none-above : (p q : ℕ) → p < q → q < size → departureAt work start p < minute → minute ≤ departureAt work start q → ⊥
+  none-above : (p q : ℕ) → p < q → q < size → entryDeparture work start p < minute → minute ≤ entryDeparture work start q → ⊥
   none-above p q above below missed opens = omega (arith, stack .falls p q above below)
 
   -- three looks, at the ends of the span's first three quarters
   pub quartered : {low left a b c : ℕ} (step : ℕ) → Narrowed work start size minute low left → 0 < step → 4 * step ≤ left
-      → Look minute (departureAt work start (low + step)) a → Look minute (departureAt work start (low + 2 * step)) b
-      → Look minute (departureAt work start (low + 3 * step)) c
+      → Look minute (entryDeparture work start (low + step)) a → Look minute (entryDeparture work start (low + 2 * step)) b
+      → Look minute (entryDeparture work start (low + 3 * step)) c
       → Narrowed work start size minute (low + step * (a + b + c)) (left - 3 * step)
   quartered {low} {left} {a} {b} {c} step span some-step fits (boards e p) (boards f q) (boards g r) =
       let seen : 3 ≡ a + b + c = omega arith in
@@ -176,7 +176,7 @@ module _ {work : List ℕ} {start size minute : ℕ} (stack : Falling work start
       absurd (none-above (low + 2 * step) (low + 3 * step) (omega arith) (omega arith) q r)
 
   -- one look, in a span of two entries
-  pub halved : {low left a : ℕ} → Narrowed work start size minute low left → left ≡ 2 → Look minute (departureAt work start (low + 1)) a
+  pub halved : {low left a : ℕ} → Narrowed work start size minute low left → left ≡ 2 → Look minute (entryDeparture work start (low + 1)) a
       → Narrowed work start size minute (low + a) 1
   halved {low} {left} {a} span two (boards e p) =
       let here : low + 1 ≡ low + a = omega arith in moved here (raised span (omega arith) (omega arith) p)
@@ -185,8 +185,8 @@ module _ {work : List ℕ} {start size minute : ℕ} (stack : Falling work start
       moved here (between (low + 1) (omega arith) (omega arith) (span .opens) p (omega arith))
 
   -- two looks, in a span of three entries
-  pub parted : {low left a b : ℕ} → Narrowed work start size minute low left → left ≡ 3 → Look minute (departureAt work start (low + 1)) a
-      → Look minute (departureAt work start (low + 2)) b → Narrowed work start size minute (low + a + b) 1
+  pub parted : {low left a b : ℕ} → Narrowed work start size minute low left → left ≡ 3 → Look minute (entryDeparture work start (low + 1)) a
+      → Look minute (entryDeparture work start (low + 2)) b → Narrowed work start size minute (low + a + b) 1
   parted {low} {left} {a} {b} span three (boards e p) (boards f q) =
       let here : low + 2 ≡ low + a + b = omega arith in moved here (raised span (omega arith) (omega arith) q)
   parted {low} {left} {a} {b} span three (boards e p) (gone f q) =

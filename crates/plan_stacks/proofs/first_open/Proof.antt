@@ -1,15 +1,15 @@
--- `plan_landing::first_open` meets its contract: each search narrows what the one before it left. Assumes nothing.
+-- `plan_stacks::first_open` meets its contract: each search narrows what the one before it left. Assumes nothing.
 use borrow.Author.Needs.{needs}
-use Rattle.plan_landing.specs.Search.{Searched}
-use Rattle.plan_landing.proofs.Search.{onward, within, answered}
-use Rattle.plan_landing.proofs.first_open.Statement.{statement}
-use Rattle.plan_landing.proofs.first_open.Tie as tie
+use Rattle.plan_stacks.specs.Search.{Searched}
+use Rattle.plan_stacks.proofs.Search.{onward, within, answered}
+use Rattle.plan_stacks.proofs.first_open.Statement.{statement}
+use Rattle.plan_stacks.proofs.first_open.Tie as tie
 
 -- what the steps from the top leave can be searched
 left-over : (c : tie.After-span-from-top) →
     let a = c .before .before .args in
     let span = c .span-from-top .result in
-    Searched (a .work .now) (a .start) (a .minute) (span .low) (span .left)
+    Searched (a .work .now) (a .stack .start) (a .minute) (span .low) (span .left)
 left-over c = onward (c .before .before .pre) (c .span-from-top .ensures)
 
 span-from-top-requires : tie.Need-span-from-top-requires

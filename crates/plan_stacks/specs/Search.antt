@@ -3,7 +3,7 @@ use Prim.Native.Nat.{ℕ, _+_, _≤_, _<_}
 use mathlib.Core.Bool.{cond}
 use mathlib.Core.List.{List}
 use lib.Dec.{leb}
-use Rattle.plan_landing.specs.Landing.{departureAt, Falling}
+use Rattle.plan_stacks.specs.Stacks.{entryDeparture, Falling}
 
 -- 1 if one who stands there at `minute` can board what departs at `departure`, else 0
 abbrev pub look : (minute departure : ℕ) → ℕ
@@ -13,11 +13,11 @@ look minute departure = cond (leb minute departure) 1 0
 pub record Narrowed (work : List ℕ) (start size minute low left : ℕ) : Type 0 where
   pub some-entry : 0 < left
   pub inside : low + left ≤ size
-  pub opens : minute ≤ departureAt work start low
-  pub missed : (k : ℕ) → low + left ≤ k → k < size → departureAt work start k < minute
+  pub opens : minute ≤ entryDeparture work start low
+  pub missed : (k : ℕ) → low + left ≤ k → k < size → entryDeparture work start k < minute
 
 -- a stack cut above the `left` entries from place `low` up, the lowest of which can be boarded at `minute`
 pub record Searched (work : List ℕ) (start minute low left : ℕ) : Type 0 where
   pub falling : Falling work start (low + left) minute
   pub some-entry : 0 < left
-  pub opens : minute ≤ departureAt work start low
+  pub opens : minute ≤ entryDeparture work start low

@@ -12,7 +12,7 @@ use Rattle.laws.proofs.Tests.{ifb, both, cond-true, cond-false}
 use Rattle.plans.specs.Rides.{boards}
 use Rattle.plans.specs.Worth.{Valued, firstOpen, caught, worthOr}
 use Rattle.plans.specs.Chosen.{whenSafe}
-use Rattle.plan_landing.specs.Landing.{atStop}
+use Rattle.plan_stacks.specs.Chosen.{atStop}
 
 -- a ride that boards there is one of them
 pub at-stop-here : (s : ℕ) (v : Valued) (vs : List Valued) → v .ride .from ≡ s → atStop s (v ∷ vs) ≡ v ∷ atStop s vs

@@ -1,0 +1,151 @@
+// The stack of chosen rows that a stop has in the work slice: entries of two cells, the latest departure at the bottom.
+ghost use mathlib.Core.Path.{_≡_};
+ghost use Prim.Native.Nat.{_+_, _-_, _*_, _/_, _%_, _≤_, _<_};
+ghost use lib.ListN.{length, getD};
+ghost use Rattle.plan_cells.specs.Cells.{pairs, pairCell, paired};
+ghost use Rattle.plan_stacks.specs.Stacks.{keyStep, keyOf, stackStart, stackSize, entryRow, entryWorth, Falling, FirstOpenAt};
+ghost use Rattle.plan_stacks.specs.Search.{look, Narrowed, Searched};
+use numbers::cell;
+use numbers::number;
+use plan_cells::PAIRS;
+use plan_cells::SIZES;
+use plan_cells::STOPS;
+use plan_rows::opens;
+
+// An entry's first cell, its key, holds 2,048 x departure + row.
+const KEY: usize = 2048;
+
+// A stop's stack: the cell of its bottom entry, and how many entries there are.
+pub struct Stack {
+    pub start: usize,
+    pub size: usize,
+}
+
+// The row of a stack's top entry, and its worth.
+pub struct TopEntry {
+    pub row: usize,
+    pub worth: u32,
+}
+
+pub fn stack_of(work: &[u32], stop: usize) -> Stack
+    requires { ⌜ (stop < 200) × (pairs ≤ length (now work)) ⌝ }
+    ensures { λ r. ⌜ (r .start ≡ stackStart (now (work .entry)) stop) × (r .size ≡ stackSize (now (work .entry)) stop) ⌝ }
+{
+    let size = number(work[SIZES + stop]);
+    let start = PAIRS + 2 * number(work[STOPS + stop]);
+    Stack { start, size }
+}
+
+// The departure of an entry, by its key.
+pub fn departure_of(key: u32) -> usize
+    ensures { λ r. ⌜ r ≡ key / keyStep ⌝ }
+{
+    number(key) / KEY
+}
+
+// The row of an entry, by its key.
+pub fn row_of(key: u32) -> usize
+    ensures { λ r. ⌜ r ≡ key % keyStep ⌝ }
+{
+    number(key) % KEY
+}
+
+// The first chosen row of a stack that is not empty.
+pub fn top(work: &[u32], stack: Stack) -> TopEntry
+    requires { ⌜ (0 < stack .size) × (stack .start + 2 * stack .size ≤ length (now work)) ⌝ }
+    ensures { λ r. ⌜ (r .row ≡ entryRow (now (work .entry)) (stack .start) (stack .size - 1))
+        × (r .worth ≡ entryWorth (now (work .entry)) (stack .start) (stack .size - 1)) ⌝ }
+{
+    let at = stack.start + 2 * (stack.size - 1);
+    TopEntry {
+        row: row_of(work[at]),
+        worth: work[at + 1],
+    }
+}
+
+// The entry of a row at pair `pair`.
+pub fn push(work: &mut [u32], pair: usize, departure: usize, row: usize, worth: u32)
+    requires { ⌜ (keyOf departure row < 4294967296) × (pairCell pair + 1 < length (now work)) ⌝ }
+    ensures { λ r. ⌜ now (work .exit) ≡ paired (now (work .entry)) pair (keyOf departure row) worth ⌝ }
+{
+    let at = PAIRS + 2 * pair;
+    work[at] = cell(KEY * departure + row);
+    work[at + 1] = worth;
+}
+
+// The cell of the stack's first entry that one who stands there at `minute` can board.
+pub fn first_open(work: &[u32], stack: Stack, minute: usize) -> usize
+    requires { ⌜ Falling (now work) (stack .start) (stack .size) minute ⌝ }
+    ensures { λ r. ⌜ FirstOpenAt (now (work .entry)) (stack .start) (stack .size) minute r ⌝ }
+{
+    let start = stack.start;
+    let span = span_from_top(work, start, stack.size, minute);
+    let short = quarter(work, start, span, minute);
+    start + 2 * last_open(work, start, short, minute)
+}
+
+// Entries of a stack, `left` of them from place `low` on: the highest that can be boarded is among them.
+struct Span {
+    low: usize,
+    left: usize,
+}
+
+// In steps that double, from the top: most rides land soon, where the next rows leave.
+fn span_from_top(work: &[u32], start: usize, size: usize, minute: usize) -> Span
+    requires { ⌜ Falling (now work) start size minute ⌝ }
+    ensures { λ r. ⌜ Narrowed (now (work .entry)) start size minute (r .low) (r .left) ⌝ }
+{
+    let mut high = size;
+    let mut step = 1;
+    while step < high {
+        let low = high - step;
+        if open_at(work, start + 2 * low, minute) == 1 {
+            return Span { low, left: step };
+        }
+        high = low;
+        step *= 2;
+    }
+    Span { low: 0, left: high }
+}
+
+// By quarters, as long as a span has four entries: three looks at once and no branch on what they see.
+fn quarter(work: &[u32], start: usize, span: Span, minute: usize) -> Span
+    requires { ⌜ Searched (now work) start minute (span .low) (span .left) ⌝ }
+    ensures { λ r. ⌜ Narrowed (now (work .entry)) start (span .low + span .left) minute (r .low) (r .left) × (r .left < 4) ⌝ }
+{
+    let mut low = span.low;
+    let mut left = span.left;
+    while 4 <= left {
+        let step = left / 4;
+        left -= 3 * step;
+        low += step
+            * (open_at(work, start + 2 * (low + step), minute)
+                + open_at(work, start + 2 * (low + 2 * step), minute)
+                + open_at(work, start + 2 * (low + 3 * step), minute));
+    }
+    Span { low, left }
+}
+
+// The last entry that can be boarded in a span of at most three.
+fn last_open(work: &[u32], start: usize, span: Span, minute: usize) -> usize
+    requires { ⌜ Searched (now work) start minute (span .low) (span .left) × (span .left < 4) ⌝ }
+    ensures { λ r. ⌜ Narrowed (now (work .entry)) start (span .low + span .left) minute r 1 ⌝ }
+{
+    let low = span.low;
+    let at = start + 2 * low;
+    if span.left == 1 {
+        return low;
+    }
+    if span.left == 2 {
+        return low + open_at(work, at + 2, minute);
+    }
+    low + open_at(work, at + 2, minute) + open_at(work, at + 4, minute)
+}
+
+// 1 if the entry at cell `at` can be boarded at `minute`, else 0. Keys are compared: no division.
+fn open_at(work: &[u32], at: usize, minute: usize) -> usize
+    requires { ⌜ (at < length (now work)) × (minute < 4294967296) ⌝ }
+    ensures { λ r. ⌜ r ≡ look minute (getD (now (work .entry)) at 0 / keyStep) ⌝ }
+{
+    opens(number(work[at]), KEY * minute) as usize
+}
