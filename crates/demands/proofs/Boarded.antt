@@ -11,14 +11,14 @@ use Rattle.plans.specs.Worth.{Valued, firstOpen, ridesOf}
 use Rattle.plans.specs.Journeys.{goalOf}
 use Rattle.plans.specs.Plan.{Plan, Window, upTo, extract, ridesFrom, chosenFor}
 use Rattle.plans.specs.Sound.{Timely}
-use Rattle.demands.specs.Walk.{Sailed, start, choices, Boards}
+use Rattle.demands.specs.Walk.{Sailed, Delayed, start, choices, Boards}
 use Rattle.plans.proofs.Open.{boards-stop, boards-minute, can-board}
 use Rattle.plans.proofs.RideMinutes.{ride-delays}
 use Rattle.plans.proofs.Made.{Made}
 use Rattle.plans.proofs.Extracted.{extract-member, window-boards, window-until}
 use Rattle.plans.proofs.PlanRides.{for-ordered, for-ride}
 use Rattle.demands.proofs.PlanIsSafe.{plan-safe, plan-rising}
-use Rattle.demands.proofs.Choices.{Delayed, delayed-choice, delayed-rides}
+use Rattle.demands.proofs.Choices.{delayed-choice, delayed-rides}
 use Rattle.demands.proofs.Forward.{AllTimed, forward-timed}
 use Rattle.demands.proofs.Safe.{safe-forward}
 use Rattle.demands.proofs.Meeting.{Meets, meets-sooner, meets-boards}

@@ -10,16 +10,9 @@ use lib.ListN.{length, getD}
 use Rattle.timetable.specs.Classes.{sum, whole}
 use Rattle.plans.specs.Rides.{Ride}
 use Rattle.plans.specs.Worth.{weigh}
-use Rattle.demands.specs.Walk.{Sailed, withDelays, choices, weight}
+use Rattle.demands.specs.Walk.{Sailed, Delayed, undelayed, delay-first, withDelays, choices, weight}
 use Rattle.plans.proofs.Weighing.{sum-append}
 use Rattle.demands.proofs.Means.{weigh-constant}
-
--- the rides of a plan, each with one delay from 0 to its M
-pub data Delayed : List Ride → List Sailed → Type 0 where
-  none : Delayed [] []
-  one :
-      {r : Ride} {s : Sailed} {rides : List Ride} {sailed : List Sailed} → s .ride ≡ r → s .delay < length (r .shares)
-      → Delayed rides sailed → Delayed (r ∷ rides) (s ∷ sailed)
 
 abbrev pub late : Ride → ℕ → Sailed
 late r v = record { ride = r; delay = v }
@@ -82,26 +75,26 @@ delays-apart r v (p ∷ shares) ways sailed there =
 -- the choices of a plan are its rides with delays in range, and all of these
 pub choice-delayed : (rides : List Ride) (sailed : List Sailed) → List·Memᴰ sailed (choices rides) → Delayed rides sailed
 unfolding choices
-choice-delayed [] sailed there = subst (Delayed []) (sym (List·Memᴰ·eq-of-singleton there)) none
+choice-delayed [] sailed there = subst (Delayed []) (sym (List·Memᴰ·eq-of-singleton there)) undelayed
 choice-delayed (r ∷ rides) sailed there =
     let a = delays-apart r 0 (r .shares) (choices rides) sailed there in
     subst (Delayed (r ∷ rides)) (a .joined)
-    (one refl (omega (arith, a .below)) (choice-delayed rides (a .onward) (a .way)))
+    (delay-first refl (omega (arith, a .below)) (choice-delayed rides (a .onward) (a .way)))
 
 pub delayed-choice : {rides : List Ride} {sailed : List Sailed} → Delayed rides sailed → List·Memᴰ sailed (choices rides)
 unfolding choices
-delayed-choice none = List·Memᴰ·head refl
-delayed-choice (one {r = r} {s = s} {rides = rides} {sailed = sailed} same below onward) =
+delayed-choice undelayed = List·Memᴰ·head refl
+delayed-choice (delay-first {r = r} {s = s} {rides = rides} {sailed = sailed} same below onward) =
     Memᴰ·cast (λ i. record { ride = same i; delay = s .delay } ∷ sailed)
     (delays-hold r 0 (r .shares) (choices rides) (s .delay) sailed (omega arith) (omega arith) (delayed-choice onward))
 
 -- there is a choice: nobody is late
 pub on-time :
     (rides : List Ride) → ((r : Ride) → List·Memᴰ r rides → 0 < length (r .shares)) → (sailed : List Sailed) × Delayed rides sailed
-on-time [] some-share = ([], none)
+on-time [] some-share = ([], undelayed)
 on-time (r ∷ rides) some-share =
     let behind = on-time rides (λ u there. some-share u (List·Memᴰ·tail there)) in
-    (late r 0 ∷ behind .0, one refl (some-share r (List·Memᴰ·head refl)) (behind .1))
+    (late r 0 ∷ behind .0, delay-first refl (some-share r (List·Memᴰ·head refl)) (behind .1))
 
 map-append : (f : List Sailed → ℕ) (xs ys : List (List Sailed)) → map f (xs ++ ys) ≡ map f xs ++ map f ys
 map-append f [] ys = refl
@@ -172,15 +165,15 @@ total-same f g rides each =
 
 -- a choice has the plan's rides, in their order, and each delay is in range
 pub delayed-rides : {rides : List Ride} {sailed : List Sailed} → Delayed rides sailed → map (λ s. s .ride) sailed ≡ rides
-delayed-rides none = refl
-delayed-rides (one same below onward) = ap₂ (λ r rides. r ∷ rides) same (delayed-rides onward)
+delayed-rides undelayed = refl
+delayed-rides (delay-first same below onward) = ap₂ (λ r rides. r ∷ rides) same (delayed-rides onward)
 
 pub delayed-range :
     {rides : List Ride} {sailed : List Sailed} → Delayed rides sailed → (s : Sailed) → List·Memᴰ s sailed → s .delay < length (s .ride .shares)
-delayed-range (one {s = u} same below onward) s (List·Memᴰ·head here) =
+delayed-range (delay-first {s = u} same below onward) s (List·Memᴰ·head here) =
     subst (λ (x : Sailed). x .delay < length (x .ride .shares)) (sym here)
     (subst (λ (r : Ride). u .delay < length (r .shares)) (sym same) below)
-delayed-range (one same below onward) s (List·Memᴰ·tail there) = delayed-range onward s there
+delayed-range (delay-first same below onward) s (List·Memᴰ·tail there) = delayed-range onward s there
 
 total-constant :
     (c : ℕ) (rides : List Ride) → ((r : Ride) → List·Memᴰ r rides → sum (r .shares) ≡ whole) → total (λ sailed. c) rides ≡ whole ^ length rides * c

@@ -6,7 +6,7 @@ use lib.Dec.{T}
 use lib.ListN.{length}
 use mathlib.Core.Logic.{_↔_, _≢_}
 use mathlib.Core.Option.{none, some}
-use mathlib.Core.Path.{_≡_}
+use mathlib.Core.Path.{_≡_, ap, subst, _∙_}
 use Rattle.timetable.specs.Timetable.{Timetable, rowOf}
 use Rattle.plans.specs.declared.Goal.{Goal}
 use Rattle.plans.specs.Sound.{Timely}
@@ -26,9 +26,11 @@ use Rattle.demands.proofs.RowBegins.{row-reaches, row-begins}
 use Rattle.demands.proofs.PlanIsSafe.{ordered-rising, plan-safe, plan-rising, plan-valued, plan-expected, plan-last}
 use Rattle.demands.proofs.PlanSet.{plan-set}
 use Rattle.demands.proofs.Optimal.{expected-stands, plan-least}
-use Rattle.demands.proofs.Sorting.{safe-sorted}
+use Rattle.demands.proofs.Sorting.{safe-sorted, sorted-same}
+use Rattle.demands.proofs.Forward.{AllTimed}
 use Rattle.demands.proofs.Safe.{safe-timed}
-use Rattle.demands.proofs.WholePlan.{worth-in-whole, caught-departs}
+use Rattle.demands.proofs.Walked.{valued-rides}
+use Rattle.demands.proofs.WholePlan.{worth-in-whole, own-in-whole, caught-departs}
 use Rattle.plans.proofs.Made.{plan-made}
 use Rattle.plans.proofs.PlanRides.{for-ordered}
 
@@ -129,6 +131,10 @@ module _ (t : Timetable) (timely : Timely t) (q : Query) where
     pub has-expected : (x : ℕ) × (expectedOf q rides ≡ some x)
     has-expected = expected-stands t timely q bound rides safe
 
+    -- its worths are of these rides
+    pub its-worths : ridesOf (worthsOf q rides) ≡ sorted rides
+    its-worths = valued-rides (q .target) (sorted rides)
+
     -- each ride of it is worth what the rides caught after it give, whichever of the plan's rides these are
     pub worth-in-plan : (v : Valued) → List·Memᴰ v (worthsOf q rides) → v .worth ≡ landWorth (q .target) (v .ride) (worthsOf q rides)
     worth-in-plan = worth-in-whole (q .target) (sorted rides) (safe-timed timely q bound rides safe)
@@ -138,3 +144,12 @@ module _ (t : Timetable) (timely : Timely t) (q : Query) where
         (s m : ℕ) (v u : Valued) → firstOpen (worthsOf q rides) s m ≡ some v → List·Memᴰ u (worthsOf q rides) → boards (u .ride) s m ≡ true
         → v .ride .departs ≤ u .ride .departs
     caught-first = caught-departs (q .target) (sorted rides) (safe-timed timely q bound rides safe)
+
+  -- a safe plan as written, by boarding row rising: worths that the rides caught after each ride give are its own
+  pub written-worths :
+      (bound : ℕ) (vs : List Valued) → SafePlan t q bound (ridesOf vs) → ByBoardingRow (ridesOf vs)
+      → ((v : Valued) → List·Memᴰ v vs → v .worth ≡ landWorth (q .target) (v .ride) vs) → worthsOf q (ridesOf vs) ≡ vs
+  written-worths bound vs safe rising agree =
+      let as-listed = sorted-same rising in
+      ap (valued (q .target)) as-listed
+      ∙ own-in-whole (q .target) vs (subst (AllTimed (q .target)) as-listed (safe-timed timely q bound (ridesOf vs) safe)) agree

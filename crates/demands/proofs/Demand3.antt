@@ -2,6 +2,7 @@
 use Prim.Native.Nat.{ℕ, _^_, _≤_}
 use native.Mathlib.Omega.{arith}
 use mathlib.Core.List.{List, map, List·Memᴰ}
+use mathlib.Core.Logic.{_↔_}
 use mathlib.Core.Option.{some}
 use mathlib.Core.Path.{_≡_, refl, sym, subst, _∙_}
 use lib.ListN.{length}
@@ -13,7 +14,7 @@ use Rattle.plans.specs.Worth.{Valued, ridesOf}
 use Rattle.plans.specs.Plan.{Plan, latestOf, planned}
 use Rattle.demands.specs.SafePlan.{SafePlan, ByBoardingRow, sorted, worthsOf, expectedOf}
 use Rattle.plans.specs.Sound.{Timely}
-use Rattle.demands.specs.Walk.{Sailed, start, walked, choices, weight, longestWay, Boards}
+use Rattle.demands.specs.Walk.{Sailed, Delayed, start, walked, choices, weight, longestWay, Boards}
 use Rattle.demands.specs.Passenger.{Carries}
 use Rattle.plans.proofs.RideMinutes.{ride-shares, ride-delays}
 use Rattle.plans.proofs.Made.{plan-made}
@@ -23,6 +24,10 @@ use Rattle.demands.proofs.Largest.{none-larger, one-largest}
 use Rattle.demands.proofs.Walked.{finds-ride, walk-reaches, walk-in-time, walk-count, valued-rides, sandwich-below, sandwich-above}
 use Rattle.demands.proofs.Sorting.{safe-sorted, expected-sorted}
 use Rattle.demands.proofs.Boarded.{plan-boards}
+
+-- the choices are all ways to give each ride one delay from 0 to its M
+pub each-choice : (rides : List Ride) (sailed : List Sailed) → List·Memᴰ sailed (choices rides) ↔ Delayed rides sailed
+each-choice rides sailed = (choice-delayed rides sailed, delayed-choice)
 
 module _ {t : Timetable} (timely : Timely t) (q : Query) where
   -- with these rides and whatever worths beside them

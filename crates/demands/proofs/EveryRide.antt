@@ -2,12 +2,13 @@
 use Prim.Native.Nat.{ℕ, pred, _+_, _-_, _≤_, _<_}
 use mathlib.Core.Bool.{true, false, cond, false≢true}
 use mathlib.Core.List.{List, [], _∷_, _++_, List·Memᴰ, List·Memᴰ·head, List·Memᴰ·tail, List·Memᴰ·not-nil, List·Memᴰ·append-cases, List·Memᴰ·eq-of-singleton, Memᴰ·map, Memᴰ·of-map}
-use mathlib.Core.Logic.{_⊎_, inl, inr, ⊎-elim}
+use mathlib.Core.Logic.{_⊎_, inl, inr, ⊎-elim, _≢_}
 use mathlib.Core.Option.{Option, none, some}
 use mathlib.Core.Path.{_≡_, refl, sym, _∙_, ap, subst}
 use native.Mathlib.Nat.{le-refl}
 use native.Mathlib.Decide.{decLe}
 use native.Mathlib.Omega.{arith}
+use borrow.Author.Tests.{eqb-false}
 use lib.Dec.{eqb}
 use lib.ListN.{length}
 use Rattle.laws.proofs.Tests.{ifb, either}
@@ -17,15 +18,15 @@ use Rattle.timetable.specs.Timetable.{longest}
 use Rattle.plans.specs.Rides.{Ride, latest, boards}
 use Rattle.plans.specs.Worth.{Valued, firstOpen, ridesOf}
 use Rattle.plans.specs.Plan.{Window, inWindow, wanted, upTo, windowsOf, extract}
-use Rattle.demands.specs.Walk.{Sailed}
+use Rattle.demands.specs.Walk.{Sailed, Delayed, delay-first}
 use Rattle.plans.proofs.Open.{boards-stop, boards-minute, can-board}
 use Rattle.plans.proofs.Order.{Ordered, ahead, Before, first-before}
 use Rattle.plans.proofs.Extracted.{extract-member, window-boards, window-until}
-use Rattle.demands.proofs.Choices.{Delayed, late, on-time, delayed-rides}
+use Rattle.demands.proofs.Choices.{late, on-time, delayed-rides}
 use Rattle.demands.proofs.Meeting.{Meets, here, lands, passes, meets-sooner}
 
 -- a wanted ride lies in one of the windows
-wanted-in : (ws : List Window) (r : Ride) → wanted ws r ≡ true → (w : Window) × List·Memᴰ w ws × (inWindow w r ≡ true)
+pub wanted-in : (ws : List Window) (r : Ride) → wanted ws r ≡ true → (w : Window) × List·Memᴰ w ws × (inWindow w r ≡ true)
 unfolding wanted
 wanted-in [] r e = absurd (false≢true e)
 wanted-in (w ∷ ws) r e = pick (either (inWindow w r) (wanted ws r) e) (wanted-in ws r)
@@ -45,21 +46,20 @@ up-to-is stop minute none there = absurd (List·Memᴰ·not-nil there)
 up-to-is stop minute (some v) there = (v, refl, List·Memᴰ·eq-of-singleton there)
 
 -- a window that a ride opens: from a up to the first ride at or after a + M
-record Opened (r : Ride) (behind : List Valued) (w : Window) : Type 0 where
-  safe : Valued
-  is-first : firstOpen behind (r .to) (latest r) ≡ some safe
-  is : w ≡ record { stop = r .to; minute = r .arrives; until = safe .ride .departs }
+pub record Opened (target : ℕ) (r : Ride) (behind : List Valued) (w : Window) : Type 0 where
+  pub away : r .to ≢ target
+  pub safe : Valued
+  pub is-first : firstOpen behind (r .to) (latest r) ≡ some safe
+  pub is : w ≡ record { stop = r .to; minute = r .arrives; until = safe .ride .departs }
 
-window-opened : (target : ℕ) (r : Ride) (behind : List Valued) {w : Window} → List·Memᴰ w (windowsOf target r behind) → Opened r behind w
+pub window-opened : (target : ℕ) (r : Ride) (behind : List Valued) {w : Window} → List·Memᴰ w (windowsOf target r behind) → Opened target r behind w
 unfolding windowsOf
 window-opened target r behind {w} there =
-    ifb (λ b. List·Memᴰ w (cond b [] (upTo (r .to) (r .arrives) (firstOpen behind (r .to) (latest r)))) → Opened r behind w)
-    (eqb (r .to) target) (λ _ none-there. absurd (List·Memᴰ·not-nil none-there)) (λ _ in-it. opened in-it) there
-  where
-    opened : List·Memᴰ w (upTo (r .to) (r .arrives) (firstOpen behind (r .to) (latest r))) → Opened r behind w
-    opened in-it =
-        let found = up-to-is (r .to) (r .arrives) (firstOpen behind (r .to) (latest r)) in-it in
-        record { safe = found .0; is-first = found .1; is = found .2 }
+    ifb (λ b. eqb (r .to) target ≡ b → List·Memᴰ w (cond b [] (upTo (r .to) (r .arrives) (firstOpen behind (r .to) (latest r))))
+    → Opened target r behind w)
+    (eqb (r .to) target) (λ _ _ none-there. absurd (List·Memᴰ·not-nil none-there))
+    (λ e _ in-it. let found = up-to-is (r .to) (r .arrives) (firstOpen behind (r .to) (latest r)) in-it in
+    record { away = eqb-false (r .to) target e; safe = found .0; is-first = found .1; is = found .2 }) refl there
 
 -- no ride that can be boarded departs before the first
 pub first-departs :
@@ -139,7 +139,8 @@ abbrev pub SomeShare : List Valued → Type 0
 SomeShare vs = (v : Valued) → List·Memᴰ v vs → 0 < length (v .ride .shares)
 
 -- a ride taken by a window of the list
-module _ {ws : List Window} {u : Valued} {behind taken : List Valued} (w : Window) (among : List·Memᴰ w ws) (in-it : inWindow w (u .ride) ≡ true) (some-share : 0 < length (u .ride .shares)) where
+module _ {ws : List Window} {u : Valued} {behind taken : List Valued} (w : Window) (among : List·Memᴰ w ws)
+    (in-it : inWindow w (u .ride) ≡ true) (some-share : 0 < length (u .ride .shares)) where
   entry-itself : SomeShare taken → Entry ws (u ∷ behind) (u ∷ taken) (u .ride)
   entry-itself shares =
       record {
@@ -149,7 +150,7 @@ module _ {ws : List Window} {u : Valued} {behind taken : List Valued} (w : Windo
         is-chosen = List·Memᴰ·head refl;
         in-window = in-it;
         sailed = late (u .ride) 0 ∷ others .0;
-        delayed = Delayed.one refl some-share (others .1);
+        delayed = delay-first refl some-share (others .1);
         meets = here refl (window-departs w (u .ride) in-it);
       }
     where
@@ -161,8 +162,8 @@ module _ {ws : List Window} {u : Valued} {behind taken : List Valued} (w : Windo
 
   -- and what is met from the window that it opens
   entry-onward :
-      {r : Ride} → Ordered behind → ((v : Valued) → List·Memᴰ v taken → List·Memᴰ v behind) → {more : List Window} (e : Entry more behind taken r)
-      → Opened (u .ride) behind (e .window) → Entry ws (u ∷ behind) (u ∷ taken) r
+      {r : Ride} {target : ℕ} → Ordered behind → ((v : Valued) → List·Memᴰ v taken → List·Memᴰ v behind) → {more : List Window}
+      (e : Entry more behind taken r) → Opened target (u .ride) behind (e .window) → Entry ws (u ∷ behind) (u ∷ taken) r
   entry-onward {r} ordered part e opened =
       record {
         window = w;
@@ -171,7 +172,7 @@ module _ {ws : List Window} {u : Valued} {behind taken : List Valued} (w : Windo
         is-chosen = List·Memᴰ·head refl;
         in-window = in-it;
         sailed = late (u .ride) (landed .delay) ∷ e .sailed;
-        delayed = Delayed.one refl (landed .below) (e .delayed);
+        delayed = delay-first refl (landed .below) (e .delayed);
         meets = lands (window-departs w (u .ride) in-it) (landed .meets);
       }
     where
@@ -209,7 +210,7 @@ entry-older {u = u} some-share before e among =
       is-chosen = List·Memᴰ·tail (e .is-chosen);
       in-window = e .in-window;
       sailed = late (u .ride) 0 ∷ e .sailed;
-      delayed = Delayed.one refl some-share (e .delayed);
+      delayed = delay-first refl some-share (e .delayed);
       meets = passes shut (e .meets);
     }
   where

@@ -116,7 +116,8 @@ module _ (t : Timetable) (timely : Timely t) where
         (eqb (r .to) (goal .target))
         (λ e _. ride-at-most (inTicks goal) t r is (ticks-landed goal) (arrivalWorth r)
         (ticks-at-target goal r _ (eqb-true (r .to) (goal .target) e) b))
-        (λ e _. let away = eqb-false (r .to) (goal .target) e in let next = on away in change-bounds r rides is away are bounds (next .0) (next .1) (next .2))
+        (λ e _. let away = eqb-false (r .to) (goal .target) e in
+        let next = on away in change-bounds r rides is away are bounds (next .0) (next .1) (next .2))
         refl
       where
         best : Option Valued

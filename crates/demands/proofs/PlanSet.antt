@@ -2,22 +2,19 @@
 use Prim.Native.Nat.{ℕ, _≤_, _<_}
 use native.Mathlib.Nat.{le-refl, le-of-eq}
 use native.Mathlib.Omega.{arith}
-use mathlib.Core.Bool.{true, false, cond, _&&_, false≢true}
-use mathlib.Core.List.{List, [], _∷_, _++_, List·Memᴰ, List·Memᴰ·head, List·Memᴰ·tail, List·Memᴰ·not-nil}
+use mathlib.Core.Bool.{true}
+use mathlib.Core.List.{List, [], _∷_, _++_, List·Memᴰ, List·Memᴰ·head, List·Memᴰ·tail, List·Memᴰ·not-nil, List·Memᴰ·append-cases}
 use mathlib.Core.Logic.{⊎-elim, _≢_, _↔_}
-use mathlib.Core.Option.{Option, none, some}
+use mathlib.Core.Option.{some}
 use mathlib.Core.Path.{_≡_, refl, sym, ap, subst, _∙_}
-use lib.Dec.{eqb, leb}
-use borrow.Author.Tests.{eqb-false, leb-true}
 use Rattle.laws.proofs.Options.{same-thing}
-use Rattle.laws.proofs.Tests.{ifb, both-left, both-right, either, T-true, true-T}
-use Rattle.laws.proofs.Alternatives.{or-left, or-right}
+use Rattle.laws.proofs.Tests.{T-true, true-T}
 use Rattle.laws.proofs.Members.{head-or-later}
 use Rattle.timetable.specs.Timetable.{Timetable}
 use Rattle.plans.specs.Journeys.{goalOf}
 use Rattle.plans.specs.Sound.{Timely}
 use Rattle.query.specs.declared.Query.{Query}
-use Rattle.plans.specs.Rides.{Ride, latest, boards}
+use Rattle.plans.specs.Rides.{latest, boards}
 use Rattle.plans.specs.Worth.{Valued, firstOpen}
 use Rattle.plans.specs.Plan.{Window, inWindow, wanted, upTo, windowsOf, extract, ridesFrom, Plan, chosenFor}
 use Rattle.demands.specs.Words.{InPlan}
@@ -28,56 +25,23 @@ use Rattle.plans.proofs.OwnWorth.{Moves}
 use Rattle.plans.proofs.ChosenWorth.{ride-moves}
 use Rattle.plans.proofs.PlanRides.{for-ordered, for-ride}
 use Rattle.plans.proofs.Made.{Made}
-use Rattle.plans.proofs.Extracted.{up-to-wants, on-taking, extract-member, extract-wanted, extract-first, windows-want}
-
--- a window joined to others wants what it wants or what they want
-wanted-either : {P : Type 0} (ws us : List Window) (r : Ride) → wanted (ws ++ us) r ≡ true → (wanted ws r ≡ true → P) → (wanted us r ≡ true → P) → P
-unfolding wanted
-wanted-either [] us r e first second = second e
-wanted-either {P} (w ∷ ws) us r e first second =
-    ⊎-elim (λ p. first (or-left (inWindow w r) (wanted ws r) p))
-    (λ p. wanted-either ws us r p (λ k. first (or-right (inWindow w r) (wanted ws r) k)) second) (either (inWindow w r) (wanted (ws ++ us) r) e)
-
--- what a window up to a ride wants
-record UpTo (stop minute : ℕ) (o : Option Valued) (r : Ride) : Type 0 where
-  last : Valued
-  is-last : o ≡ some last
-  caught : boards r stop minute ≡ true
-  no-later : r .departs ≤ last .ride .departs
-
-up-to-is : (stop minute : ℕ) (o : Option Valued) (r : Ride) → wanted (upTo stop minute o) r ≡ true → UpTo stop minute o r
-unfolding upTo wanted inWindow
-up-to-is stop minute none r e = absurd (false≢true e)
-up-to-is stop minute (some v) r e =
-    ⊎-elim
-    (λ p. record {
-      last = v;
-      is-last = refl;
-      caught = both-left (boards r stop minute) (leb (r .departs) (v .ride .departs)) p;
-      no-later = leb-true (r .departs) (v .ride .departs) (both-right (boards r stop minute) (leb (r .departs) (v .ride .departs)) p);
-    }) (λ p. absurd (false≢true p)) (either (boards r stop minute && leb (r .departs) (v .ride .departs)) false e)
-
--- what the window of a ride wants, where it has one
-window-is :
-    {P : Type 0} (target : ℕ) (r : Ride) (vs : List Valued) (x : Ride) → wanted (windowsOf target r vs) x ≡ true
-    → (r .to ≢ target → UpTo (r .to) (r .arrives) (firstOpen vs (r .to) (latest r)) x → P) → P
-unfolding windowsOf wanted
-window-is {P} target r vs x e given =
-    ifb (λ b. eqb (r .to) target ≡ b → wanted (cond b [] (upTo (r .to) (r .arrives) (firstOpen vs (r .to) (latest r)))) x ≡ true → P)
-    (eqb (r .to) target)
-    (λ _ _ k. absurd (false≢true k)) (λ q _ k. given (eqb-false (r .to) target q) (up-to-is (r .to) (r .arrives) _ x k)) refl e
+use Rattle.demands.proofs.EveryRide.{wanted-in, up-to-is, window-opened}
+use Rattle.plans.proofs.Extracted.{window-boards, window-until, up-to-wants, on-taking, extract-member, extract-wanted, extract-first, windows-want}
 
 module _ (q : Query) (whole : List Valued) where
   -- a list that ends the chosen rows: who lands after a ride of it finds there what they find among all
   Ends : List Valued → Type 0
   Ends vs = (v : Valued) → List·Memᴰ v vs → (s m : ℕ) → v .ride .departs < m → firstOpen vs s m ≡ firstOpen whole s m
 
-  -- each ride that windows of the plan take out is in the plan
+  -- windows that want rides of the plan alone
+  Wants : List Window → Type 0
+  Wants ws = (x : Valued) → List·Memᴰ x whole → (w : Window) → List·Memᴰ w ws → inWindow w (x .ride) ≡ true → InPlan q whole x
+
+  -- each ride that they take out is in the plan
   extract-in-plan :
       (vs : List Valued) → Ordered vs → ((x : Valued) → List·Memᴰ x vs → Moves (x .ride)) → ((x : Valued) → List·Memᴰ x vs → List·Memᴰ x whole)
-      → Ends vs → (ws : List Window) → ((x : Valued) → List·Memᴰ x whole → wanted ws (x .ride) ≡ true → InPlan q whole x) → (x : Valued)
-      → List·Memᴰ x (extract (q .target) ws vs) → InPlan q whole x
-  unfolding extract Ends
+      → Ends vs → (ws : List Window) → Wants ws → (x : Valued) → List·Memᴰ x (extract (q .target) ws vs) → InPlan q whole x
+  unfolding extract Ends Wants
   extract-in-plan [] o moves sub ends ws given x m = absurd (List·Memᴰ·not-nil m)
   extract-in-plan (v ∷ vs) (ahead before o) moves sub ends ws given x m =
       let further : Ends vs = λ u n s k late.
@@ -86,14 +50,17 @@ module _ (q : Query) (whole : List Valued) where
       let gone : v .ride .departs < latest (v .ride) = omega (arith, moves v (List·Memᴰ·head refl) .forward) in
       let go = extract-in-plan vs o (λ y n. moves y (List·Memᴰ·tail n)) (λ y n. sub y (List·Memᴰ·tail n)) further in
       on-taking (q .target) (InPlan q whole x) ws v vs
-      (λ w h. let here = given v (sub v (List·Memᴰ·head refl)) w in
+      (λ wants h. let w = wanted-in ws (v .ride) wants in
+      let here = given v (sub v (List·Memᴰ·head refl)) (w .0) (w .1) (w .2) in
       head-or-later (InPlan q whole x) (subst (λ (l : List Valued). List·Memᴰ x l) h m) (λ e. subst (λ (y : Valued). InPlan q whole y) (sym e) here)
       (λ n. go (windowsOf (q .target) (v .ride) vs ++ ws)
-      (λ y k e. wanted-either (windowsOf (q .target) (v .ride) vs) ws (y .ride) e
-      (λ p. window-is (q .target) (v .ride) vs (y .ride) p
-      (λ away u. words.next here away
-      (sym (ends v (List·Memᴰ·head refl) (v .ride .to) (latest (v .ride)) gone) ∙ first-further v vs _ _ (too-late (v .ride) _ _ gone) ∙ u .is-last) k
-      (true-T (u .caught)) (u .no-later))) (given y k)) x n))
+      (λ y k u among e. ⊎-elim (λ own. let opened = window-opened (q .target) (v .ride) vs own in
+      words.next here (opened .away)
+      (sym (ends v (List·Memᴰ·head refl) (v .ride .to) (latest (v .ride)) gone) ∙ first-further v vs _ _ (too-late (v .ride) _ _ gone)
+      ∙ opened .is-first) k
+      (true-T (subst (λ (w : Window). boards (y .ride) (w .stop) (w .minute) ≡ true) (opened .is) (window-boards u (y .ride) e)))
+      (subst (λ (w : Window). y .ride .departs ≤ w .until) (opened .is) (window-until u (y .ride) e)))
+      (λ older. given y k u older e) (List·Memᴰ·append-cases (windowsOf (q .target) (v .ride) vs) among)) x n))
       (λ _ h. go ws given x (subst (λ (l : List Valued). List·Memᴰ x l) h m))
 
 -- for each ride that is taken out, so are those that its window wants
@@ -128,22 +95,26 @@ window-taken target (v ∷ vs) (ahead before o) moves ws u x safe m away e k b h
 
 module _ (q : Query) (chosen : List Valued) (o : Ordered chosen) (moves : (x : Valued) → List·Memᴰ x chosen → Moves (x .ride)) where
   -- the window at the source wants the first chosen row alone
-  first-alone : (x : Valued) → List·Memᴰ x chosen → UpTo (q .source) (q .minute) (firstOpen chosen (q .source) (q .minute)) (x .ride)
-      → InPlan q chosen x
-  first-alone x m u =
-      let found = first-before chosen o (q .source) (q .minute) x m (u .caught) in
-      ⊎-elim (λ e. words.first (found .1 ∙ ap some e))
-      (λ b. let same : u .last ≡ found .0 = same-thing (sym (u .is-last) ∙ found .1) in
+  first-alone :
+      (x : Valued) → List·Memᴰ x chosen → (w : Window) → List·Memᴰ w (upTo (q .source) (q .minute) (firstOpen chosen (q .source) (q .minute)))
+      → inWindow w (x .ride) ≡ true → InPlan q chosen x
+  first-alone x m w among e =
+      let last = up-to-is (q .source) (q .minute) (firstOpen chosen (q .source) (q .minute)) among in
+      let caught : boards (x .ride) (q .source) (q .minute) ≡ true =
+      subst (λ (u : Window). boards (x .ride) (u .stop) (u .minute) ≡ true) (last .2) (window-boards w (x .ride) e) in
+      let no-later : x .ride .departs ≤ last .0 .ride .departs =
+      subst (λ (u : Window). x .ride .departs ≤ u .until) (last .2) (window-until w (x .ride) e) in
+      let found = first-before chosen o (q .source) (q .minute) x m caught in
+      ⊎-elim (λ same. words.first (found .1 ∙ ap some same))
+      (λ b. let same : last .0 ≡ found .0 = same-thing (sym (last .1) ∙ found .1) in
       let there = boards-stop (found .0 .ride) (q .source) (q .minute) (found-boards chosen (q .source) (q .minute) (found .1)) in
-      let sooner : found .0 .ride .departs < x .ride .departs = b .apart (there ∙ sym (boards-stop (x .ride) (q .source) (q .minute) (u .caught))) in
-      let last : u .last .ride .departs ≡ found .0 .ride .departs = ap (λ (y : Valued). y .ride .departs) same in
-      absurd (let z : ⊥ = omega (arith, u .no-later) in z)) (found .2)
+      let sooner : found .0 .ride .departs < x .ride .departs = b .apart (there ∙ sym (boards-stop (x .ride) (q .source) (q .minute) caught)) in
+      let then : last .0 .ride .departs ≡ found .0 .ride .departs = ap (λ (y : Valued). y .ride .departs) same in
+      absurd (let z : ⊥ = omega arith in z)) (found .2)
 
   pub rides-in-plan : (v : Valued) → List·Memᴰ v (ridesFrom q chosen) → InPlan q chosen v
-  unfolding ridesFrom Ends
-  rides-in-plan v m =
-      extract-in-plan q chosen chosen o moves (λ _ n. n) (λ _ _ s k _. refl) _
-      (λ x n w. first-alone x n (up-to-is (q .source) (q .minute) _ (x .ride) w)) v m
+  unfolding ridesFrom Ends Wants
+  rides-in-plan v m = extract-in-plan q chosen chosen o moves (λ _ n. n) (λ _ _ s k _. refl) _ first-alone v m
 
   pub in-plan-rides : (v : Valued) → InPlan q chosen v → List·Memᴰ v (ridesFrom q chosen)
   unfolding ridesFrom

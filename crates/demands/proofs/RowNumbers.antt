@@ -39,7 +39,9 @@ first-worth (v ∷ vs) stop minute =
     (boards (v .ride) stop minute) (λ opens. refl) (λ shut. first-worth vs stop minute)
 
 -- the worth caught is read from the option's worth
-caught-worth : (vs us : List Valued) (stop minute : ℕ) → worthOf (firstOpen vs stop minute) ≡ worthOf (firstOpen us stop minute) → caught vs stop minute ≡ caught us stop minute
+caught-worth :
+    (vs us : List Valued) (stop minute : ℕ) → worthOf (firstOpen vs stop minute) ≡ worthOf (firstOpen us stop minute)
+    → caught vs stop minute ≡ caught us stop minute
 unfolding caught worthOr worthOf
 caught-worth vs us stop minute e = through (firstOpen vs stop minute) ∙ ap or-zero e ∙ sym (through (firstOpen us stop minute))
   where

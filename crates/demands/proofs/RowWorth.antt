@@ -1,9 +1,9 @@
 -- A row's worth, and where its ride leaves, are what document 01's words say. Uses rising departures and rows that arrive after they depart.
 use Prim.Native.Nat.{ℕ, suc, zero-le, _≤_, _<_}
-use native.Mathlib.Nat.{eq-or-lt-of-le, le-refl, le-of-eq, lt-of-not-le}
+use native.Mathlib.Nat.{eq-or-lt-of-le, le-of-eq, lt-of-not-le}
 use native.Mathlib.Omega.{arith}
 use mathlib.Core.List.{List}
-use mathlib.Core.Logic.{⊎-elim, _≢_, _↔_}
+use mathlib.Core.Logic.{⊎-elim, _↔_}
 use mathlib.Core.Option.{none, some}
 use mathlib.Core.Path.{_≡_, refl, sym, ap, ap₂, subst, _∙_}
 use lib.Dec.{eqb}
@@ -25,7 +25,7 @@ use Rattle.demands.specs.RowWords.{OpenWay, off-at-target, off-elsewhere
 use Rattle.plans.proofs.Open.{finds, found-member, found-boards}
 use Rattle.plans.proofs.AtMost.{AtMost, is-at-most, worth-at-most, found-at-most}
 use Rattle.plans.proofs.FromRow.{bestAt, nextFrom, offAt, next-row}
-use Rattle.plans.proofs.BestRides.{Source, off-here, stays, best-source, best-boards, best-is-ride, row-is-ride}
+use Rattle.plans.proofs.BestRides.{FirstOf, first-here, first-later, Source, off-here, stays, best-source, best-boards, best-is-ride, row-is-ride}
 use Rattle.plans.proofs.Staying.{row-off, stay-on}
 use Rattle.plans.proofs.RideMinutes.{ride-delays}
 use Rattle.plans.proofs.EarliestSafe.{worth-of}
@@ -48,34 +48,16 @@ module _ (aim : Aim) (t : Timetable) where
       trip : ℕ
       trip = rowOf (t .rows) i .trip
 
--- the trip's first row from row k on, where a later row is of that trip
-record FirstFrom (t : Timetable) (trip k last : ℕ) : Type 0 where
-  row : ℕ
-  later : k ≤ row
-  by-last : row ≤ last
-  one-trip : rowOf (t .rows) row .trip ≡ trip
-  first : (m : ℕ) → k ≤ m → m < row → rowOf (t .rows) m .trip ≢ trip
-
-first-from : (t : Timetable) (trip last : ℕ) → rowOf (t .rows) last .trip ≡ trip → (k : ℕ) → k ≤ last → FirstFrom t trip k last
-first-from t trip last same =
-    downward (λ k. FirstFrom t trip k last) last
-    (record { row = last; later = le-refl last; by-last = le-refl last; one-trip = same; first = λ m a b. absurd (let z : ⊥ = omega arith in z) })
-    (λ k h further. ifb (λ b. eqb (rowOf (t .rows) k .trip) trip ≡ b → FirstFrom t trip k last) (eqb (rowOf (t .rows) k .trip) trip)
-    (λ e _. record {
-      row = k;
-      later = le-refl k;
-      by-last = (let z : k ≤ last = omega arith in z);
-      one-trip = eqb-true (rowOf (t .rows) k .trip) trip e;
-      first = λ m a b. absurd (let z : ⊥ = omega arith in z);
-    })
-    (λ e _. record {
-      row = further .row;
-      later = (let z : k ≤ further .row = omega (arith, further .later) in z);
-      by-last = further .by-last;
-      one-trip = further .one-trip;
-      first = λ m a b. ⊎-elim (λ q. subst (λ x. rowOf (t .rows) x .trip ≢ trip) q (eqb-false (rowOf (t .rows) k .trip) trip e))
-          (λ c. further .first m c b) (eq-or-lt-of-le a);
-    }) refl)
+-- a row of a trip has the trip's first row from row k on before it, or is it
+first-before-last :
+    (t : Timetable) (trip last : ℕ) → last < length (t .rows) → rowOf (t .rows) last .trip ≡ trip → (k : ℕ) → k ≤ last
+    → (f : FirstOf t trip k) × (f .row ≤ last)
+first-before-last t trip last inside same k h =
+    let f = downward (λ k. FirstOf t trip k) last (first-here t trip last inside same)
+    (λ k below further. ifb (λ b. eqb (rowOf (t .rows) k .trip) trip ≡ b → FirstOf t trip k) (eqb (rowOf (t .rows) k .trip) trip)
+    (λ e _. first-here t trip k (let z : k < length (t .rows) = omega arith in z) (eqb-true (rowOf (t .rows) k .trip) trip e))
+    (λ e _. first-later t trip k (eqb-false (rowOf (t .rows) k .trip) trip e) further) refl) k h in
+    let by-last : f .row < suc last = lt-of-not-le (λ behind. f .first last h behind same) in (f, let z : f .row ≤ last = omega arith in z)
 
 -- of two rides from one row that stay aboard alike, none leaves later
 leaves-no-later :
@@ -85,16 +67,11 @@ leaves-no-later t goal v u is is' board worth aboard aboard' =
     let not-later : u .ride .leave < suc (v .ride .leave) = lt-of-not-le
     (λ later. let same : rowOf (t .rows) (u .ride .leave) .trip ≡ rowOf (t .rows) (v .ride .leave) .trip = sym (is' .one-trip)
     ∙ ap (λ k. rowOf (t .rows) k .trip) (sym board) ∙ is .one-trip in
-    let next = first-from t (rowOf (t .rows) (v .ride .leave) .trip) (u .ride .leave) same (suc (v .ride .leave)) later in
-    aboard .not-longer (next .row)
-    (record {
-      later = next .later;
-      inside = (let z : next .row < length (t .rows) = omega (arith, next .by-last, is' .inside) in z);
-      one-trip = next .one-trip;
-      first = next .first;
-    })
+    let found = first-before-last t (rowOf (t .rows) (v .ride .leave) .trip) (u .ride .leave) (is' .inside) same (suc (v .ride .leave)) later in
+    let next = found .0 in
+    aboard .not-longer (next .row) (record { later = next .later; inside = next .inside; one-trip = next .one-trip; first = next .first })
     (subst (λ w. HasWorth t goal (next .row) w) (sym worth)
-    (aboard' .while-equal (next .row) (let z : u .ride .board ≤ next .row = omega (arith, next .later, is .onward) in z) (next .by-last)
+    (aboard' .while-equal (next .row) (let z : u .ride .board ≤ next .row = omega (arith, next .later, is .onward) in z) (found .1)
     (next .one-trip ∙ sym (is .one-trip) ∙ ap (λ k. rowOf (t .rows) k .trip) board)))) in
     omega arith
 

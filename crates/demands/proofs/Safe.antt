@@ -33,7 +33,8 @@ module _ {t : Timetable} (q : Query) (bound : ℕ) (all : List Ride) (safe : Saf
   pub plan-serves : (r : Ride) → List·Memᴰ r all → Served (q .target) all (r .to) (latest r)
   plan-serves r among =
       ifb (λ b. eqb (r .to) (q .target) ≡ b → Served (q .target) all (r .to) (latest r)) (eqb (r .to) (q .target))
-      (λ ends _. over (eqb-true (r .to) (q .target) ends)) (λ elsewhere _. next (safe .goes-on r among (eqb-false (r .to) (q .target) elsewhere))) refl
+      (λ ends _. over (eqb-true (r .to) (q .target) ends))
+      (λ elsewhere _. next (safe .goes-on r among (eqb-false (r .to) (q .target) elsewhere))) refl
     where
       next : (next : Ride) × List·Memᴰ next all × T (boards next (r .to) (latest r)) → Served (q .target) all (r .to) (latest r)
       next found = onward (found .0) (found .1) (found .2)
@@ -49,7 +50,8 @@ module _ {t : Timetable} (timely : Timely t) (q : Query) (bound : ℕ) (all : Li
   unfolding Closing
   part-forward [] rising closing = Forward.none
   part-forward (r ∷ rides) (before-all before rising) closing =
-      Forward.one timed (serves (plan-serves q bound all safe r here)) (part-forward rides rising (λ u among. closing .0 u (List·Memᴰ·tail among), keeps))
+      Forward.one timed (serves (plan-serves q bound all safe r here))
+      (part-forward rides rising (λ u among. closing .0 u (List·Memᴰ·tail among), keeps))
     where
       here : List·Memᴰ r all
       here = closing .0 r (List·Memᴰ·head refl)

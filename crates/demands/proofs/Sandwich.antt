@@ -14,11 +14,11 @@ use Rattle.laws.proofs.Tests.{ifb, cond-true, cond-false}
 use Rattle.timetable.specs.Classes.{sum, whole}
 use Rattle.plans.specs.Rides.{Ride, boards}
 use Rattle.plans.specs.Worth.{ticks, up, weigh, firstOpen, worthOr, caught, landWorth, valued}
-use Rattle.demands.specs.Walk.{Sailed, Standing, landed}
+use Rattle.demands.specs.Walk.{Sailed, Delayed, delay-first, undelayed, Standing, landed}
 use Rattle.plans.proofs.RideMinutes.{shares-stand}
 use Rattle.plans.proofs.Weighing.{weigh-less}
 use Rattle.demands.proofs.Means.{standingWorth, weigh-scale, weigh-add, weigh-constant, weigh-shift, up-reaches, up-loses, land-mean}
-use Rattle.demands.proofs.Choices.{Delayed, late, total, total-cons, total-nil}
+use Rattle.demands.proofs.Choices.{late, total, total-cons, total-nil}
 use Rattle.demands.proofs.Forward.{Timed, Served, over, onward, Forward, served-sooner, served-behind, landing-latest}
 use Rattle.plans.proofs.Open.{boards-stop}
 use Rattle.demands.proofs.Course.{course}
@@ -210,7 +210,7 @@ unfolding Landings course landed
 most-boarded r behind at most opens within minute from below sailed delayed =
     subst (λ (m : ℕ). course sailed (off at r m) .boarded ≤ most) (omega arith)
     (subst (λ (b : Bool). cond b (course sailed (off at r (r .arrives + (minute - r .arrives)))) (course sailed at) .boarded ≤ most) opens
-    (within (late r (minute - r .arrives) ∷ sailed) (Delayed.one refl (omega arith) delayed)))
+    (within (late r (minute - r .arrives) ∷ sailed) (delay-first refl (omega arith) delayed)))
 
 most-passed :
     (r : Ride) (behind : List Ride) (at : Standing) (most : ℕ) → sum (r .shares) ≡ whole → boards r (at .stop) (at .minute) ≡ false
@@ -218,7 +218,7 @@ most-passed :
 unfolding course landed
 most-passed r behind at most full shut within sailed delayed =
     subst (λ (b : Bool). cond b (course sailed (off at r (r .arrives + 0))) (course sailed at) .boarded ≤ most) shut
-    (within (late r 0 ∷ sailed) (Delayed.one refl (let z : 0 < length (r .shares) = omega (arith, shares-stand (r .shares) full) in z) delayed))
+    (within (late r 0 ∷ sailed) (delay-first refl (let z : 0 < length (r .shares) = omega (arith, shares-stand (r .shares) full) in z) delayed))
 
 mean-above :
     (target most : ℕ) {rides : List Ride} → Forward target rides → (at : Standing) → Served target rides (at .stop) (at .minute)
@@ -230,7 +230,7 @@ mean-above target most Forward.none at (over there) within =
       arith,
       mean-end at,
       worth-over target [] at there,
-      within [] Delayed.none,
+      within [] undelayed,
       cond-true {A = ℕ} 0 1 (eq-eqb (at .stop) target there),
     )
 mean-above target most (Forward.one {r = r} {behind = behind} timed goes-on rest) at served within =

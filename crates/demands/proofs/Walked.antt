@@ -19,10 +19,10 @@ use Rattle.plans.specs.Chosen.{worthOf}
 use Rattle.plans.specs.Plan.{latestOf}
 use Rattle.demands.specs.SafePlan.{SafePlan, ByBoardingRow, expectedOf}
 use Rattle.plans.specs.Sound.{Timely}
-use Rattle.demands.specs.Walk.{Sailed, Standing, firstSailed, start, walked, choices, weightedArrivals, largest, longestWay}
+use Rattle.demands.specs.Walk.{Sailed, Delayed, Standing, firstSailed, start, walked, choices, weightedArrivals, largest, longestWay}
 use Rattle.demands.specs.Passenger.{standsAfter}
 use Rattle.demands.proofs.Means.{standingWorth}
-use Rattle.demands.proofs.Choices.{Delayed, total, total-same, delayed-choice, delayed-rides, delayed-range}
+use Rattle.demands.proofs.Choices.{total, total-same, delayed-choice, delayed-rides, delayed-range}
 use Rattle.demands.proofs.Forward.{Served, onward, Forward, forward-timed}
 use Rattle.plans.proofs.Open.{boards-minute, boards-stop}
 use Rattle.plans.proofs.RideMinutes.{departs-before}
@@ -63,7 +63,8 @@ module _ {t : Timetable} (q : Query) (bound : ℕ) (rides : List Ride) (safe : S
           subst (λ (x : List Ride). (r : Ride) → List·Memᴰ r x → Served (q .target) x (r .to) (latest r)) (sym (delayed-rides delayed))
           (plan-serves q bound rides safe)
 
-module _ {t : Timetable} (timely : Timely t) (q : Query) (bound : ℕ) (rides : List Ride) (safe : SafePlan t q bound rides) (rising : ByBoardingRow rides) where
+module _ {t : Timetable} (timely : Timely t) (q : Query) (bound : ℕ) (rides : List Ride) (safe : SafePlan t q bound rides)
+    (rising : ByBoardingRow rides) where
   forward : Forward (q .target) rides
   forward = safe-forward timely q bound rides safe rising
 

@@ -2,13 +2,13 @@
 use Prim.Native.Nat.{ℕ, _≤_, _<_}
 use native.Mathlib.Omega.{arith}
 use mathlib.Core.Bool.{true, false≢true}
-use mathlib.Core.List.{List, [], _∷_, List·Memᴰ, List·Memᴰ·head, List·Memᴰ·tail, List·Memᴰ·not-nil}
+use mathlib.Core.List.{List, [], _∷_, List·Memᴰ, List·Memᴰ·head, List·Memᴰ·tail, List·Memᴰ·not-nil, Memᴰ·map}
 use mathlib.Core.Option.{some}
 use mathlib.Core.Path.{_≡_, refl, sym, ap, subst, _∙_}
 use Rattle.laws.proofs.Options.{same-thing}
 use Rattle.laws.proofs.Members.{head-or-later}
 use Rattle.plans.specs.Rides.{Ride, boards}
-use Rattle.plans.specs.Worth.{Valued, firstOpen, landWorth, valued}
+use Rattle.plans.specs.Worth.{Valued, ridesOf, firstOpen, landWorth, valued}
 use Rattle.plans.proofs.Open.{too-late, first-further, on-head}
 use Rattle.plans.proofs.Weighing.{land-same}
 use Rattle.plans.proofs.RideMinutes.{shares-stand}
@@ -45,6 +45,31 @@ pub worth-in-whole :
     → v .worth ≡ landWorth target (v .ride) (valued target rides)
 unfolding Ends
 worth-in-whole target rides timed = worths-whole target (valued target rides) rides timed (λ _ _ _ _ _. refl)
+
+-- and worths that agree so with the whole plan are its own
+own-from :
+    (target : ℕ) (all vs : List Valued) → AllTimed target (ridesOf vs)
+    → ((v : Valued) → List·Memᴰ v vs → (s m : ℕ) → v .ride .departs < m → firstOpen vs s m ≡ firstOpen all s m)
+    → ((v : Valued) → List·Memᴰ v vs → v .worth ≡ landWorth target (v .ride) all) → valued target (ridesOf vs) ≡ vs
+unfolding valued
+own-from target all [] timed ends agree = refl
+own-from target all (v ∷ vs) (one timed rest) ends agree =
+    ap (λ (l : List Valued). record { ride = v .ride; worth = landWorth target (v .ride) l } ∷ l)
+    (own-from target all vs rest
+    (λ u n s m late. sym (passed s m (omega (arith, timed .in-order (u .ride) (Memᴰ·map (λ x. x .ride) n)))) ∙ ends u (List·Memᴰ·tail n) s m late)
+    (λ u n. agree u (List·Memᴰ·tail n)))
+    ∙ ap (λ w. record { ride = v .ride; worth = w } ∷ vs)
+    (land-same target (v .ride) vs all (shares-stand (v .ride .shares) (timed .full))
+    (λ m late _. let gone : v .ride .departs < m = omega (arith, timed .forward) in
+    sym (passed (v .ride .to) m gone) ∙ ends v (List·Memᴰ·head refl) (v .ride .to) m gone) ∙ sym (agree v (List·Memᴰ·head refl)))
+  where
+    passed : (s m : ℕ) → v .ride .departs < m → firstOpen (v ∷ vs) s m ≡ firstOpen vs s m
+    passed s m gone = first-further v vs s m (too-late (v .ride) s m gone)
+
+pub own-in-whole :
+    (target : ℕ) (vs : List Valued) → AllTimed target (ridesOf vs) → ((v : Valued) → List·Memᴰ v vs → v .worth ≡ landWorth target (v .ride) vs)
+    → valued target (ridesOf vs) ≡ vs
+own-in-whole target vs timed = own-from target vs vs timed (λ _ _ _ _ _. refl)
 
 -- the ride caught is the first to depart of those that can be
 pub caught-departs :

@@ -32,7 +32,8 @@ pub record SafePlan (t : Timetable) (q : Query) (bound : ℕ) (rides : List Ride
 pub data ByBoardingRow : List Ride → Type 0 where
   no-rides : ByBoardingRow []
   before-all :
-      {r : Ride} {rides : List Ride} → ((next : Ride) → List·Memᴰ next rides → r .board < next .board) → ByBoardingRow rides → ByBoardingRow (r ∷ rides)
+      {r : Ride} {rides : List Ride} → ((next : Ride) → List·Memᴰ next rides → r .board < next .board) → ByBoardingRow rides
+      → ByBoardingRow (r ∷ rides)
 
 -- one more ride, at its place; one with its boarding row stands for it
 unfoldable pub insert : Ride → List Ride → List Ride

@@ -23,6 +23,10 @@ smallRides = rideOf small 0 0 ∷ rideOf small 1 1 ∷ rideOf small 2 2 ∷ []
 abbrev pub turnedRound : List Ride
 turnedRound = rideOf small 2 2 ∷ rideOf small 1 1 ∷ rideOf small 0 0 ∷ []
 
+-- a safe plan too, listed backwards: the boat and the later of the two
+abbrev pub laterBoat : List Ride
+laterBoat = rideOf small 2 2 ∷ rideOf small 0 0 ∷ []
+
 unfoldable pub expectedIn : Option ℕ → List ℕ
 expectedIn none = []
 expectedIn (some x) = x ∷ []
@@ -33,10 +37,14 @@ smallCases =
     -- X, whatever order the rides are listed in
     ∷ record { answered = expectedIn (expectedOf asked smallRides); expected = 168962 ∷ [] }
     ∷ record { answered = expectedIn (expectedOf asked turnedRound); expected = 168962 ∷ [] }
+    ∷ record { answered = expectedIn (expectedOf asked laterBoat); expected = 176640 ∷ [] }
     -- two choices, of 68,702,699,520 and 16,777,216 parts in 4,096^3
     ∷ record { answered = map weight (choices smallRides); expected = 68702699520 ∷ 16777216 ∷ [] }
     -- A, then 4,096^R × X, which is a little more
-    ∷ record { answered = weightedArrivals asked smallRides ∷ whole ^ length smallRides * 168962 ∷ []; expected = 11610971638333440 ∷ 11610980228268032 ∷ [] }
+    ∷ record {
+      answered = weightedArrivals asked smallRides ∷ whole ^ length smallRides * 168962 ∷ [];
+      expected = 11610971638333440 ∷ 11610980228268032 ∷ [];
+    }
     -- L: two of the three rides are boarded, in time or late
     ∷ record { answered = longestWay asked smallRides ∷ []; expected = 2 ∷ [] }
     ∷ []

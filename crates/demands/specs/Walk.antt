@@ -1,5 +1,5 @@
 -- Demand 3: the passenger's walk through a plan, one landing at a time, under one choice of delays.
-use Prim.Native.Nat.{ℕ, zero, suc, _+_, _*_, max}
+use Prim.Native.Nat.{ℕ, zero, suc, _+_, _*_, _<_, max}
 use mathlib.Core.Bool.{cond}
 use mathlib.Core.List.{List, [], _∷_, _++_, map}
 use mathlib.Core.Logic.{_≢_}
@@ -56,6 +56,13 @@ pub record Boards (target : ℕ) (sailed : List Sailed) (at : Standing) (r : Rid
   pub first :
       firstSailed sailed (steps target sailed landings at .stop) (steps target sailed landings at .minute)
       ≡ some (record { ride = r; delay = delay })
+
+-- the rides of a plan, each with one delay from 0 to its M
+pub data Delayed : List Ride → List Sailed → Type 0 where
+  undelayed : Delayed [] []
+  delay-first :
+      {r : Ride} {s : Sailed} {rides : List Ride} {sailed : List Sailed} → s .ride ≡ r → s .delay < length (r .shares)
+      → Delayed rides sailed → Delayed (r ∷ rides) (s ∷ sailed)
 
 -- one ride with each of its delays from v on, before each way to go on
 unfoldable pub withDelays : Ride → ℕ → List ℕ → List (List Sailed) → List (List Sailed)

@@ -22,7 +22,8 @@ use Rattle.plans.proofs.OwnWorth.{Moves}
 use Rattle.plan_stacks.specs.Stacks.{stackStart, stackSize, entryDeparture, entryRow}
 use Rattle.plan_stacks.specs.Chosen.{StackHolds, Climbing}
 use Rattle.plan_extract.specs.Marks.{Caught, Catching, AllPassed}
-use Rattle.plan_extract.proofs.Windows.{window, window-boards, window-until, in-window, one-more}
+use Rattle.plans.proofs.Extracted.{window-boards, window-until}
+use Rattle.plan_extract.proofs.Windows.{window, in-window, one-more}
 use Rattle.laws.proofs.Options.{same-thing}
 use Rattle.plan_stacks.proofs.Stacked.{Stands, entry-ride, ride-entry, falls}
 

@@ -5,22 +5,11 @@ use mathlib.Core.List.{List, [], _∷_, _++_}
 use mathlib.Core.Logic.{_≢_}
 use mathlib.Core.Option.{some}
 use mathlib.Core.Path.{_≡_, ap, _∙_}
-use borrow.Author.Tests.{eq-eqb, ne-eqb, leb-true, le-leb}
-use lib.Dec.{leb}
-use Rattle.laws.proofs.Tests.{both, both-left, both-right, cond-true, cond-false}
+use borrow.Author.Tests.{eq-eqb, ne-eqb, le-leb}
+use Rattle.laws.proofs.Tests.{both, cond-true, cond-false}
 use Rattle.plans.specs.Rides.{Ride, latest, boards}
 use Rattle.plans.specs.Worth.{Valued, firstOpen}
 use Rattle.plans.specs.Plan.{Window, inWindow, upTo, windowsOf}
-
--- a ride in a window boards at its stop, from its minute on, and departs no later than its end
-pub window-boards : (w : Window) (r : Ride) → inWindow w r ≡ true → boards r (w .stop) (w .minute) ≡ true
-unfolding inWindow
-window-boards w r e = both-left (boards r (w .stop) (w .minute)) (leb (r .departs) (w .until)) e
-
-pub window-until : (w : Window) (r : Ride) → inWindow w r ≡ true → r .departs ≤ w .until
-unfolding inWindow
-window-until w r e =
-    leb-true (r .departs) (w .until) (both-right (boards r (w .stop) (w .minute)) (leb (r .departs) (w .until)) e)
 
 pub in-window : (w : Window) (r : Ride) → boards r (w .stop) (w .minute) ≡ true → r .departs ≤ w .until → inWindow w r ≡ true
 unfolding inWindow

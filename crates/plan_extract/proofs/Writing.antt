@@ -12,7 +12,7 @@ use Rattle.laws.proofs.Tests.{ifb, either}
 use Rattle.plans.specs.Rides.{Ride, latest, boards}
 use Rattle.plans.specs.Worth.{Valued}
 use Rattle.plans.specs.Plan.{Window, inWindow, wanted, upTo, windowsOf, latestOf}
-use Rattle.plans.proofs.Extracted.{up-to-wants}
+use Rattle.plans.proofs.Extracted.{up-to-wants, window-boards, window-until}
 use Rattle.plans.proofs.Open.{boards-stop, found-member, found-boards}
 use Rattle.plans.proofs.Order.{Ordered, members-apart, first-before}
 use Rattle.plans.proofs.OwnWorth.{OwnWorth}
@@ -23,7 +23,7 @@ use Rattle.plan_extract.specs.Extracted.{FirstRide, ridesOf}
 use Rattle.numbers.specs.Over.{over}
 use Rattle.plan_extract.specs.Marks.{HeadAlone, AllPassed}
 use Rattle.plan_extract.proofs.Going.{Going, Taken, going-start, going-pass, going-take, going-end}
-use Rattle.plan_extract.proofs.Windows.{window-boards, window-until, none-more}
+use Rattle.plan_extract.proofs.Windows.{none-more}
 use Rattle.plan_extract.proofs.Wanting.{Marking, Lands, unmarked, marking-on}
 
 latest-more : (past : List Valued) (v : Valued) → latestOf (past ++ v ∷ []) ≡ max (latestOf past) (latest (v .ride))

@@ -1,24 +1,20 @@
 -- Sums over delays, in runs of delays that catch the same ride. Assumes nothing.
 use Prim.Native.Nat.{ℕ, zero, suc, _+_, _-_, _*_, _≤_, _<_}
-use mathlib.Core.List.{List, [], _∷_, _++_}
+use mathlib.Core.List.{List, [], _∷_}
 use mathlib.Core.Path.{_≡_, refl, sym, ap, _∙_}
-use native.Mathlib.Nat.{add-zero, zero-add, mul-le-mul-left}
+use native.Mathlib.Nat.{add-zero, mul-le-mul-left}
 use native.Mathlib.Omega.{arith}
 use lib.ListN.{length, take, drop, take-append-drop, length-drop}
 use lib.Seq.{take-add, take-length, drop-length, drop-drop}
 use Rattle.timetable.specs.Timetable.{longest}
 use Rattle.timetable.specs.Classes.{sum}
 use Rattle.plans.specs.Worth.{weigh}
+use Rattle.plans.proofs.Weighing.{sum-append}
 
 -- there is one share more than the maximum delay
 pub longest-on : (xs : List ℕ) → 1 ≤ length xs → suc (longest xs) ≡ length xs
 longest-on [] h = absurd (let z : ⊥ = omega arith in z)
 longest-on (x ∷ xs) h = refl
-
-pub sum-append : (xs ys : List ℕ) → sum (xs ++ ys) ≡ sum xs + sum ys
-unfolding sum
-sum-append [] ys = sym (zero-add (sum ys))
-sum-append (x ∷ xs) ys = omega (arith, sum-append xs ys)
 
 -- the share of the first delays grows by that of the next ones
 pub sum-take-on : (n m : ℕ) (xs : List ℕ) → sum (take (n + m) xs) ≡ sum (take n xs) + sum (take m (drop n xs))

@@ -23,6 +23,28 @@ use Rattle.plans.proofs.AtMost.{least-either}
 use Rattle.plans.proofs.FromRow.{chosenFrom, bestAt, nextFrom, offAt, chosen-row, chosen-end, next-row, next-end, best-row}
 use Rattle.plans.proofs.Choice.{Choice, worthless, at-target, behind, added, choice, others-member}
 
+-- a trip's first row from row i on
+pub record FirstOf (t : Timetable) (trip i : ℕ) : Type 0 where
+  pub row : ℕ
+  pub later : i ≤ row
+  pub inside : row < length (t .rows)
+  pub one-trip : rowOf (t .rows) row .trip ≡ trip
+  pub first : (k : ℕ) → i ≤ k → k < row → rowOf (t .rows) k .trip ≢ trip
+
+pub first-here : (t : Timetable) (trip i : ℕ) → i < length (t .rows) → rowOf (t .rows) i .trip ≡ trip → FirstOf t trip i
+first-here t trip i h same =
+    record { row = i; later = le-refl i; inside = h; one-trip = same; first = λ k a b. absurd (let z : ⊥ = omega arith in z) }
+
+pub first-later : (t : Timetable) (trip i : ℕ) → rowOf (t .rows) i .trip ≢ trip → FirstOf t trip (suc i) → FirstOf t trip i
+first-later t trip i other f =
+    record {
+      row = f .row;
+      later = (let z : i ≤ f .row = omega (arith, f .later) in z);
+      inside = f .inside;
+      one-trip = f .one-trip;
+      first = λ k a b. ⊎-elim (λ e. subst (λ x. rowOf (t .rows) x .trip ≢ trip) e other) (λ c. f .first k c b) (eq-or-lt-of-le a);
+    }
+
 module _ (aim : Aim) (t : Timetable) where
   -- the best ride of row i gets off where the row lands, if staying on is dearer, or is that of the trip's next row, boarded here
   pub data Source (i : ℕ) : Valued → Type 0 where
@@ -34,40 +56,19 @@ module _ (aim : Aim) (t : Timetable) where
         {u : Valued} {j : ℕ} → NextOfTrip t i j → bestAt aim t j ≡ some u
         → Source i (record { ride = boardedAt i (rowOf (t .rows) i) (u .ride); worth = u .worth })
 
-  -- a trip's first row from row i on
-  pub record FirstOf (trip i : ℕ) (u : Valued) : Type 0 where
-    pub row : ℕ
-    pub later : i ≤ row
-    pub inside : row < length (t .rows)
-    pub one-trip : rowOf (t .rows) row .trip ≡ trip
-    pub first : (k : ℕ) → i ≤ k → k < row → rowOf (t .rows) k .trip ≢ trip
-    pub best : bestAt aim t row ≡ some u
-
-  first-here : (trip i : ℕ) (u : Valued) → i < length (t .rows) → rowOf (t .rows) i .trip ≡ trip → bestAt aim t i ≡ some u → FirstOf trip i u
-  first-here trip i u h same e =
-      record { row = i; later = le-refl i; inside = h; one-trip = same; first = λ k a b. absurd (let z : ⊥ = omega arith in z); best = e }
-
-  first-later : (trip i : ℕ) (u : Valued) → rowOf (t .rows) i .trip ≢ trip → FirstOf trip (suc i) u → FirstOf trip i u
-  first-later trip i u other f =
-      record {
-        row = f .row;
-        later = (let z : i ≤ f .row = omega (arith, f .later) in z);
-        inside = f .inside;
-        one-trip = f .one-trip;
-        first = λ k a b. ⊎-elim (λ e. subst (λ x. rowOf (t .rows) x .trip ≢ trip) e other) (λ c. f .first k c b) (eq-or-lt-of-le a);
-        best = f .best;
-      }
-
-  pub next-is : (trip i : ℕ) → i ≤ length (t .rows) → (u : Valued) → nextFrom aim t i trip ≡ some u → FirstOf trip i u
+  pub next-is :
+      (trip i : ℕ) → i ≤ length (t .rows) → (u : Valued) → nextFrom aim t i trip ≡ some u → (f : FirstOf t trip i) × (bestAt aim t (f .row) ≡ some u)
+  unfolding first-here first-later
   next-is trip =
-      downward (λ i. (u : Valued) → nextFrom aim t i trip ≡ some u → FirstOf trip i u) (length (t .rows))
-      (λ u e. absent (sym (next-end aim t trip) ∙ e))
+      downward (λ i. (u : Valued) → nextFrom aim t i trip ≡ some u → Next i u) (length (t .rows)) (λ u e. absent (sym (next-end aim t trip) ∙ e))
       (λ i h further u e.
-      ifb (λ b. eqb (rowOf (t .rows) i .trip) trip ≡ b → cond b (bestAt aim t i) (nextFrom aim t (suc i) trip) ≡ some u
-      → FirstOf trip i u)
-      (eqb (rowOf (t .rows) i .trip) trip) (λ q _ k. first-here trip i u h (eqb-true (rowOf (t .rows) i .trip) trip q) k)
-      (λ q _ k. first-later trip i u (eqb-false (rowOf (t .rows) i .trip) trip q) (further u k)) refl
+      ifb (λ b. eqb (rowOf (t .rows) i .trip) trip ≡ b → cond b (bestAt aim t i) (nextFrom aim t (suc i) trip) ≡ some u → Next i u)
+      (eqb (rowOf (t .rows) i .trip) trip) (λ q _ k. (first-here t trip i h (eqb-true (rowOf (t .rows) i .trip) trip q), k))
+      (λ q _ k. let found = further u k in (first-later t trip i (eqb-false (rowOf (t .rows) i .trip) trip q) (found .0), found .1)) refl
       (sym (next-row aim t i trip h) ∙ e))
+    where
+      Next : ℕ → Valued → Type 0
+      Next i u = (f : FirstOf t trip i) × (bestAt aim t (f .row) ≡ some u)
 
   got-off :
       (r : Ride) (o : Option ℕ) (i : ℕ) (v : Valued) → r ≡ rowRide (t .tables) i (rowOf (t .rows) i) → o ≡ offAt aim t i
@@ -83,9 +84,10 @@ module _ (aim : Aim) (t : Timetable) where
   unfolding stayOn
   stayed none i v h p e = absent e
   stayed (some u) i v h p e =
-      let next = next-is (rowOf (t .rows) i .trip) (suc i) h u p in
+      let found = next-is (rowOf (t .rows) i .trip) (suc i) h u p in
+      let next = found .0 in
       subst (λ (x : Valued). Source i x) (same-thing e)
-      (stays {u = u} (record { later = next .later; inside = next .inside; one-trip = next .one-trip; first = next .first }) (next .best))
+      (stays {u = u} (record { later = next .later; inside = next .inside; one-trip = next .one-trip; first = next .first }) (found .1))
 
   dearer-on :
       (i w : ℕ) (o : Option Valued) → ((x : Valued) → stayOn i (rowOf (t .rows) i) o ≡ some x → w < x .worth) → (u : Valued) → o ≡ some u

@@ -22,6 +22,7 @@ use Rattle.plans.proofs.Weighing.{land-same}
 use Rattle.plans.proofs.OwnWorth.{Moves, OwnWorth}
 use Rattle.plans.proofs.OwnWorth as own
 
+-- a ride in a window boards at its stop, from its minute on, and departs no later than its end
 pub window-boards : (w : Window) (r : Ride) → inWindow w r ≡ true → boards r (w .stop) (w .minute) ≡ true
 unfolding inWindow
 window-boards w r e = both-left (boards r (w .stop) (w .minute)) (leb (r .departs) (w .until)) e
