@@ -1,7 +1,8 @@
 // Many small files: the verified planner, the Rust program and the transcribed definitions agree, and
 // every lent slice holds afterwards what document 01 says.
 use crate::sailing::{Answer, Dice, Query, Row, Timetable};
-use crate::{baseline, definitions, verified};
+use crate::verified::NOW;
+use crate::{baseline, definitions};
 
 const DIRT: u32 = 0xdead_beef;
 
@@ -89,7 +90,7 @@ pub fn compare(files: u64, seed: u64) -> (u64, u64) {
             let room = 4 * n + 2500;
             let mut work = vec![DIRT; room + dice.from(0, 3) as usize];
             let mut rides = vec![DIRT; 3 * n + dice.from(0, 3) as usize];
-            let ours = verified::answer(&file, q, &mut work, &mut rides);
+            let ours = NOW.answer(&file, q, &mut work, &mut rides);
             let wanted = judged(&t, q);
             assert_eq!(ours, wanted, "{t:?} {q:?}");
             assert_eq!(baseline::answer(&file, q), wanted, "{t:?} {q:?}");
@@ -104,16 +105,16 @@ pub fn compare(files: u64, seed: u64) -> (u64, u64) {
                 Answer::Refused { number, place } if *number < 7 => [*number, *place],
                 _ => [7, 0],
             };
-            let a = verified::plan(&file, q, &mut work[..short], &mut rides);
+            let a = NOW.plan(&file, q, &mut work[..short], &mut rides);
             assert_eq!([a[0], a[1]], refused);
             if n > 0 {
-                let a = verified::plan(&file, q, &mut work, &mut rides[..3 * n - 1]);
+                let a = NOW.plan(&file, q, &mut work, &mut rides[..3 * n - 1]);
                 assert_eq!([a[0], a[1]], refused);
             }
             assert!(left_clean(&work, room, false));
             if let Answer::Plan { .. } | Answer::Refused { number: 8, .. } = wanted {
                 let e = definitions::earliest(&t, q).map_or([8, 0, 0], |e| [0, 0, e]);
-                assert_eq!(verified::earliest(&file, q, &mut work), e, "{t:?} {q:?}");
+                assert_eq!(NOW.earliest(&file, q, &mut work), e, "{t:?} {q:?}");
                 assert!(left_clean(&work, room, true));
             }
             asked += 1;
