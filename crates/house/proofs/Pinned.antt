@@ -1,9 +1,12 @@
 -- Facts that pin the rule and the answers to document 01's own numbers. Assumes nothing.
+use Prim.Native.Nat.{ℕ}
 use mathlib.Core.Path.{_≡_, refl}
 use mathlib.Core.List.{List, [], _∷_}
+use native.Mathlib.Omega.{arith}
 use Rattle.file_layout.specs.Check.{Answer}
-use Rattle.house.specs.House.{cumulative, between}
+use Rattle.house.specs.House.{cumulative, between, latest, pairOf}
 use Rattle.house.specs.HouseShare.{inHouse, houseShare, houseAnswer}
+use Rattle.house.specs.Rising.{Rising}
 
 -- case 12: pair (5,30), cumulative shares at 1, 2, 5, 6, 35
 pub case-12 : cumulative 5 30 1 ∷ cumulative 5 30 2 ∷ cumulative 5 30 5 ∷ cumulative 5 30 6 ∷ cumulative 5 30 35 ∷ []
@@ -20,6 +23,29 @@ at-latest = refl
 pub at-zero : cumulative 5 30 0 ∷ cumulative 0 9 0 ∷ cumulative 0 0 0 ∷ [] ≡ 0 ∷ 0 ∷ 4096 ∷ []
 unfolding cumulative between
 at-zero = refl
+
+-- the pairs by their numbers, each told from the others by its cumulative share of 11 minutes; and their M
+abbrev shareOfEleven : ℕ → ℕ
+shareOfEleven k = cumulative (pairOf k .change) (pairOf k .parameter) 11
+
+pub pairs-by-number : shareOfEleven 0 ∷ shareOfEleven 1 ∷ shareOfEleven 2 ∷ shareOfEleven 3 ∷ shareOfEleven 4 ∷ shareOfEleven 5
+    ∷ shareOfEleven 6 ∷ shareOfEleven 7 ∷ [] ≡ 4082 ∷ 3731 ∷ 3481 ∷ 3106 ∷ 2945 ∷ 2855 ∷ 1580 ∷ 1035 ∷ []
+unfolding cumulative between
+pairs-by-number = refl
+
+pub latest-by-number : latest (pairOf 0) ∷ latest (pairOf 1) ∷ latest (pairOf 2) ∷ latest (pairOf 3) ∷ latest (pairOf 4)
+    ∷ latest (pairOf 5) ∷ latest (pairOf 6) ∷ latest (pairOf 7) ∷ [] ≡ 12 ∷ 35 ∷ 65 ∷ 40 ∷ 70 ∷ 120 ∷ 105 ∷ 120 ∷ []
+latest-by-number = refl
+
+-- a table whose last step is flat has a last share of 0, so it does not rise; nor does one that falls, or ends below 4,096
+pub flat-last-step : Rising (4096 ∷ 4096 ∷ []) → ⊥
+flat-last-step rising = omega (arith, rising .rises-last (omega arith))
+
+pub falling : Rising (5 ∷ 4 ∷ 4096 ∷ []) → ⊥
+falling rising = omega (arith, rising .never-falls 0 (omega arith))
+
+pub short-of-whole : Rising (5 ∷ 4095 ∷ []) → ⊥
+short-of-whole rising = omega (arith, rising .ends-whole)
 
 -- pair number above 7 or minute above M: refusal 6, place 0
 pub last-answered : houseAnswer (houseShare 7 120) ≡ record { number = 0; place = 0; values = 4096 ∷ [] }

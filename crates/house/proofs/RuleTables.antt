@@ -1,13 +1,15 @@
 -- A table by the rule has M + 1 shares and is one that the check accepts, for any change time and parameter and so for the eight. Assumes nothing.
 use Prim.Native.Nat.{ℕ, zero, suc, pred, _+_, _<_, _≤_}
 use mathlib.Core.Path.{_≡_, refl, ap, _∙_}
+use mathlib.Core.List.{List, _∷_}
 use native.Mathlib.Omega.{arith}
 use lib.ListN.{length, getD}
 use Rattle.timetable.specs.Timetable.{longest}
 use Rattle.file_layout.specs.Format.{versionOne}
 use Rattle.house.specs.House.{latest, pairOf, housePairs, cumulative}
 use Rattle.house.specs.Rising.{Rising, MadeOf, valuesFrom, houseCumulatives, houseTable}
-use Rattle.house.proofs.Tables.{house-short}
+use Rattle.house.specs.Carried.{startOf}
+use Rattle.house.proofs.Tables.{carried, carried-right, house-short}
 use Rattle.house.proofs.Rule.{at-latest, cumulative-below, cumulative-rises}
 use Rattle.house.proofs.RisingTables.{rising-table-accepted}
 
@@ -55,3 +57,24 @@ pub house-pair-accepted : (k : ℕ) → k < length housePairs
     → (latest (pairOf k) ≤ versionOne .delay)
     × MadeOf (houseCumulatives (pairOf k .change) (pairOf k .parameter)) (houseTable (pairOf k .change) (pairOf k .parameter))
 house-pair-accepted k h = (house-short k h, house-table-accepted (pairOf k .change) (pairOf k .parameter))
+
+values-same : (f g : ℕ → ℕ) (x n : ℕ) → ((k : ℕ) → k < x + n → f k ≡ g k) → valuesFrom f x n ≡ valuesFrom g x n
+unfolding valuesFrom
+values-same f g x zero same = refl
+values-same f g x (suc n) same =
+    ap (λ (v : ℕ). v ∷ valuesFrom f (suc x) n) (same x (omega arith))
+    ∙ ap (λ (vs : List ℕ). g x ∷ vs) (values-same f g (suc x) n (λ k h. same k (omega (arith, h))))
+
+-- the entries that are carried for a pair number, from delay 0 to M
+unfoldable pub carriedOf : ℕ → List ℕ
+carriedOf k = valuesFrom (λ x. getD carried (startOf k + x) 0) 0 (suc (latest (pairOf k)))
+
+-- they are the pair's cumulative shares, and so the carried tables rise
+pub carried-by-rule : (k : ℕ) → k < length housePairs → carriedOf k ≡ houseCumulatives (pairOf k .change) (pairOf k .parameter)
+unfolding carriedOf houseCumulatives
+carried-by-rule k h =
+    values-same (λ x. getD carried (startOf k + x) 0) (cumulative (pairOf k .change) (pairOf k .parameter)) 0 (suc (latest (pairOf k)))
+    (λ x inside. carried-right k x h (omega (arith, inside)))
+
+pub carried-rising : (k : ℕ) → k < length housePairs → Rising (carriedOf k)
+carried-rising k h = rw (carried-by-rule k h) (house-rising (pairOf k .change) (pairOf k .parameter))

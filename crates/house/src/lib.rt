@@ -59,6 +59,7 @@ const HOUSES: [House; 8] = [
 
 // The cumulative shares of the eight house tables, one table after the other.
 const CUMULATIVE: [u16; 575] = [
+    // Pair 0, change time 2 and parameter 10: delays 0 to 12.
     0,
     910,
     2730,
@@ -72,6 +73,7 @@ const CUMULATIVE: [u16; 575] = [
     4065,
     4082,
     4096,
+    // Pair 1, change time 5 and parameter 30: delays 0 to 35.
     0,
     303,
     682,
@@ -108,6 +110,7 @@ const CUMULATIVE: [u16; 575] = [
     4087,
     4091,
     4096,
+    // Pair 2, change time 5 and parameter 60: delays 0 to 65.
     0,
     303,
     682,
@@ -174,6 +177,7 @@ const CUMULATIVE: [u16; 575] = [
     4091,
     4093,
     4096,
+    // Pair 3, change time 10 and parameter 30: delays 0 to 40.
     0,
     143,
     303,
@@ -215,6 +219,7 @@ const CUMULATIVE: [u16; 575] = [
     4087,
     4091,
     4096,
+    // Pair 4, change time 10 and parameter 60: delays 0 to 70.
     0,
     143,
     303,
@@ -286,6 +291,7 @@ const CUMULATIVE: [u16; 575] = [
     4091,
     4093,
     4096,
+    // Pair 5, change time 10 and parameter 110: delays 0 to 120.
     0,
     143,
     303,
@@ -407,6 +413,7 @@ const CUMULATIVE: [u16; 575] = [
     4093,
     4094,
     4096,
+    // Pair 6, change time 15 and parameter 90: delays 0 to 105.
     0,
     94,
     195,
@@ -513,6 +520,7 @@ const CUMULATIVE: [u16; 575] = [
     4093,
     4094,
     4096,
+    // Pair 7, change time 20 and parameter 100: delays 0 to 120.
     0,
     70,
     143,

@@ -15,40 +15,40 @@ use Rattle.timetable.specs.Rows.{ownRule, departureRule, lastOfTrip, fol
 abbrev pub row : (board land departure arrival trip class : ℕ) → Row
 row b l d a t c = record { board = b; land = l; departure = d; arrival = a; trip = t; class = c }
 
--- three stops, two classes, the seven days
-abbrev pub week : Ranges
-week = record { stops = 3; classes = 2; lastminute = 10079 }
+-- three stops, two classes, and a last minute of 720: which one a file has is its version's to say
+abbrev pub ranges : Ranges
+ranges = record { stops = 3; classes = 2; lastminute = 720 }
 
 -- Stops are below S
-pub stops-below : (ownRule week (row 2 0 600 630 0 1) ≡ true) × (ownRule week (row 3 0 600 630 0 1) ≡ false)
-    × (ownRule week (row 0 2 600 630 0 1) ≡ true) × (ownRule week (row 0 3 600 630 0 1) ≡ false)
+pub stops-below : (ownRule ranges (row 2 0 600 630 0 1) ≡ true) × (ownRule ranges (row 3 0 600 630 0 1) ≡ false)
+    × (ownRule ranges (row 0 2 600 630 0 1) ≡ true) × (ownRule ranges (row 0 3 600 630 0 1) ≡ false)
 unfolding ownRule
 stops-below = (refl, refl, refl, refl)
 
 -- and differ
-pub stops-differ : ownRule week (row 1 1 600 630 0 1) ≡ false
+pub stops-differ : ownRule ranges (row 1 1 600 630 0 1) ≡ false
 unfolding ownRule
 stops-differ = refl
 
 -- departure is less than arrival
-pub departure-less : (ownRule week (row 0 1 629 630 0 1) ≡ true) × (ownRule week (row 0 1 630 630 0 1) ≡ false)
-    × (ownRule week (row 0 1 631 630 0 1) ≡ false)
+pub departure-less : (ownRule ranges (row 0 1 629 630 0 1) ≡ true) × (ownRule ranges (row 0 1 630 630 0 1) ≡ false)
+    × (ownRule ranges (row 0 1 631 630 0 1) ≡ false)
 unfolding ownRule
 departure-less = (refl, refl, refl)
 
--- minutes in rows are 0 to 10,079
-pub minutes-of-the-week : (ownRule week (row 0 1 0 10079 0 1) ≡ true) × (ownRule week (row 0 1 0 10080 0 1) ≡ false)
-    × (ownRule week (row 0 1 10078 10079 0 1) ≡ true) × (ownRule week (row 0 1 10079 10080 0 1) ≡ false)
+-- minutes in rows are 0 to the last
+pub minutes-to-the-last : (ownRule ranges (row 0 1 0 720 0 1) ≡ true) × (ownRule ranges (row 0 1 0 721 0 1) ≡ false)
+    × (ownRule ranges (row 0 1 719 720 0 1) ≡ true) × (ownRule ranges (row 0 1 720 721 0 1) ≡ false)
 unfolding ownRule
-minutes-of-the-week = (refl, refl, refl, refl)
+minutes-to-the-last = (refl, refl, refl, refl)
 
 -- trip is below 2,000
-pub trip-below : (ownRule week (row 0 1 600 630 1999 1) ≡ true) × (ownRule week (row 0 1 600 630 2000 1) ≡ false)
+pub trip-below : (ownRule ranges (row 0 1 600 630 1999 1) ≡ true) × (ownRule ranges (row 0 1 600 630 2000 1) ≡ false)
 unfolding ownRule
 trip-below = (refl, refl)
 
 -- class is below K
-pub class-below : (ownRule week (row 0 1 600 630 0 1) ≡ true) × (ownRule week (row 0 1 600 630 0 2) ≡ false)
+pub class-below : (ownRule ranges (row 0 1 600 630 0 1) ≡ true) × (ownRule ranges (row 0 1 600 630 0 2) ≡ false)
 unfolding ownRule
 class-below = (refl, refl)
 
@@ -81,19 +81,19 @@ unfolding tripRule follows lastOfTrip
 trip-in-time = (refl, refl)
 
 -- a row's verdict names its own place: 4 before 5, and 5 for departures as for the trip
-pub own-rule-first : (rowVerdict week (row 0 1 601 700 5 1 ∷ []) 9 (row 0 0 600 630 0 1) ≡ fault 4 9)
-    × (rowVerdict week (row 0 1 601 700 5 1 ∷ []) 9 (row 0 1 600 630 0 1) ≡ fault 5 9)
-    × (rowVerdict week (row 0 1 600 641 7 1 ∷ []) 9 (row 1 2 640 660 7 1) ≡ fault 5 9)
-    × (rowVerdict week (row 0 1 600 640 7 1 ∷ []) 9 (row 1 2 640 660 7 1) ≡ fine)
+pub own-rule-first : (rowVerdict ranges (row 0 1 601 700 5 1 ∷ []) 9 (row 0 0 600 630 0 1) ≡ fault 4 9)
+    × (rowVerdict ranges (row 0 1 601 700 5 1 ∷ []) 9 (row 0 1 600 630 0 1) ≡ fault 5 9)
+    × (rowVerdict ranges (row 0 1 600 641 7 1 ∷ []) 9 (row 1 2 640 660 7 1) ≡ fault 5 9)
+    × (rowVerdict ranges (row 0 1 600 640 7 1 ∷ []) 9 (row 1 2 640 660 7 1) ≡ fine)
 unfolding rowVerdict ownRule departureRule tripRule follows lastOfTrip
 own-rule-first = (refl, refl, refl, refl)
 
 -- row by row: both tests of a row come before the next row
-pub row-by-row : (rowsVerdict week [] 0 (row 0 1 600 640 7 1 ∷ row 1 2 640 660 7 0 ∷ row 2 0 640 641 3 1 ∷ []) ≡ fine)
-    × (rowsVerdict week [] 0 (row 0 1 600 640 7 1 ∷ row 1 2 599 660 8 0 ∷ row 2 2 640 641 3 1 ∷ []) ≡ fault 5 1)
-    × (rowsVerdict week [] 0 (row 0 1 600 640 7 1 ∷ row 1 2 640 640 7 0 ∷ row 2 0 639 641 3 1 ∷ []) ≡ fault 4 1)
-    × (rowsVerdict week [] 0 (row 0 1 600 640 7 1 ∷ row 2 0 640 641 3 1 ∷ row 0 2 641 660 7 0 ∷ []) ≡ fault 5 2)
-    × (rowsVerdict week [] 0 [] ≡ fine)
+pub row-by-row : (rowsVerdict ranges [] 0 (row 0 1 600 640 7 1 ∷ row 1 2 640 660 7 0 ∷ row 2 0 640 641 3 1 ∷ []) ≡ fine)
+    × (rowsVerdict ranges [] 0 (row 0 1 600 640 7 1 ∷ row 1 2 599 660 8 0 ∷ row 2 2 640 641 3 1 ∷ []) ≡ fault 5 1)
+    × (rowsVerdict ranges [] 0 (row 0 1 600 640 7 1 ∷ row 1 2 640 640 7 0 ∷ row 2 0 639 641 3 1 ∷ []) ≡ fault 4 1)
+    × (rowsVerdict ranges [] 0 (row 0 1 600 640 7 1 ∷ row 2 0 640 641 3 1 ∷ row 0 2 641 660 7 0 ∷ []) ≡ fault 5 2)
+    × (rowsVerdict ranges [] 0 [] ≡ fine)
 unfolding rowsVerdict rowVerdict ownRule departureRule tripRule follows lastOfTrip
 row-by-row = (refl, refl, refl, refl, refl)
 
