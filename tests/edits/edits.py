@@ -30,21 +30,32 @@ def problems_of_form(lines):
         yield f"lines that are no file, old and new, in this order: {' '.join(words)}"
 
 
-def changed_lines(edit, copy):
-    """Where the copy has the edit's new texts, as (file, line)."""
-    file = None
+def edited(edit, crate):
+    """Each file that the edit names, before and after it."""
+    texts = {}
     for line in edit:
         word, _, text = line.partition(":")
         text = text.removeprefix(" ")
         if word == "file":
             file = text
-        elif word == "new" and text.strip():
-            for number, there in enumerate((copy / file).read_text().splitlines(), 1):
-                if text in there:
-                    yield file, number
+            before = (crate / file).read_text()
+            texts.setdefault(file, (before, before))
+        elif word == "old":
+            old = text
+        else:
+            before, after = texts[file]
+            texts[file] = before, after.replace(old, text, 1)
+    return texts
 
 
-def kind_of(log, copy, edit):
+def changed_lines(texts):
+    for file, (before, after) in texts.items():
+        for number, (old, new) in enumerate(zip(before.splitlines(), after.splitlines()), 1):
+            if old != new:
+                yield file, number
+
+
+def kind_of(log, copy, changed):
     """The kind of the first error, its place, and whether it is a fact."""
     first = next(filter(None, map(FIRST_ERROR.match, log.splitlines())), None)
     if first is None:
@@ -55,7 +66,7 @@ def kind_of(log, copy, edit):
         if re.search(form, text):
             return kind, place, False
     file, line = (place.split(":") + ["0", "0"])[:2]
-    if (file, int(line)) in set(changed_lines(edit, copy)) and not file.startswith("proofs/"):
+    if (file, int(line)) in changed and not file.startswith("proofs/"):
         return "the edit's own types", place, False
     for kind, form in FACTS:
         if re.match(form, text):
@@ -76,7 +87,11 @@ def looked_at(path):
     verdict = copy.with_suffix(".res")
     if verdict.read_text().strip() != "refused":
         return f"{crate} {label}: {verdict.read_text().strip()}", False
-    kind, place, fact = kind_of(log.read_text(errors="replace"), copy, edit)
+    texts = edited(edit, path.parent.parent)
+    if any((copy / file).read_text() != after for file, (_, after) in texts.items()):
+        return f"{crate} {label}: tried on other files than there are now", False
+    changed = set(changed_lines(texts))
+    kind, place, fact = kind_of(log.read_text(errors="replace"), copy, changed)
     return f"{crate} {label}: {kind} ({place})", fact
 
 
