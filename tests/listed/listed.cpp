@@ -50,6 +50,7 @@ void listed_cases() {
   print("4 row 3 departs at 639", timetable(w_rows(639)), {0, 2, 590, 0}, 2516, 12);
   print("5 q 4", w, {0, 2, 590, 4}, 2516, 12);
   print("6 q 5", w, {0, 2, 590, 5}, 2516, 12);
+  print("T 591 and q 5, 714 and three quarters", w, {0, 2, 591, 5}, 2516, 12);
   print("7 T 600", w, {0, 2, 600, 0}, 2516, 12);
   print("8 T 601", w, {0, 2, 601, 0}, 2516, 12);
   Rows twin = w_rows();
