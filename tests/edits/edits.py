@@ -18,6 +18,7 @@ FACTS = [
 ]
 SLIPS = [
     ("scope", r"is not in scope|that can be named from here|has no field|has no function|no field `[^`]*` on type"),
+    ("types of data", r"^expected type `(ℕ|Bool|[A-Z]\w*|(List|Option) [^` ]+)`, but this has type"),
     ("syntax", r"starts at column|is still open|needs its signature|unclosed"),
 ]
 FIRST_ERROR = re.compile(r"(?P<place>[^ ]*): error(\[[^\]]*\])?: (?P<text>.*)")
