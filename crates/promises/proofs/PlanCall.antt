@@ -106,8 +106,7 @@ module _ (file : List ℕ) (q : Query) (work plan : List ℕ) where
       let back : ridesIn t (take (3 * rides) (outcome .plan)) ≡ p .rides =
       ap (λ k. ridesIn t (take (3 * k) (outcome .plan))) (sym (n .0)) ∙ ap (λ l. ridesIn t (take (3 * length (p .rides)) l)) slice
       ∙ slice-read-back t (p .rides) (drop (length (written (p .rides))) plan) (demanded-rides demanded)
-      in
-      (
+      in (
         subst (λ (l : List Valued). Demanded t q l expected last bound) (sym back)
             (subst (λ x. Demanded t q (p .rides) x last bound) (n .1)
             (subst (λ l. Demanded t q (p .rides) (p .expected) l bound) (n .2)

@@ -39,10 +39,10 @@ told a =
 
 -- the stack's size and start, as read
 sized : (c : tie.After-stack-of) → c .stack-of .result .size ≡ stackSize (begun c .args .work .now) (begun c .args .q .source)
-sized c = c .stack-of .ensures .1 
+sized c = c .stack-of .ensures .1
 
 started : (c : tie.After-stack-of) → c .stack-of .result .start ≡ stackStart (begun c .args .work .now) (begun c .args .q .source)
-started c = c .stack-of .ensures .0 
+started c = c .stack-of .ensures .0
 
 some-here : (c : tie.After-top-arg) →
     let a = begun (c .before .before .before) in 0 < stackSize (a .args .work .now) (a .args .q .source)
