@@ -1,3 +1,4 @@
 -- The demands of what the calls return, over their contracts, and the planners that are shut out.
 pub mod Admitted
 pub mod PlanCall
+pub mod ArrivalCall

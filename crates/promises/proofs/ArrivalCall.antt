@@ -1,0 +1,118 @@
+-- What the earliest safe arrival call returns, for every list of bytes, stops, minute and slice, over its contract. Assumes nothing.
+use Prim.Native.Nat.{ℕ, _≤_}
+use native.Mathlib.Omega.{arith}
+use mathlib.Core.List.{List}
+use mathlib.Core.Logic.{_↔_}
+use mathlib.Core.Option.{Option, none, some}
+use mathlib.Core.Path.{_≡_, refl, sym, ap, _∙_}
+use lib.ListN.{length}
+use contract.Lifetimes.{Lfts}
+use denote.Ref.{now}
+use denote.Triple.Clauses.{AtExit}
+use borrow.Fn.Kinds.{Dens, resT, endedOf}
+use Rattle.timetable.specs.Timetable.{Timetable}
+use Rattle.timetable.specs.Verdict.{Verdict, fine, fault}
+use Rattle.file_layout.specs.Format.{versionOne}
+use Rattle.file_layout.specs.Decode.{decode}
+use Rattle.query.specs.declared.Query.{Query}
+use Rattle.query.specs.Query.{queryOf}
+use Rattle.plans.specs.Sound.{Timely}
+use Rattle.plans.specs.Journeys.{Journey, IsEarliest}
+use Rattle.plans.specs.Plan.{earliest}
+use Rattle.demands.proofs.Demand2 as demand2
+use Rattle.planner.specs.declared.Earliest.the-variants.{Arrival, Refused as NoArrival}
+use Rattle.planner.specs.Admission.{workRoom, noRoom, admission}
+use Rattle.planner.specs.Outcome.{workAfter, EarliestOutcome, earliestAnswered, earliestOutcome}
+use Rattle.planner.proofs.Admitting.{refused-number}
+use Rattle.planner.proofs.Answered.{refused-earliest, answered-earliest}
+use Rattle.planner.proofs.earliest_safe_arrival.Kinds as kinds
+use Rattle.planner.proofs.earliest_safe_arrival.Reads as reads
+use Rattle.promises.proofs.Admitted.{is-timely, query-fits}
+
+-- a refusal is no arrival, and two equal arrivals are one minute
+refused-not-arrival : {number place minute : ℕ} → NoArrival number place ≡ Arrival minute → ⊥
+refused-not-arrival e = let z : _≡_ {A = ℕ} 0 1 = cc in let y : ⊥ = omega arith in y
+
+same-arrival : {one other : ℕ} → Arrival one ≡ Arrival other → one ≡ other
+same-arrival e = cc
+
+arrival-is : (o : Option ℕ) (work : List ℕ) (e : ℕ) → earliestAnswered o work .answer ≡ Arrival e → o ≡ some e
+unfolding earliestAnswered
+arrival-is none work e h = absurd (refused-not-arrival h)
+arrival-is (some x) work e h = ap some (same-arrival h)
+
+eight-is : (o : Option ℕ) (work : List ℕ) → earliestAnswered o work .answer ≡ NoArrival 8 0 → o ≡ none
+unfolding earliestAnswered
+eight-is none work h = refl
+eight-is (some x) work h = absurd (refused-not-arrival (sym h))
+
+work-is : (o : Option ℕ) (work : List ℕ) → earliestAnswered o work .work ≡ work
+unfolding earliestAnswered
+work-is none work = refl
+work-is (some x) work = refl
+
+-- whatever answer and slice the contract permits
+module _ (κs : Lfts 2) (arguments : Dens κs kinds.ps) (answer : resT kinds.r κs .Denot) (ending : AtExit (endedOf 2 kinds.ps kinds.r) κs)
+    (permitted : reads.Post κs arguments answer ending) where
+  abbrev file : List ℕ
+  file = now (arguments .0)
+
+  abbrev t : Timetable
+  t = decode versionOne file
+
+  -- no bound code is asked for
+  abbrev q : Query
+  q = queryOf (arguments .1 .0) (arguments .1 .1 .0) (arguments .1 .1 .1 .0) 0
+
+  abbrev work : List ℕ
+  work = now (arguments .1 .1 .1 .1 .0)
+
+  abbrev work′ : List ℕ
+  work′ = now (ending .1 .1 .1 .1 .0)
+
+  abbrev pub verdict : Verdict
+  verdict = admission versionOne file q (workRoom (length work)) noRoom
+
+  -- 1 to 7, by document 01's number and place; work is as it was
+  pub refuses : (number place : ℕ) → verdict ≡ fault number place → (answer ≡ NoArrival number place) × (work′ ≡ work) × (number ≤ 7)
+  refuses number place e =
+      let o = refused-earliest versionOne file q work number place e in (
+        permitted .0 ∙ ap (λ (x : EarliestOutcome). x .answer) o,
+        permitted .1 ∙ ap (λ (x : EarliestOutcome). x .work) o,
+        refused-number versionOne file q (workRoom (length work)) noRoom number place e,
+      )
+
+  module _ (admitted : verdict ≡ fine) where
+    abbrev after : List ℕ
+    after = workAfter versionOne file work
+
+    told-for : answer ≡ earliestAnswered (earliest t q) after .answer
+    told-for = permitted .0 ∙ ap (λ (x : EarliestOutcome). x .answer) (answered-earliest versionOne file q work admitted)
+
+    pub clears : work′ ≡ after
+    clears =
+        permitted .1 ∙ ap (λ (x : EarliestOutcome). x .work) (answered-earliest versionOne file q work admitted)
+        ∙ work-is (earliest t q) after
+
+    -- the minute answered is E: a safe journey reaches it, and none ends before it
+    pub earliest-answered : (e : ℕ) → answer ≡ Arrival e → IsEarliest t q e
+    earliest-answered e told =
+        demand2.earliest-safe t (is-timely file q (workRoom (length work)) noRoom admitted) q e
+        (arrival-is (earliest t q) after e (sym told-for ∙ told))
+
+    -- "no safe journey" exactly if none exists
+    pub eight-exactly : (answer ≡ NoArrival 8 0) ↔ ((end : ℕ) → Journey t q end → ⊥)
+    unfolding earliestAnswered
+    eight-exactly = (
+      λ told.
+          demand2.no-earliest-safe t timely q (query-fits file q (workRoom (length work)) noRoom admitted .apart)
+          (eight-is (earliest t q) after (sym told-for ∙ told)),
+      λ gone. told-for ∙ ap (λ (o : Option ℕ). earliestAnswered o after .answer) (nothing (earliest t q) refl gone),
+    )
+      where
+        timely : Timely t
+        timely = is-timely file q (workRoom (length work)) noRoom admitted
+
+        nothing : (o : Option ℕ) → earliest t q ≡ o → ((end : ℕ) → Journey t q end → ⊥) → earliest t q ≡ none
+        nothing none is gone = is
+        nothing (some e) is gone = absurd (gone e (demand2.earliest-safe t timely q e is .reached))
