@@ -4,7 +4,9 @@ use mathlib.Core.List.{List}
 use mathlib.Core.Path.{_≡_, sym, ap, subst, _∙_}
 use native.Mathlib.Omega.{arith}
 use borrow.Author.Needs.{needs}
-use lib.ListN.{length}
+use lib.ListN.{length, take}
+use Rattle.numbers.specs.Bytes.{bytesOf}
+use Rattle.numbers.specs.Over.{over}
 use Rattle.plan_whole.specs.declared.Planned.{Planned}
 use Rattle.plan_whole.specs.declared.Planned.the-variants.{Plan, Refused}
 use Rattle.sayurimpak.specs.Given.{given, Fitting}
@@ -31,17 +33,18 @@ add-result c =
 enum-known-answer-2 : tie.Need-enum-known-answer-2
 enum-known-answer-2 c = search needs
 
-cast-put-numbers : tie.Need-cast-put-numbers
-cast-put-numbers c = search needs
+number-requires : tie.Need-number-requires
+number-requires c κs = search needs
 
 mul-put-numbers : tie.Need-mul-put-numbers
 mul-put-numbers c = search needs
 
 put-numbers-requires : tie.Need-put-numbers-requires
 put-numbers-requires c κs =
-    let start = c .before .before .before .before .before .before in
-    let fits = plan-fits (start .args .numbers .now) (start .args .out .now) (c .before .before .answer2 .given .1) (start .pre) in
-    (fits .0, omega arith)
+    let start = c .before .before .before .before .before .before .before in
+    let fits = plan-fits (start .args .numbers .now) (start .args .out .now) (c .before .before .before .answer2 .given .1) (start .pre) in
+    let rides = c .before .number .ensures .0 in
+    (omega (arith, fits .0, rides), omega (arith, fits .1, rides))
 
 returns : tie.Need-returns
 unfolding given
@@ -56,10 +59,13 @@ same-length c = search needs
 returns-2 : tie.Need-returns-2
 unfolding given
 returns-2 c =
-    let a = c .before .before .before .before .before .before .before .before .before .args in
-    let e = c .before .before .before .before .before .answer2 .given .1 in (
+    let at = c .before .before .before .before in
+    let a = at .before .before .before .before .before .before .args in
+    let e = at .before .before .answer2 .given .1 in (
       sym (ap (λ x. given x (a .numbers .now) (a .out .now) .answer) e),
-      c .before .before .put-numbers .ensures ∙ sym (ap (λ x. given x (a .numbers .now) (a .out .now) .bytes) e),
+      c .before .before .put-numbers .ensures
+          ∙ ap (λ n. over (bytesOf (take (3 * n) (a .numbers .now))) (a .out .now)) (at .number .ensures .0)
+          ∙ sym (ap (λ x. given x (a .numbers .now) (a .out .now) .bytes) e),
     )
 
 pub give-spec : {M : Type 1} → statement M
@@ -69,7 +75,7 @@ give-spec =
     enum-known-answer
     add-result
     enum-known-answer-2
-    cast-put-numbers
+    number-requires
     mul-put-numbers
     put-numbers-requires
     returns
