@@ -54,7 +54,8 @@ bytes-encoded = refl
 
 pub sound-both-ways : (answerOf (checked caseW) ≡ record { number = 0; place = 0; values = 3 ∷ 4 ∷ 2 ∷ [] })
     × (answerOf (checked tablesFirst) ≡ record { number = 0; place = 0; values = 3 ∷ 4 ∷ 2 ∷ [] })
-unfolding answerOf checked checkedAs answered fileVerdict sectionsVerdict lengthRule trailerRule classesVerdict classVerdict joined sectionsJoin sharesRule sum
+unfolding answerOf checked checkedAs answered
+    fileVerdict sectionsVerdict lengthRule trailerRule classesVerdict classVerdict joined sectionsJoin sharesRule sum
     rowsVerdict rowVerdict ownRule departureRule tripRule follows lastOfTrip
     decode trailerStart trailerOf trailerAt rowsFrom rowAt tablesFrom tablesEnd tableAt sharesFrom blockEnd u32At u16At
 sound-both-ways = (refl, refl)

@@ -7,6 +7,7 @@ use lib.ListN.{replicate}
 use Rattle.timetable.specs.Verdict.{fine, fault}
 use Rattle.timetable.specs.Classes.{sum, sharesRule}
 use Rattle.timetable.specs.Rows.{ownRule}
+use Rattle.timetable.specs.declared.Row.{Row}
 use Rattle.file_layout.specs.declared.Trailer.{Trailer}
 use Rattle.file_layout.specs.declared.Checked.the-variants.{Sound, Refused}
 use Rattle.file_layout.specs.Format.{versionOne}
@@ -48,8 +49,11 @@ unfolding trailerRule
 classes-line = (refl, refl, refl, refl)
 
 -- minutes in rows are 0 to 10,079
-pub last-minute : (ownRule (rangesOf versionOne (numbers 1 2 0 1)) (record { board = 0; land = 1; departure = 0; arrival = 10079; trip = 0; class = 0 }) ≡ true)
-    × (ownRule (rangesOf versionOne (numbers 1 2 0 1)) (record { board = 0; land = 1; departure = 0; arrival = 10080; trip = 0; class = 0 }) ≡ false)
+abbrev landing : ℕ → Row
+landing minute = record { board = 0; land = 1; departure = 0; arrival = minute; trip = 0; class = 0 }
+
+pub last-minute : (ownRule (rangesOf versionOne (numbers 1 2 0 1)) (landing 10079) ≡ true)
+    × (ownRule (rangesOf versionOne (numbers 1 2 0 1)) (landing 10080) ≡ false)
 unfolding ownRule
 last-minute = (refl, refl)
 

@@ -45,7 +45,8 @@ module _ (f : Format) (s : List ℕ) (fits : lengthRule f s ≡ true) (h : Trail
   ranges-break broken = by-trailer ∙ simp broken
 
   module _ (ranges : trailerRule f h ≡ true) where
-    pub classes-break : (number place : ℕ) → blocksRead f s (trailerStart f s) 0 (h .tablestart) (h .classes) ≡ Fault number place → sectionsRead f s ≡ Broken number place
+    pub classes-break : (number place : ℕ) → blocksRead f s (trailerStart f s) 0 (h .tablestart) (h .classes) ≡ Fault number place
+        → sectionsRead f s ≡ Broken number place
     unfolding answerBehind blocksRead
     classes-break number place e =
         by-trailer ∙ simp (ranges, faults-by _ number place (classesVerdict f s (trailerStart f s) 0 (h .tablestart) (h .classes)) e)
@@ -55,10 +56,12 @@ module _ (f : Format) (s : List ℕ) (fits : lengthRule f s ≡ true) (h : Trail
       unfolding blocksRead
       known = ends-by _ at _ blocks
 
-      pub sections-apart : sectionsJoin (h .rowstart) (h .rowstart + f .width * h .rows) (h .tablestart) at (trailerStart f s) ≡ false → sectionsRead f s ≡ Broken 2 0
+      pub sections-apart : sectionsJoin (h .rowstart) (h .rowstart + f .width * h .rows) (h .tablestart) at (trailerStart f s) ≡ false
+          → sectionsRead f s ≡ Broken 2 0
       unfolding answerBehind joined
       sections-apart apart = by-trailer ∙ simp (ranges, known .0, known .1, apart)
 
-      pub sections-keep : sectionsJoin (h .rowstart) (h .rowstart + f .width * h .rows) (h .tablestart) at (trailerStart f s) ≡ true → sectionsRead f s ≡ Joined h
+      pub sections-keep : sectionsJoin (h .rowstart) (h .rowstart + f .width * h .rows) (h .tablestart) at (trailerStart f s) ≡ true
+          → sectionsRead f s ≡ Joined h
       unfolding answerBehind joined
       sections-keep joins = by-trailer ∙ simp (ranges, known .0, known .1, joins)

@@ -123,7 +123,8 @@ pub same-admission : (f : Format) (file : List ℕ) (q : Query) (a b c d : Room)
 unfolding admission callVerdict
 same-admission f file q a b c d alike = same (fileVerdict f file) alike
   where
-    same : (v : Verdict) → (v ≡ fine → (enough a (trailerOf f file) && enough b (trailerOf f file)) ≡ (enough c (trailerOf f file) && enough d (trailerOf f file)))
+    same : (v : Verdict)
+        → (v ≡ fine → (enough a (trailerOf f file) && enough b (trailerOf f file)) ≡ (enough c (trailerOf f file) && enough d (trailerOf f file)))
         → orElse v (callVerdict f (trailerOf f file) q a b) ≡ orElse v (callVerdict f (trailerOf f file) q c d)
     same fine alike =
         ap (λ x. orElse (unless (queryRule (trailerOf f file .stops) (f .lastminute) q) 6 0) (unless x 7 0)) (alike refl)
@@ -134,8 +135,8 @@ pub refused-number : (f : Format) (file : List ℕ) (q : Query) (a b : Room) (nu
     → number ≤ 7
 unfolding admission callVerdict
 refused-number f file q a b number place e =
-    number-of (fileVerdict f file) (queryRule (trailerOf f file .stops) (f .lastminute) q) (enough a (trailerOf f file) && enough b (trailerOf f file))
-    (file-placed f file) e
+    number-of (fileVerdict f file) (queryRule (trailerOf f file .stops) (f .lastminute) q)
+    (enough a (trailerOf f file) && enough b (trailerOf f file)) (file-placed f file) e
   where
     number-of : (v : Verdict) (rule rooms : Bool) → WellPlaced (trailerOf f file .classes) (trailerOf f file .rows) v
         → orElse v (orElse (unless rule 6 0) (unless rooms 7 0)) ≡ fault number place → number ≤ 7

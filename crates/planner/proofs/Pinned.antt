@@ -12,14 +12,12 @@ use Rattle.file_layout.specs.Format.{versionOne}
 use Rattle.file_layout.specs.Decode.{decode, trailerOf, trailerAt, trailerStart, rowsFrom, tablesFrom, tableAt, sharesFrom, blockEnd, tablesEnd}
 use Rattle.file_layout.specs.Check.{fileVerdict, sectionsVerdict, lengthRule, trailerRule, classVerdict, classesVerdict, joined, sectionsJoin}
 use Rattle.query.specs.Query.{queryOf, journeyRule, codeRule, queryRule}
-use Rattle.plans.specs.Chosen.{scan, scanned, offInMinutes, worthOf}
+use Rattle.plans.specs.Chosen.{scan, scanned, worthOf}
 use Rattle.plans.specs.Plan.{earliest, planned, planBefore}
 use Rattle.plans.specs.Worth.{firstOpen}
-use Rattle.plan_whole.specs.declared.Planned.the-variants.{Refused as NoPlan}
 use Rattle.plan_whole.specs.Answers.{answerFor, sliceAfter}
-use Rattle.planner.specs.declared.Earliest.the-variants.{Refused as NoArrival}
 use Rattle.planner.specs.Admission.{enough, workRoom, planRoom, noRoom, callVerdict, admission}
-use Rattle.planner.specs.Outcome.{cleared, PlanOutcome, refusedPlan, planAnswered, planOutcome, EarliestOutcome, refusedEarliest, earliestAnswered, earliestOutcome}
+use Rattle.planner.specs.Outcome.{cleared, refusedPlan, planAnswered, planOutcome, refusedEarliest, earliestAnswered, earliestOutcome}
 
 -- T above 10,079
 pub last-minute : (queryRule 2 (versionOne .lastminute) (queryOf 0 1 10079 0) ≡ true)
@@ -47,29 +45,18 @@ stops-line = (refl, refl)
 abbrev shortest : List ℕ
 shortest = 0 ∷ 0 ∷ 0 ∷ 16 ∷ 1 ∷ 0 ∷ 2 ∷ 0 ∷ 0 ∷ 0 ∷ 1 ∷ 0 ∷ 4 ∷ 0 ∷ 0 ∷ 0 ∷ 0 ∷ 0 ∷ 0 ∷ 0 ∷ []
 
--- n = 0: refusal 8; the first 2,500 work numbers are 0 and the rest unchanged, the plan slice not at all
-pub cleared-to-the-line : planOutcome versionOne shortest (queryOf 0 1 0 0) (replicate 2502 7) (5 ∷ [])
-    ≡ refusedPlan 8 0 (replicate 2500 0 ++ (7 ∷ 7 ∷ [])) (5 ∷ [])
-unfolding planOutcome admission callVerdict enough queryRule journeyRule codeRule fileVerdict sectionsVerdict lengthRule trailerRule classVerdict classesVerdict
-    joined sectionsJoin decode trailerOf trailerAt trailerStart rowsFrom tablesFrom tableAt sharesFrom blockEnd tablesEnd u16At u32At sum sharesRule rowsVerdict
-    planAnswered answerFor sliceAfter planned planBefore earliest worthOf firstOpen scanned scan cleared
-cleared-to-the-line = refl
-
-pub earliest-to-the-line : earliestOutcome versionOne shortest (queryOf 0 1 0 0) (replicate 2502 7)
-    ≡ refusedEarliest 8 0 (replicate 2500 0 ++ (7 ∷ 7 ∷ []))
-unfolding earliestOutcome admission callVerdict enough queryRule journeyRule codeRule fileVerdict sectionsVerdict lengthRule trailerRule classVerdict classesVerdict
-    joined sectionsJoin decode trailerOf trailerAt trailerStart rowsFrom tablesFrom tableAt sharesFrom blockEnd tablesEnd u16At u32At sum sharesRule rowsVerdict
-    earliestAnswered earliest worthOf firstOpen scanned scan cleared
-earliest-to-the-line = refl
-
--- 1 before 6 before 7, at place 0, and no slice changes
-pub in-order : (planOutcome versionOne (take 19 shortest) (queryOf 0 1 0 17) (7 ∷ []) (5 ∷ []) ≡ refusedPlan 1 0 (7 ∷ []) (5 ∷ []))
+-- n = 0: refusal 8; the first 2,500 work numbers are 0 and the rest unchanged, the plan slice not at all. 1 before 6 before 7, and no slice changes
+pub in-order :
+    (planOutcome versionOne shortest (queryOf 0 1 0 0) (replicate 2502 7) (5 ∷ []) ≡ refusedPlan 8 0 (replicate 2500 0 ++ (7 ∷ 7 ∷ [])) (5 ∷ []))
+    × (earliestOutcome versionOne shortest (queryOf 0 1 0 0) (replicate 2502 7) ≡ refusedEarliest 8 0 (replicate 2500 0 ++ (7 ∷ 7 ∷ [])))
+    × (planOutcome versionOne (take 19 shortest) (queryOf 0 1 0 17) (7 ∷ []) (5 ∷ []) ≡ refusedPlan 1 0 (7 ∷ []) (5 ∷ []))
     × (planOutcome versionOne shortest (queryOf 0 1 0 17) (7 ∷ []) (5 ∷ []) ≡ refusedPlan 6 0 (7 ∷ []) (5 ∷ []))
     × (planOutcome versionOne shortest (queryOf 0 1 10080 0) (7 ∷ []) (5 ∷ []) ≡ refusedPlan 6 0 (7 ∷ []) (5 ∷ []))
     × (planOutcome versionOne shortest (queryOf 0 1 10079 16) (replicate 2499 7) (5 ∷ []) ≡ refusedPlan 7 0 (replicate 2499 7) (5 ∷ []))
     × (earliestOutcome versionOne shortest (queryOf 0 2 0 0) (7 ∷ []) ≡ refusedEarliest 6 0 (7 ∷ []))
     × (earliestOutcome versionOne shortest (queryOf 0 1 0 0) (7 ∷ []) ≡ refusedEarliest 7 0 (7 ∷ []))
 unfolding planOutcome earliestOutcome admission callVerdict enough queryRule journeyRule codeRule fileVerdict sectionsVerdict lengthRule trailerRule
-    classVerdict classesVerdict joined sectionsJoin decode trailerOf trailerAt trailerStart rowsFrom tablesFrom tableAt sharesFrom blockEnd tablesEnd u16At u32At
-    sum sharesRule rowsVerdict
-in-order = (refl, refl, refl, refl, refl, refl)
+    classVerdict classesVerdict joined sectionsJoin decode trailerOf trailerAt trailerStart rowsFrom tablesFrom tableAt sharesFrom blockEnd tablesEnd
+    u16At u32At sum sharesRule rowsVerdict planAnswered answerFor sliceAfter planned planBefore earliestAnswered earliest worthOf firstOpen
+    scanned scan cleared
+in-order = (refl, refl, refl, refl, refl, refl, refl, refl)

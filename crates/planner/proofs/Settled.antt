@@ -35,7 +35,8 @@ pub plan-checked-settled :
     (κs : Lfts 3) (arguments : Dens κs checked-kinds.ps) (one other : resT checked-kinds.r κs .Denot)
     (ending another : AtExit (endedOf 3 checked-kinds.ps checked-kinds.r) κs) → checked-reads.Post κs arguments one ending
     → checked-reads.Post κs arguments other another
-    → (one ≡ other) × (now (ending .1 .1 .1 .1 .0) ≡ now (another .1 .1 .1 .1 .0)) × (now (ending .1 .1 .1 .1 .1 .0) ≡ now (another .1 .1 .1 .1 .1 .0))
+    → (one ≡ other)
+    × (now (ending .1 .1 .1 .1 .0) ≡ now (another .1 .1 .1 .1 .0)) × (now (ending .1 .1 .1 .1 .1 .0) ≡ now (another .1 .1 .1 .1 .1 .0))
 plan-checked-settled κs arguments one other ending another first second =
     (first .0 ∙ sym (second .0), first .1 ∙ sym (second .1), first .2 ∙ sym (second .2))
 

@@ -1,6 +1,7 @@
 // Document 01, "Rides, safe journeys, plans" and "The sheet": what is asked of a plan, its bytes and its rule.
 ghost use mathlib.Core.Path.{_≡_};
-ghost use Rattle.query.specs.Query.{codeRule, journeyRule, queryIn, queryRule};
+ghost use Rattle.query.specs.Query.{codeRule, journeyRule, queryIn, queryOf, queryRule};
+use numbers::number;
 use numbers::u16_at;
 
 // Source, target, minute T and bound code q.
@@ -13,6 +14,18 @@ pub struct Query {
 
 // A query is four u16.
 pub const QUERY_BYTES: usize = 8;
+
+// The query that a host's four numbers ask.
+pub fn query_of(source: u32, target: u32, minute: u32, code: u32) -> Query
+    ensures { λ r. ⌜ r ≡ queryOf source target minute code ⌝ }
+{
+    Query {
+        source: number(source),
+        target: number(target),
+        minute: number(minute),
+        code: number(code),
+    }
+}
 
 // The query in its bytes; bytes of any other length ask from a stop to itself.
 pub fn query_in(bytes: &[u8]) -> Query

@@ -10,7 +10,7 @@ use numbers::number;
 use numbers::put_numbers;
 use plan_whole::Planned;
 use planner::plan;
-use query::Query;
+use query::query_of;
 
 // What the largest sound file needs: 4n + 2,500 work numbers and 3n plan numbers, n 2,000.
 const WORK: usize = 10500;
@@ -30,12 +30,7 @@ pub extern "C" fn sayurimpak_plan(
     ensures { λ r. ⌜ (r ≡ deskOutcome versionOne (now (file .entry)) (queryOf source target minute code) (now (out .entry)) .answer)
         × (now (out .exit) ≡ deskOutcome versionOne (now (file .entry)) (queryOf source target minute code) (now (out .entry)) .bytes) ⌝ }
 {
-    let q = Query {
-        source: number(source),
-        target: number(target),
-        minute: number(minute),
-        code: number(code),
-    };
+    let q = query_of(source, target, minute, code);
     let mut work = work_numbers();
     let mut numbers = plan_numbers();
     let lent = lent_numbers(out.len());

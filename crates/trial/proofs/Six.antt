@@ -41,7 +41,8 @@ unfolding seen six answerOf
 seen-refused buffer a b e p q = (λ i. inSix (p i ∷ q i ∷ 0 ∷ 0 ∷ 0 ∷ 0 ∷ []) buffer) ∙ sym (ap (λ x. seen (answerOf x) buffer) e)
 
 -- and its numbers fit a u32
-pub sound-small : (file : List ℕ) (h : Trailer) → checked file ≡ Sound h → (h .stops < 4294967296) × (h .rows < 4294967296) × (h .classes < 4294967296)
+pub sound-small : (file : List ℕ) (h : Trailer) → checked file ≡ Sound h
+    → (h .stops < 4294967296) × (h .rows < 4294967296) × (h .classes < 4294967296)
 unfolding checked
 sound-small file h e =
     let range = checked-gives versionOne file h version-one-readable e .trailer .in-range in

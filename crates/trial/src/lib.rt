@@ -12,12 +12,11 @@ use file_layout::Checked;
 use house::HouseShare;
 use house::house_share;
 use numbers::cell;
-use numbers::number;
 use plan_whole::Planned;
 use planner::Earliest;
 use planner::earliest_safe_arrival;
 use planner::plan;
-use query::Query;
+use query::query_of;
 
 // The check: number, place, S, n, K.
 #[no_mangle]
@@ -60,12 +59,7 @@ pub extern "C" fn trial_plan(
         × (now (work .exit) ≡ planOutcome versionOne (now (file .entry)) (queryOf source target minute code) (now (work .entry)) (now (rides .entry)) .work)
         × (now (rides .exit) ≡ planOutcome versionOne (now (file .entry)) (queryOf source target minute code) (now (work .entry)) (now (rides .entry)) .plan) ⌝ }
 {
-    let q = Query {
-        source: number(source),
-        target: number(target),
-        minute: number(minute),
-        code: number(code),
-    };
+    let q = query_of(source, target, minute, code);
     let planned = plan(file, q, work, rides);
     put_planned(planned, answer);
 }
@@ -85,7 +79,8 @@ pub extern "C" fn trial_earliest(
         (now (answer .entry)))
         × (now (work .exit) ≡ earliestOutcome versionOne (now (file .entry)) (queryOf source target minute 0) (now (work .entry)) .work) ⌝ }
 {
-    let found = earliest_safe_arrival(file, number(source), number(target), number(minute), work);
+    let q = query_of(source, target, minute, 0);
+    let found = earliest_safe_arrival(file, q.source, q.target, q.minute, work);
     put_earliest(found, answer);
 }
 

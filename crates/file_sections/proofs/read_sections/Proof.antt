@@ -14,7 +14,8 @@ fits : (c : tie.Else1) → lengthRule (c .before .before .before .args .f) (c .b
 unfolding lengthRule
 fits c = sym (c .before .length-in-range .ensures) ∙ not-false _ (c .if1 .left)
 
-ranges : (c : tie.Else2) → trailerRule (c .before .before .before .before .before .before .before .args .f) (c .before .before .trailer-at .result) ≡ true
+ranges : (c : tie.Else2)
+    → trailerRule (c .before .before .before .before .before .before .before .args .f) (c .before .before .trailer-at .result) ≡ true
 ranges c = sym (c .before .in-ranges .ensures) ∙ not-false _ (c .if2 .left)
 
 length-in-range-requires : tie.Need-length-in-range-requires

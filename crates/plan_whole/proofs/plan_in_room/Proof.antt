@@ -63,7 +63,8 @@ arrived c real =
 
 -- cells behind those that finding E uses are as they were
 kept : (c : tie.After-earliest-arrival)
-    → KeptBehind (used (begun (laid-out c) .args .trailer .rows)) (begun (laid-out c) .args .work .now) (c .earliest-arrival .last .1 .1 .1 .1 .1 .1 .1 .0)
+    → KeptBehind (used (begun (laid-out c) .args .trailer .rows)) (begun (laid-out c) .args .work .now)
+    (c .earliest-arrival .last .1 .1 .1 .1 .1 .1 .1 .0)
 kept c =
     kept-later 2400 (used (begun (laid-out c) .args .trailer .rows)) (begun (laid-out c) .args .work .now)
     (c .earliest-arrival .last .1 .1 .1 .1 .1 .1 .1 .0) (omega arith)

@@ -20,7 +20,8 @@ scanned-at c = c .before .before .before .before .before .before .before
 
 -- the rows that are scanned, for the goal
 looked-at : (c : tie.After-rows-within)
-    → Part (begun c .args .file .now) (begun c .args .s) (begun c .args .q) (record { target = begun c .args .q .target; bound = begun c .args .bound })
+    → Part (begun c .args .file .now) (begun c .args .s) (begun c .args .q)
+    (record { target = begun c .args .q .target; bound = begun c .args .bound })
     (begun c .args .first) (c .rows-within .result)
 looked-at c =
     let a = begun c in

@@ -19,7 +19,8 @@ refused : (c : tie.After-known-told)
 refused c = sym (c .before .before .before .check-as .ensures) ∙ c .before .checked .given .1
 
 sound : (c : tie.After-known-told2)
-    → checkedAs (c .before .before .before .before .before .args .f) (c .before .before .before .before .before .args .file .now) ≡ Sound (c .before .checked2 .given .0 .0)
+    → checkedAs (c .before .before .before .before .before .args .f) (c .before .before .before .before .before .args .file .now)
+    ≡ Sound (c .before .checked2 .given .0 .0)
 sound c = sym (c .before .before .before .check-as .ensures) ∙ c .before .checked2 .given .1
 
 fits : (c : tie.After-known-told) → (c .before .checked .given .0 .0 < 4294967296) × (c .before .checked .given .0 .1 .0 < 4294967296)

@@ -31,7 +31,8 @@ clear c =
     let work = a .args .work .now in
     let all = needs (workRoom (length work)) (a .args .trailer) in
     let kept = kept-later 2400 all work (p .last .1 .1 .1 .1 .0) (omega arith) (p .ensures .1) in
-    c .fill .ensures ∙ ap (λ k. filled (p .last .1 .1 .1 .1 .0) 0 k 0) (room (c .before .before)) ∙ cleared-behind all work (p .last .1 .1 .1 .1 .0) kept
+    c .fill .ensures ∙ ap (λ k. filled (p .last .1 .1 .1 .1 .0) 0 k 0) (room (c .before .before))
+    ∙ cleared-behind all work (p .last .1 .1 .1 .1 .0) kept
     ∙ ap (λ h. cleared (needs (workRoom (length work)) h) work) (a .pre .read)
 
 earliest-in-room-requires : tie.Need-earliest-in-room-requires
@@ -63,8 +64,8 @@ returns c =
     let a = begun (at .before .before) in
     let p = at .before .before .before .before .before .before .earliest-in-room in
     let gone = no-arrival-cell (earliest (decode (a .args .f) (a .args .file .now)) (a .args .q)) (p .result) (p .ensures .0)
-    (λ e found. arrival-there (a .args .f) (a .args .file .now) (a .args .trailer) (a .args .q) (asks (a .pre)) (sailingsOf (a .args .f) (a .args .trailer))
-    refl e found .1) (omega arith) in
+    (λ e found. arrival-there (a .args .f) (a .args .file .now) (a .args .trailer) (a .args .q) (asks (a .pre))
+    (sailingsOf (a .args .f) (a .args .trailer)) refl e found .1) (omega arith) in
     eight-as (a .args .f) (a .args .file .now) (a .args .q) (a .args .work .now) (a .pre .fine-call) gone (clear at)
 
 same-length-2 : tie.Need-same-length-2

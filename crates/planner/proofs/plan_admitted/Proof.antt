@@ -55,7 +55,8 @@ returns c =
     let all = needs (workRoom (length work)) (a .args .trailer) in
     let kept = kept-later (used (a .args .trailer .rows)) all work (p .last .1 .1 .1 .1 .0) (omega arith) (p .ensures .1) in
     let clear : c .before .before .fill .last .0 ≡ workAfter (a .args .f) (a .args .file .now) work =
-    c .before .before .fill .ensures ∙ ap (λ k. filled (p .last .1 .1 .1 .1 .0) 0 k 0) (room at) ∙ cleared-behind all work (p .last .1 .1 .1 .1 .0) kept
+    c .before .before .fill .ensures ∙ ap (λ k. filled (p .last .1 .1 .1 .1 .0) 0 k 0) (room at)
+    ∙ cleared-behind all work (p .last .1 .1 .1 .1 .0) kept
     ∙ ap (λ h. cleared (needs (workRoom (length work)) h) work) (a .pre .read)
     in
     answered-as (a .args .f) (a .args .file .now) (a .args .q) work (a .args .plan .now) (a .pre .fine-call) (p .ensures .0) clear

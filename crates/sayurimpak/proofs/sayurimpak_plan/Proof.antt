@@ -17,81 +17,66 @@ use Rattle.sayurimpak.proofs.Room.{desk-given, desk-fits}
 use Rattle.sayurimpak.proofs.sayurimpak_plan.Statement.{statement}
 use Rattle.sayurimpak.proofs.sayurimpak_plan.Tie as tie
 
--- where the planner has answered: the file, the query and the bytes; the work slice; the numbers lent and those behind them
-abbrev file : tie.After-give-arg → List ℕ
-file c = c .before .before .before .before .before .before .before .before .before .before .before .before .before .before .before .before .args .file .now
+-- places on the way: the planner's answer; the lent numbers; the entry
+abbrev answered : tie.After-give-arg → tie.After-plan
+answered c = c .before .before .before .before
 
-abbrev out : tie.After-give-arg → List ℕ
-out c = c .before .before .before .before .before .before .before .before .before .before .before .before .before .before .before .before .args .out .now
+abbrev lending : tie.After-give-arg → tie.After-lent-numbers
+lending c = answered c .before .before .before
 
+abbrev begun : tie.After-give-arg → tie.Start
+begun c = lending c .before .before .before .before .before .before
+
+-- the query; the numbers lent and those behind them
 abbrev query : tie.After-give-arg → Query
-query c =
-    queryOf (c .before .before .before .before .before .before .before .before .before .before .before .before .before .number .result) (c .before .before .before .before .before .before .before .before .before .before .before .before .number2 .result)
-    (c .before .before .before .before .before .before .before .before .before .before .before .number3 .result) (c .before .before .before .before .before .before .before .before .before .before .number4 .result)
-
--- the host's four numbers are the query's
-as-asked : (c : tie.After-give-arg) → let a = c .before .before .before .before .before .before .before .before .before .before .before .before .before .before .before .before .args in query c ≡ queryOf (a .source) (a .target) (a .minute) (a .code)
-as-asked c =
-    λ i. queryOf (c .before .before .before .before .before .before .before .before .before .before .before .before .before .number .ensures .0 i)
-    (c .before .before .before .before .before .before .before .before .before .before .before .before .number2 .ensures .0 i) (c .before .before .before .before .before .before .before .before .before .before .before .number3 .ensures .0 i)
-    (c .before .before .before .before .before .before .before .before .before .before .number4 .ensures .0 i)
-
-abbrev work : tie.After-give-arg → List ℕ
-work c = c .before .before .before .before .before .before .before .before .before .work-numbers .result
+query c = lending c .before .before .before .query-of .result
 
 abbrev lent : tie.After-give-arg → List ℕ
-lent c =
-    take (c .before .before .before .before .before .before .before .lent-numbers .result)
-    (c .before .before .before .before .before .before .before .before .plan-numbers .result)
+lent c = take (lending c .lent-numbers .result) (lending c .before .plan-numbers .result)
 
 abbrev behind : tie.After-give-arg → List ℕ
-behind c =
-    drop (c .before .before .before .before .before .before .before .lent-numbers .result)
-    (c .before .before .before .before .before .before .before .before .plan-numbers .result)
+behind c = drop (lending c .lent-numbers .result) (lending c .before .plan-numbers .result)
 
-lent-length : (c : tie.After-give-arg) → length (lent c) ≡ min 6000 (length (out c) / 4)
+-- what the planner left of the numbers lent
+abbrev left : tie.After-give-arg → List ℕ
+left c = answered c .plan .last .1 .1 .1 .0
+
+lent-length : (c : tie.After-give-arg) → length (lent c) ≡ min 6000 (length (begun c .args .out .now) / 4)
 lent-length c =
-    let numbers = c .before .before .before .before .before .before .before .before .plan-numbers in
-    let count = c .before .before .before .before .before .before .before .lent-numbers in
+    let numbers = lending c .before .plan-numbers in
+    let count = lending c .lent-numbers in
     length-take-le (count .result) (numbers .result) (omega (arith, numbers .ensures, count .ensures)) ∙ count .ensures
 
--- the planner's outcome, as it was left in the numbers
-as-desk : (c : tie.After-give-arg)
-    → given (c .before .before .before .before .plan .result) (c .before .before .before .before .plan .last .1 .1 .1 .0 ++ behind c) (out c)
-    ≡ deskOutcome versionOne (file c) (query c) (out c)
+-- the planner's outcome, as it was left in the numbers, is the desk's
+as-desk : (c : tie.After-give-arg) →
+    let a = begun c .args in
+    given (answered c .plan .result) (left c ++ behind c) (a .out .now)
+    ≡ deskOutcome versionOne (a .file .now) (queryOf (a .source) (a .target) (a .minute) (a .code)) (a .out .now)
 as-desk c =
-    let planned = c .before .before .before .before .plan in
-    let o : PlanOutcome = planOutcome versionOne (file c) (query c) (work c) (lent c) in
-    let answer : planned .result ≡ o .answer = planned .ensures .0 in
-    let plan : planned .last .1 .1 .1 .0 ≡ o .plan = planned .ensures .2 in
-    ap (λ a. given a (planned .last .1 .1 .1 .0 ++ behind c) (out c)) answer
-    ∙ ap (λ p. given (o .answer) (p ++ behind c) (out c)) plan
-    ∙ desk-given versionOne version-one-readable (file c) (query c) (work c) (lent c) (behind c) (out c)
-    (c .before .before .before .before .before .before .before .before .before .work-numbers .ensures) (lent-length c)
+    let a = begun c .args in
+    let work = lending c .before .before .work-numbers in
+    let o : PlanOutcome = planOutcome versionOne (a .file .now) (query c) (work .result) (lent c) in
+    let answer : answered c .plan .result ≡ o .answer = answered c .plan .ensures .0 in
+    let plan : left c ≡ o .plan = answered c .plan .ensures .2 in
+    ap (λ r. given r (left c ++ behind c) (a .out .now)) answer ∙ ap (λ p. given (o .answer) (p ++ behind c) (a .out .now)) plan
+    ∙ desk-given versionOne version-one-readable (a .file .now) (query c) (work .result) (lent c) (behind c) (a .out .now) (work .ensures)
+    (lent-length c)
+    ∙ ap (λ q. deskOutcome versionOne (a .file .now) q (a .out .now)) (lending c .before .before .before .query-of .ensures)
 
-fitting : (c : tie.After-give-arg)
-    → Fitting (c .before .before .before .before .plan .result) (c .before .before .before .before .plan .last .1 .1 .1 .0 ++ behind c) (out c)
+fitting : (c : tie.After-give-arg) → Fitting (answered c .plan .result) (left c ++ behind c) (begun c .args .out .now)
 fitting c =
-    let planned = c .before .before .before .before .plan in
-    let o : PlanOutcome = planOutcome versionOne (file c) (query c) (work c) (lent c) in
-    let answer : o .answer ≡ planned .result = sym (planned .ensures .0) in
-    let plan : o .plan ≡ planned .last .1 .1 .1 .0 = sym (planned .ensures .2) in
-    subst (λ a. Fitting a (planned .last .1 .1 .1 .0 ++ behind c) (out c)) answer
-    (subst (λ p. Fitting (o .answer) (p ++ behind c) (out c)) plan
-    (desk-fits versionOne version-one-readable (file c) (query c) (work c) (lent c) (behind c) (out c)
-    (c .before .before .before .before .before .before .before .before .before .work-numbers .ensures) (lent-length c) (ap length plan ∙ planned .kept .1 .1 .1 .0)))
+    let a = begun c .args in
+    let work = lending c .before .before .work-numbers in
+    let o : PlanOutcome = planOutcome versionOne (a .file .now) (query c) (work .result) (lent c) in
+    let answer : o .answer ≡ answered c .plan .result = sym (answered c .plan .ensures .0) in
+    let plan : o .plan ≡ left c = sym (answered c .plan .ensures .2) in
+    subst (λ r. Fitting r (left c ++ behind c) (a .out .now)) answer
+    (subst (λ p. Fitting (o .answer) (p ++ behind c) (a .out .now)) plan
+    (desk-fits versionOne version-one-readable (a .file .now) (query c) (work .result) (lent c) (behind c) (a .out .now) (work .ensures)
+    (lent-length c) (ap length plan ∙ answered c .plan .kept .1 .1 .1 .0)))
 
-number-requires : tie.Need-number-requires
-number-requires c κs = search needs
-
-number-requires-2 : tie.Need-number-requires-2
-number-requires-2 c κs = search needs
-
-number-requires-3 : tie.Need-number-requires-3
-number-requires-3 c κs = search needs
-
-number-requires-4 : tie.Need-number-requires-4
-number-requires-4 c κs = search needs
+query-of-requires : tie.Need-query-of-requires
+query-of-requires c κs = search needs
 
 work-numbers-requires : tie.Need-work-numbers-requires
 work-numbers-requires c κs = search needs
@@ -132,18 +117,14 @@ same-length c = search needs
 
 returns : tie.Need-returns
 returns c =
-    let at = c .before .before .before in
-    let same = as-desk at ∙ ap (λ q. deskOutcome versionOne (file at) q (out at)) (as-asked at) in
+    let same = as-desk (c .before .before .before) in
     (c .before .before .give .ensures .0 ∙ ap (λ d. d .answer) same, c .before .before .give .ensures .1 ∙ ap (λ d. d .bytes) same)
 
 pub sayurimpak-plan-spec : {M : Type 1} → statement M
 sayurimpak-plan-spec =
     tie.close
     (tie.spec
-    number-requires
-    number-requires-2
-    number-requires-3
-    number-requires-4
+    query-of-requires
     work-numbers-requires
     plan-numbers-requires
     lent-numbers-requires

@@ -1,5 +1,5 @@
 -- `trial::trial_earliest` meets its contract. Assumes nothing.
-use mathlib.Core.Path.{_≡_, ap, _∙_}
+use mathlib.Core.Path.{ap, _∙_}
 use borrow.Author.Needs.{needs}
 use Rattle.file_layout.specs.Format.{versionOne}
 use Rattle.query.specs.declared.Query.{Query}
@@ -9,14 +9,8 @@ use Rattle.trial.specs.Seen.{seen}
 use Rattle.trial.proofs.trial_earliest.Statement.{statement}
 use Rattle.trial.proofs.trial_earliest.Tie as tie
 
-number-requires : tie.Need-number-requires
-number-requires c κs = search needs
-
-number-requires-2 : tie.Need-number-requires-2
-number-requires-2 c κs = search needs
-
-number-requires-3 : tie.Need-number-requires-3
-number-requires-3 c κs = search needs
+query-of-requires : tie.Need-query-of-requires
+query-of-requires c κs = search needs
 
 earliest-safe-arrival-requires : tie.Need-earliest-safe-arrival-requires
 earliest-safe-arrival-requires c κs = search needs
@@ -33,13 +27,10 @@ same-length-2 c = search needs
 returns : tie.Need-returns
 returns c =
     let at = c .before .before .before .before .before .before in
-    let a = at .before .before .before .before .before .before .before .before .args in
+    let a = at .before .before .before .before .before .before .args in
     let found = at .earliest-safe-arrival in
-    let o : Query → EarliestOutcome = λ q. earliestOutcome versionOne (a .file .now) q (a .work .now) in
-    let asked : queryOf (at .before .before .before .before .number .result) (at .before .before .before .number2 .result) (at .before .before .number3 .result) 0
-    ≡ queryOf (a .source) (a .target) (a .minute) 0 =
-    λ i. queryOf (at .before .before .before .before .number .ensures .0 i) (at .before .before .before .number2 .ensures .0 i) (at .before .before .number3 .ensures .0 i) 0
-    in (
+    let o : Query → EarliestOutcome = λ q. earliestOutcome versionOne (a .file .now) (queryOf (q .source) (q .target) (q .minute) 0) (a .work .now) in
+    let asked = at .before .before .query-of .ensures in (
       c .before .before .put-earliest .ensures
           ∙ ap (λ e. seen (earliestAnswer e) (a .answer .now)) (found .ensures .0 ∙ ap (λ q. o q .answer) asked),
       found .ensures .1 ∙ ap (λ q. o q .work) asked,
@@ -49,9 +40,7 @@ pub trial-earliest-spec : {M : Type 1} → statement M
 trial-earliest-spec =
     tie.close
     (tie.spec
-    number-requires
-    number-requires-2
-    number-requires-3
+    query-of-requires
     earliest-safe-arrival-requires
     put-earliest-requires
     same-length

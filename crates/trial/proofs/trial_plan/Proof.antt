@@ -1,25 +1,15 @@
 -- `trial::trial_plan` meets its contract. Assumes nothing.
-use mathlib.Core.Path.{_≡_, ap, _∙_}
+use mathlib.Core.Path.{ap, _∙_}
 use borrow.Author.Needs.{needs}
 use Rattle.file_layout.specs.Format.{versionOne}
 use Rattle.query.specs.declared.Query.{Query}
-use Rattle.query.specs.Query.{queryOf}
 use Rattle.planner.specs.Outcome.{PlanOutcome, planOutcome, planAnswer}
 use Rattle.trial.specs.Seen.{seen}
 use Rattle.trial.proofs.trial_plan.Statement.{statement}
 use Rattle.trial.proofs.trial_plan.Tie as tie
 
-number-requires : tie.Need-number-requires
-number-requires c κs = search needs
-
-number-requires-2 : tie.Need-number-requires-2
-number-requires-2 c κs = search needs
-
-number-requires-3 : tie.Need-number-requires-3
-number-requires-3 c κs = search needs
-
-number-requires-4 : tie.Need-number-requires-4
-number-requires-4 c κs = search needs
+query-of-requires : tie.Need-query-of-requires
+query-of-requires c κs = search needs
 
 plan-requires : tie.Need-plan-requires
 plan-requires c κs = search needs
@@ -39,14 +29,10 @@ same-length-3 c = search needs
 returns : tie.Need-returns
 returns c =
     let at = c .before .before .before .before .before .before .before .before in
-    let a = at .before .before .before .before .before .before .before .before .before .before .before .args in
+    let a = at .before .before .before .before .before .before .before .before .args in
     let planned = at .plan in
     let o : Query → PlanOutcome = λ q. planOutcome versionOne (a .file .now) q (a .work .now) (a .rides .now) in
-    let asked : queryOf (at .before .before .before .before .before .before .number .result) (at .before .before .before .before .before .number2 .result) (at .before .before .before .before .number3 .result) (at .before .before .before .number4 .result)
-    ≡ queryOf (a .source) (a .target) (a .minute) (a .code) =
-    λ i. queryOf (at .before .before .before .before .before .before .number .ensures .0 i) (at .before .before .before .before .before .number2 .ensures .0 i)
-    (at .before .before .before .before .number3 .ensures .0 i) (at .before .before .before .number4 .ensures .0 i)
-    in (
+    let asked = at .before .before .before .query-of .ensures in (
       c .before .before .put-planned .ensures
           ∙ ap (λ p. seen (planAnswer p) (a .answer .now)) (planned .ensures .0 ∙ ap (λ q. o q .answer) asked),
       planned .ensures .1 ∙ ap (λ q. o q .work) asked,
@@ -56,5 +42,4 @@ returns c =
 pub trial-plan-spec : {M : Type 1} → statement M
 trial-plan-spec =
     tie.close
-    (tie.spec number-requires number-requires-2 number-requires-3 number-requires-4 plan-requires put-planned-requires same-length same-length-2
-    same-length-3 returns)
+    (tie.spec query-of-requires plan-requires put-planned-requires same-length same-length-2 same-length-3 returns)
