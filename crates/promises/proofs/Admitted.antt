@@ -8,6 +8,7 @@ use Rattle.timetable.specs.Verdict.{fine}
 use Rattle.file_layout.specs.declared.Format.{Format}
 use Rattle.file_layout.specs.Format.{versionOne}
 use Rattle.file_layout.specs.Decode.{decode, trailerOf}
+use Rattle.file_layout.specs.Sound.{SoundFile}
 use Rattle.query.specs.declared.Query.{Query}
 use Rattle.query.specs.Query.{QueryFits}
 use Rattle.plans.specs.Sound.{Timely}
@@ -23,10 +24,13 @@ module _ (file : List ℕ) (q : Query) (work other : Room) (call : admission ver
   admits : Admits versionOne file (trailerOf versionOne file) q work other
   admits = record { plannable = version-one-plannable; fine-call = call; read = refl }
 
+  pub is-sound : SoundFile versionOne file
+  is-sound = file-sound admits
+
   pub is-timely : Timely (decode versionOne file)
   unfolding decode
   is-timely =
-      let stands = timely versionOne version-one-plannable file (file-sound admits) in
+      let stands = timely versionOne version-one-plannable file is-sound in
       record { rising = stands .rising; forward = stands .forward; shared = stands .shared }
 
   pub query-fits : QueryFits (trailerOf versionOne file .stops) (versionOne .lastminute) q

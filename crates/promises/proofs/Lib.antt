@@ -2,3 +2,4 @@
 pub mod Admitted
 pub mod PlanCall
 pub mod ArrivalCall
+pub mod Minutes
