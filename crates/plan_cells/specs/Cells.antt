@@ -5,17 +5,17 @@ use mathlib.Core.Option.{Option, none, some}
 use lib.ListN.{take, drop, set, replicate}
 
 -- the first cell of each region: a trip's cell or a row's mark; where a stop's stack starts; its size; pairs of cells
-abbrev pub trips : ℕ
-trips = 0
+abbrev pub tripCells : ℕ
+tripCells = 0
 
-abbrev pub stops : ℕ
-stops = 2000
+abbrev pub stopCells : ℕ
+stopCells = 2000
 
-abbrev pub sizes : ℕ
-sizes = 2200
+abbrev pub sizeCells : ℕ
+sizeCells = 2200
 
-abbrev pub pairs : ℕ
-pairs = 2400
+abbrev pub pairCells : ℕ
+pairCells = 2400
 
 -- the cells that planning uses, of the 4n + 2,500 that it is lent
 abbrev pub used : ℕ → ℕ
@@ -32,7 +32,7 @@ cellOf (some x) = x
 
 -- the first cell of pair i
 abbrev pub pairCell : ℕ → ℕ
-pairCell i = pairs + 2 * i
+pairCell i = pairCells + 2 * i
 
 -- a pair of cells: a row's worth and leaving row, or an entry's key and worth
 abbrev pub paired : List ℕ → (pair front behind : ℕ) → List ℕ

@@ -15,13 +15,13 @@ ghost use Prim.Native.Nat.{_+_, _≤_, _<_};
 ghost use lib.ListN.{length};
 ghost use Rattle.plan_cells.specs.Cells.{filled};
 // The first cell of each region.
-pub const TRIPS: usize = 0;
+pub const TRIP_CELLS: usize = 0;
 
-pub const STOPS: usize = 2000;
+pub const STOP_CELLS: usize = 2000;
 
-pub const SIZES: usize = 2200;
+pub const SIZE_CELLS: usize = 2200;
 
-pub const PAIRS: usize = 2400;
+pub const PAIR_CELLS: usize = 2400;
 
 // How many trips and stops there can be.
 pub const MOST_TRIPS: usize = 2000;

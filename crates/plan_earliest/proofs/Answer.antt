@@ -6,14 +6,14 @@ use mathlib.Core.Path.{_≡_}
 use Rattle.plans.specs.Plan.{earliest}
 use Rattle.plan_cells.specs.Cells.{cellOf}
 use Rattle.plan_rows.specs.declared.Sailings.{Sailings}
-use Rattle.plan_rows.specs.Reading.{rowsIn, timetableIn, Stand, Cut}
+use Rattle.plan_rows.specs.Reading.{rowsIn, timetableIn, FileReadable, Cut}
 use Rattle.query.specs.Query.{queryOf}
 use Rattle.plan_earliest.specs.Swept.{Swept, Found}
 use Rattle.plan_earliest.proofs.Final.{SetOut, sets-sail, earliest-cell}
 use Rattle.plan_earliest.proofs.InFile.{seaworthy}
 
 pub answer-earliest :
-    (file : List ℕ) (s : Sailings) → Stand file s → (source target minute first : ℕ) → source ≢ target → minute < 65536
+    (file : List ℕ) (s : Sailings) → FileReadable file s → (source target minute first : ℕ) → source ≢ target → minute < 65536
     → Cut (rowsIn file s) minute first → {start : List ℕ} → SetOut source minute start → {answer : ℕ}
     → (Swept (timetableIn file s) source minute first start → Found (timetableIn file s) source minute target answer)
     → (code : ℕ) → answer ≡ cellOf (earliest (timetableIn file s) (queryOf source target minute code))

@@ -11,18 +11,18 @@ use borrow.Author.Tests.{leb-true}
 use Rattle.timetable.specs.Timetable.{Timetable, rowOf}
 use Rattle.timetable.specs.declared.Row.{Row}
 use Rattle.plans.specs.Sound.{Timely}
-use Rattle.plan_cells.specs.Cells.{trips, pairs}
+use Rattle.plan_cells.specs.Cells.{tripCells, pairCells}
 use Rattle.plan_cells.specs.Outside.{SameOutside}
 use Rattle.plan_cells.proofs.Outside.{outside-then}
 use Rattle.plan_rows.specs.declared.Sailings.{Sailings}
-use Rattle.plan_rows.specs.Reading.{rowsIn, tablesIn, timetableIn, RowFits, Stand, TablesHeld}
-use Rattle.plan_earliest.specs.Cells.{ready, landingOf, Placed, Sailed}
+use Rattle.plan_rows.specs.Reading.{rowsIn, tablesIn, timetableIn, RowFits, FileReadable, TablesHeld}
+use Rattle.plan_earliest.specs.Cells.{ready, landingOf, RowInCells, RowSailed}
 use Rattle.plan_earliest.specs.Swept.{Swept, Found}
 use Rattle.plan_earliest.proofs.Steps.{sails-step, sails-behind}
 use Rattle.plan_earliest.proofs.Sweep.{Seaworthy, landing, sweeps}
 use Rattle.plan_earliest.proofs.Final.{swept-all, swept-enough}
 
-module _ (file : List ℕ) (s : Sailings) (stand : Stand file s) where
+module _ (file : List ℕ) (s : Sailings) (stand : FileReadable file s) where
   abbrev t : Timetable
   t = timetableIn file s
 
@@ -49,7 +49,7 @@ module _ (file : List ℕ) (s : Sailings) (stand : Stand file s) where
         ap (λ m. row .arrival + m)
         (held .held (row .class) (omega (arith, stand .tables-count, stand .row-fits i inside .class)) .longest-held)
 
-    pub row-placed : Placed tables (rowOf (rowsIn file s) i)
+    pub row-placed : RowInCells tables (rowOf (rowsIn file s) i)
     row-placed =
         let fits = stand .row-fits i inside in
         record {
@@ -60,12 +60,12 @@ module _ (file : List ℕ) (s : Sailings) (stand : Stand file s) where
           lands = omega (arith, landing-held, fits .lands);
         }
 
-    module _ {read : Row} (as-filed : read ≡ row) {before after : List ℕ} (sailed : Sailed read (landingOf tables read) before after) where
-      sailed-row : Sailed row (landing t i) before after
+    module _ {read : Row} (as-filed : read ≡ row) {before after : List ℕ} (sailed : RowSailed read (landingOf tables read) before after) where
+      sailed-row : RowSailed row (landing t i) before after
       sailed-row =
-          subst (λ m. Sailed row m before after) landing-held (subst (λ r. Sailed r (landingOf tables r) before after) as-filed sailed)
+          subst (λ m. RowSailed row m before after) landing-held (subst (λ r. RowSailed r (landingOf tables r) before after) as-filed sailed)
 
-      pub row-behind : {start : List ℕ} → SameOutside trips pairs start before → SameOutside trips pairs start after
+      pub row-behind : {start : List ℕ} → SameOutside tripCells pairCells start before → SameOutside tripCells pairCells start after
       row-behind same = outside-then same (sails-behind row (landing t i) (row-placed .trip) (row-placed .land) sailed-row)
 
       pub row-swept :

@@ -9,7 +9,7 @@ use lib.Dec.{leb}
 use lib.ListN.{getD, set}
 use borrow.Author.Tests.{leb-true, leb-false}
 use Rattle.timetable.specs.declared.Row.{Row}
-use Rattle.plan_cells.specs.Cells.{trips, stops}
+use Rattle.plan_cells.specs.Cells.{tripCells, stopCells}
 use Rattle.plan_rows.specs.Reading.{blockCell}
 use Rattle.plan_earliest.specs.Cells.{aboard, ready, landingOf, Boarded, boards, misses, Landed, sooner, no-sooner}
 
@@ -24,8 +24,8 @@ landing-below e h = omega arith
 
 pub landed-sooner :
     (stop : ℕ) (work : List ℕ) {x landing : ℕ} → x ≡ landing → x < ready work stop
-    → Landed stop landing work (set work (stops + stop) x)
-landed-sooner stop work {x} e h = subst (λ k. Landed stop k work (set work (stops + stop) x)) e (sooner h)
+    → Landed stop landing work (set work (stopCells + stop) x)
+landed-sooner stop work {x} e h = subst (λ k. Landed stop k work (set work (stopCells + stop) x)) e (sooner h)
 
 pub landed-no-sooner : (stop : ℕ) (work : List ℕ) {x landing : ℕ} → x ≡ landing → ready work stop ≤ x → Landed stop landing work work
 landed-no-sooner stop work e h = no-sooner (omega arith)
@@ -33,7 +33,7 @@ landed-no-sooner stop work e h = no-sooner (omega arith)
 -- the test whether the row can be boarded, as it is computed
 pub boards-now :
     (row : Row) (work : List ℕ) {since : ℕ} → since ≡ ready work (row .board) → leb since (row .departure) ≡ true
-    → Boarded row work (set work (trips + row .trip) 1) true
+    → Boarded row work (set work (tripCells + row .trip) 1) true
 boards-now row work {since} e h = boards (omega (arith, leb-true since (row .departure) h))
 
 pub misses-now :

@@ -7,7 +7,7 @@ use denote.Ref.{now}
 use denote.Triple.Clauses.{AtExit}
 use lib.ListN.{length, getD}
 use borrow.Fn.Kinds.{Dens, resT, endedOf}
-use Rattle.plan_cells.specs.Cells.{pairs}
+use Rattle.plan_cells.specs.Cells.{pairCells}
 use Rattle.plan_earliest.proofs.earliest_arrival.Kinds as kinds
 use Rattle.plan_earliest.proofs.earliest_arrival.Reads as reads
 
@@ -15,7 +15,7 @@ pub earliest-arrival-settled :
     (κs : Lfts 3) (arguments : Dens κs kinds.ps) (one other : resT kinds.r κs .Denot)
     (ending another : AtExit (endedOf 3 kinds.ps kinds.r) κs) → reads.Post κs arguments one ending → reads.Post κs arguments other another
     → (one ≡ other) × (length (now (ending .1 .1 .1 .1 .1 .1 .1 .0)) ≡ length (now (another .1 .1 .1 .1 .1 .1 .1 .0)))
-    × ((i : ℕ) → pairs ≤ i → getD (now (ending .1 .1 .1 .1 .1 .1 .1 .0)) i 0 ≡ getD (now (another .1 .1 .1 .1 .1 .1 .1 .0)) i 0)
+    × ((i : ℕ) → pairCells ≤ i → getD (now (ending .1 .1 .1 .1 .1 .1 .1 .0)) i 0 ≡ getD (now (another .1 .1 .1 .1 .1 .1 .1 .0)) i 0)
 earliest-arrival-settled κs arguments one other ending another first second = (
   first .0 0 ∙ sym (second .0 0),
   first .1 .same-length ∙ sym (second .1 .same-length),

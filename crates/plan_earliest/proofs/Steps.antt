@@ -1,4 +1,4 @@
--- What one row does to the cells, by trips and stops. Assumes that there are cells for 2,000 trips and 200 stops.
+-- What one row does to the cells, by tripCells and stopCells. Assumes that there are cells for 2,000 tripCells and 200 stopCells.
 use Prim.Native.Nat.{ℕ, _+_, _≤_, _<_}
 use native.Mathlib.Nat.{le-refl}
 use native.Mathlib.Omega.{arith}
@@ -9,10 +9,10 @@ use mathlib.Core.Path.{_≡_, refl, sym, ap, subst, _∙_}
 use lib.ListN.{length, getD, set}
 use lib.Seq.{getD-set-same, getD-set-other}
 use Rattle.timetable.specs.declared.Row.{Row}
-use Rattle.plan_cells.specs.Cells.{trips, stops, pairs}
+use Rattle.plan_cells.specs.Cells.{tripCells, stopCells, pairCells}
 use Rattle.plan_cells.specs.Outside.{SameOutside}
 use Rattle.plan_cells.proofs.Outside.{outside-same, outside-then, outside-set, set-cell}
-use Rattle.plan_earliest.specs.Cells.{aboard, ready, Boarded, already, boards, misses, Landed, sooner, no-sooner, Sailed, missed, sailed}
+use Rattle.plan_earliest.specs.Cells.{aboard, ready, Boarded, already, boards, misses, Landed, sooner, no-sooner, RowSailed, missed, sailed}
 
 never-both : {x : ℕ} → x ≡ 0 → x ≡ 1 → ⊥
 never-both zero' one = let no' : ⊥ = omega arith in no'
@@ -35,19 +35,19 @@ aboard-now row trip-small room (already n) = record { now = n; same-stops = λ _
 aboard-now row {before} trip-small room (boards in-time) =
     record {
       now = λ z. never-both z (getD-set-same before at 1 0 inside);
-      same-stops = λ stop. getD-set-other before at (stops + stop) 1 0 (λ e. let no' : ⊥ = omega arith in no');
+      same-stops = λ stop. getD-set-other before at (stopCells + stop) 1 0 (λ e. let no' : ⊥ = omega arith in no');
       still =
-          λ trip. set-cell (λ x. x ≡ 0 → aboard before trip ≡ 0) before at (trips + trip) 1 inside
+          λ trip. set-cell (λ x. x ≡ 0 → aboard before trip ≡ 0) before at (tripCells + trip) 1 inside
           (λ _ z. absurd (never-both z refl)) (λ _ z. z);
       since =
-          λ trip. set-cell (λ x. (x ≡ 0 → ⊥) → Since row before trip) before at (trips + trip) 1 inside
+          λ trip. set-cell (λ x. (x ≡ 0 → ⊥) → Since row before trip) before at (tripCells + trip) 1 inside
           (λ e _. inr (omega arith, omega arith)) (λ _ n. inl n);
     }
   where
     at : ℕ
-    at = trips + row .trip
+    at = tripCells + row .trip
 
-    inside : trips + row .trip < length before
+    inside : tripCells + row .trip < length before
     inside = omega arith
 
 -- one is at the stop by the landing: the trips' cells are as they were, and no stop's is later
@@ -65,19 +65,19 @@ there-now stop landing {before} stop-small room (no-sooner h) =
 there-now stop landing {before} stop-small room (sooner h) =
     record {
       by-then = let v : ready (set before at landing) stop ≡ landing = getD-set-same before at landing 0 inside in omega arith;
-      same-trips = λ trip small. getD-set-other before at (trips + trip) landing 0 (λ e. let no' : ⊥ = omega arith in no');
+      same-trips = λ trip small. getD-set-other before at (tripCells + trip) landing 0 (λ e. let no' : ⊥ = omega arith in no');
       no-later =
-          λ other. set-cell (λ x. x ≤ ready before other) before at (stops + other) landing inside
+          λ other. set-cell (λ x. x ≤ ready before other) before at (stopCells + other) landing inside
           (λ e. let same : ready before stop ≡ ready before other = ap (λ k. getD before k 0) e in omega arith) (λ _. omega arith);
       so =
-          λ other. set-cell (λ x. (x ≡ ready before other) ⊎ ((other ≡ stop) × (x ≡ landing))) before at (stops + other) landing inside
+          λ other. set-cell (λ x. (x ≡ ready before other) ⊎ ((other ≡ stop) × (x ≡ landing))) before at (stopCells + other) landing inside
           (λ e. inr (omega arith, refl)) (λ _. inl refl);
     }
   where
     at : ℕ
-    at = stops + stop
+    at = stopCells + stop
 
-    inside : stops + stop < length before
+    inside : stopCells + stop < length before
     inside = omega arith
 
 -- one row: who is aboard or can board lands by a + M, and nothing else changes
@@ -92,10 +92,10 @@ pub record Step (row : Row) (landing : ℕ) (before after : List ℕ) : Type 0 w
       → (ready after stop ≡ ready before stop) ⊎ ((stop ≡ row .land) × (aboard after (row .trip) ≡ 0 → ⊥) × (ready after stop ≡ landing))
 
 module _ (row : Row) (landing : ℕ) (trip-small : row .trip < 2000) (land-small : row .land < 200) where
-  boarded-behind : {before after : List ℕ} {b : Bool} → Boarded row before after b → SameOutside trips pairs before after
-  boarded-behind {before} (already n) = outside-same trips pairs before
-  boarded-behind {before} (boards in-time) = outside-set before (trips + row .trip) 1 (omega arith) (omega arith)
-  boarded-behind {before} (misses z late) = outside-same trips pairs before
+  boarded-behind : {before after : List ℕ} {b : Bool} → Boarded row before after b → SameOutside tripCells pairCells before after
+  boarded-behind {before} (already n) = outside-same tripCells pairCells before
+  boarded-behind {before} (boards in-time) = outside-set before (tripCells + row .trip) 1 (omega arith) (omega arith)
+  boarded-behind {before} (misses z late) = outside-same tripCells pairCells before
 
   -- aboard, and then there
   lands-step :
@@ -127,17 +127,17 @@ module _ (row : Row) (landing : ℕ) (trip-small : row .trip < 2000) (land-small
         so = λ _. inl refl;
       }
 
-  pub sails-step : {before after : List ℕ} → 2400 ≤ length before → Sailed row landing before after → Step row landing before after
+  pub sails-step : {before after : List ℕ} → 2400 ≤ length before → RowSailed row landing before after → Step row landing before after
   sails-step {before} room (missed (misses z late)) = misses-step before z late
   sails-step room (sailed b l) =
       lands-step (aboard-now row trip-small room b)
       (there-now (row .land) landing land-small (omega (arith, boarded-behind b .same-length)) l)
 
-  landed-behind : {before after : List ℕ} → Landed (row .land) landing before after → SameOutside trips pairs before after
-  landed-behind {before} (sooner h) = outside-set before (stops + row .land) landing (omega arith) (omega arith)
-  landed-behind {before} (no-sooner h) = outside-same trips pairs before
+  landed-behind : {before after : List ℕ} → Landed (row .land) landing before after → SameOutside tripCells pairCells before after
+  landed-behind {before} (sooner h) = outside-set before (stopCells + row .land) landing (omega arith) (omega arith)
+  landed-behind {before} (no-sooner h) = outside-same tripCells pairCells before
 
   -- the cells behind stay
-  pub sails-behind : {before after : List ℕ} → Sailed row landing before after → SameOutside trips pairs before after
+  pub sails-behind : {before after : List ℕ} → RowSailed row landing before after → SameOutside tripCells pairCells before after
   sails-behind (missed b) = boarded-behind b
   sails-behind (sailed b l) = outside-then (boarded-behind b) (landed-behind l)

@@ -5,39 +5,40 @@ use mathlib.Core.List.{List}
 use mathlib.Core.Path.{_≡_}
 use lib.ListN.{getD, set}
 use Rattle.timetable.specs.declared.Row.{Row}
-use Rattle.plan_cells.specs.Cells.{trips, stops}
+use Rattle.timetable.specs.Limits.{mostStops, mostTrips, mostClasses}
+use Rattle.plan_cells.specs.Cells.{tripCells, stopCells}
 use Rattle.plan_rows.specs.Reading.{blockCell}
 
 -- a trip's cell is 0 until its boat is boarded; a stop's cell is the minute from which on one can be there
 abbrev pub aboard : List ℕ → ℕ → ℕ
-aboard work trip = getD work (trips + trip) 0
+aboard work trip = getD work (tripCells + trip) 0
 
 abbrev pub ready : List ℕ → ℕ → ℕ
-ready work stop = getD work (stops + stop) 0
+ready work stop = getD work (stopCells + stop) 0
 
 -- a + M, with M from the lent tables
 abbrev pub landingOf : List ℕ → Row → ℕ
 landingOf tables row = row .arrival + getD tables (blockCell (row .class)) 0
 
 -- a row whose numbers are places in the cells, and whose last landing is a minute of 16 bits
-pub record Placed (tables : List ℕ) (row : Row) : Type 0 where
-  pub board : row .board < 200
-  pub land : row .land < 200
-  pub trip : row .trip < 2000
-  pub class : row .class < 16
+pub record RowInCells (tables : List ℕ) (row : Row) : Type 0 where
+  pub board : row .board < mostStops
+  pub land : row .land < mostStops
+  pub trip : row .trip < mostTrips
+  pub class : row .class < mostClasses
   pub lands : landingOf tables row < 65536
 
 -- one is aboard already, or boards now, or misses the row
 pub data Boarded (row : Row) (work : List ℕ) : List ℕ → Bool → Type 0 where
   already : (aboard work (row .trip) ≡ 0 → ⊥) → Boarded row work work true
-  boards : ready work (row .board) ≤ row .departure → Boarded row work (set work (trips + row .trip) 1) true
+  boards : ready work (row .board) ≤ row .departure → Boarded row work (set work (tripCells + row .trip) 1) true
   misses : aboard work (row .trip) ≡ 0 → row .departure < ready work (row .board) → Boarded row work work false
 
 -- one is there sooner than known, or not
 pub data Landed (stop landing : ℕ) (work : List ℕ) : List ℕ → Type 0 where
-  sooner : landing < ready work stop → Landed stop landing work (set work (stops + stop) landing)
+  sooner : landing < ready work stop → Landed stop landing work (set work (stopCells + stop) landing)
   no-sooner : ready work stop ≤ landing → Landed stop landing work work
 
-pub data Sailed (row : Row) (landing : ℕ) (work : List ℕ) : List ℕ → Type 0 where
-  missed : {after : List ℕ} → Boarded row work after false → Sailed row landing work after
-  sailed : {between after : List ℕ} → Boarded row work between true → Landed (row .land) landing between after → Sailed row landing work after
+pub data RowSailed (row : Row) (landing : ℕ) (work : List ℕ) : List ℕ → Type 0 where
+  missed : {after : List ℕ} → Boarded row work after false → RowSailed row landing work after
+  sailed : {between after : List ℕ} → Boarded row work between true → Landed (row .land) landing between after → RowSailed row landing work after

@@ -4,6 +4,7 @@ use mathlib.Core.List.{List}
 use mathlib.Core.Logic.{_⊎_}
 use mathlib.Core.Path.{_≡_}
 use Rattle.timetable.specs.Timetable.{Timetable, rowOf}
+use Rattle.timetable.specs.Limits.{mostStops, mostTrips}
 use Rattle.plans.specs.Rides.{Ride, IsRide, latest}
 use Rattle.plan_cells.specs.Cells.{missing}
 use Rattle.plan_earliest.specs.Reached.{Reached}
@@ -29,13 +30,13 @@ Told t source minute stop cell = (cell ≡ missing) ⊎ Reached t source minute 
 -- the rows below i are swept
 pub record Swept (t : Timetable) (source minute i : ℕ) (work : List ℕ) : Type 0 where
   pub starts : ready work source ≤ minute
-  pub told : (stop : ℕ) → stop < 200 → Told t source minute stop (ready work stop)
+  pub told : (stop : ℕ) → stop < mostStops → Told t source minute stop (ready work stop)
   -- no ride that leaves at a row below i lands earlier than told
   pub no-earlier :
       (r : Ride) → IsRide t r → r .leave < i → (m : ℕ) → Reached t source minute (r .from) m → m ≤ r .departs
       → ready work (r .to) ≤ latest r
-  pub underway : (trip : ℕ) → trip < 2000 → (aboard work trip ≡ 0 → ⊥) → Underway t source minute i trip
-  pub not-underway : (trip : ℕ) → trip < 2000 → aboard work trip ≡ 0 → Underway t source minute i trip → ⊥
+  pub underway : (trip : ℕ) → trip < mostTrips → (aboard work trip ≡ 0 → ⊥) → Underway t source minute i trip
+  pub not-underway : (trip : ℕ) → trip < mostTrips → aboard work trip ≡ 0 → Underway t source minute i trip → ⊥
 
 -- a stop's cell is the least minute from which on one can be there
 pub record Found (t : Timetable) (source minute stop cell : ℕ) : Type 0 where

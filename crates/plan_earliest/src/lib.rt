@@ -3,26 +3,27 @@ ghost use mathlib.Core.Path.{_≡_};
 ghost use mathlib.Core.Logic.{_≢_};
 ghost use Prim.Native.Nat.{ℕ, _+_, _≤_, _<_};
 ghost use lib.ListN.{length};
+ghost use Rattle.timetable.specs.Limits.{mostStops, mostTrips};
 ghost use Rattle.plans.specs.Plan.{earliest};
-ghost use Rattle.plan_cells.specs.Cells.{trips, pairs, cellOf};
+ghost use Rattle.plan_cells.specs.Cells.{tripCells, pairCells, cellOf};
 ghost use Rattle.plan_cells.specs.Outside.{SameOutside};
-ghost use Rattle.plan_rows.specs.Reading.{rowsIn, tablesIn, timetableIn, Stand, Cut, TablesHeld};
+ghost use Rattle.plan_rows.specs.Reading.{rowsIn, tablesIn, timetableIn, tableCells, FileReadable, Cut, TablesHeld};
 ghost use Rattle.query.specs.Query.{queryOf};
-ghost use Rattle.plan_earliest.specs.Cells.{ready, landingOf, Placed, Boarded, Landed, Sailed};
+ghost use Rattle.plan_earliest.specs.Cells.{ready, landingOf, RowInCells, Boarded, Landed, RowSailed};
 ghost use Rattle.plan_earliest.specs.Swept.{Swept, Found};
 use numbers::cell;
 use numbers::number;
 use plan_cells::MOST_STOPS;
 use plan_cells::MOST_TRIPS;
 use plan_cells::NONE;
-use plan_cells::STOPS;
-use plan_cells::TRIPS;
+use plan_cells::STOP_CELLS;
+use plan_cells::TRIP_CELLS;
 use plan_cells::fill;
 use plan_rows::BLOCK;
-use plan_rows::LONGEST;
+use plan_rows::MAX_DELAY;
 use plan_rows::Sailings;
+use plan_rows::can_board;
 use plan_rows::nth_row;
-use plan_rows::opens;
 use timetable::Row;
 
 // The earliest safe arrival from `source` at `minute`, over the rows from `first` on; NONE if there
@@ -37,16 +38,16 @@ pub fn earliest_arrival(
     first: usize,
     work: &mut [u32],
 ) -> u32
-    requires { ⌜ Stand (now file) s × TablesHeld (now tables) (tablesIn (now file) s) × (source < 200) × (target < 200)
-        × (source ≢ target) × (minute < 65536) × Cut (rowsIn (now file) s) minute first × (2400 ≤ length (now work)) ⌝ }
+    requires { ⌜ FileReadable (now file) s × TablesHeld (now tables) (tablesIn (now file) s) × (source < mostStops) × (target < mostStops)
+        × (source ≢ target) × (minute < 65536) × Cut (rowsIn (now file) s) minute first × (pairCells ≤ length (now work)) ⌝ }
     ensures { λ r. ⌜ ((code : ℕ) → r ≡ cellOf (earliest (timetableIn (now (file .entry)) s) (queryOf source target minute code)))
-        × SameOutside trips pairs (now (work .entry)) (now (work .exit)) ⌝ }
+        × SameOutside tripCells pairCells (now (work .entry)) (now (work .exit)) ⌝ }
 {
-    fill(work, TRIPS, MOST_TRIPS, 0);
-    fill(work, STOPS, MOST_STOPS, NONE);
-    work[STOPS + source] = cell(minute);
+    fill(work, TRIP_CELLS, MOST_TRIPS, 0);
+    fill(work, STOP_CELLS, MOST_STOPS, NONE);
+    work[STOP_CELLS + source] = cell(minute);
     sail_until(file, s, tables, target, first, work);
-    work[STOPS + target]
+    work[STOP_CELLS + target]
 }
 
 // Row by row, until one departs when the target is reached already.
@@ -58,9 +59,9 @@ fn sail_until(
     first: usize,
     work: &mut [u32],
 )
-    requires { ⌜ Stand (now file) s × TablesHeld (now tables) (tablesIn (now file) s) × (target < 200) × (first ≤ s .rows)
-        × (2400 ≤ length (now work)) ⌝ }
-    ensures { λ r. ⌜ SameOutside trips pairs (now (work .entry)) (now (work .exit)) × ((source minute : ℕ)
+    requires { ⌜ FileReadable (now file) s × TablesHeld (now tables) (tablesIn (now file) s) × (target < mostStops) × (first ≤ s .rows)
+        × (pairCells ≤ length (now work)) ⌝ }
+    ensures { λ r. ⌜ SameOutside tripCells pairCells (now (work .entry)) (now (work .exit)) × ((source minute : ℕ)
         → Swept (timetableIn (now (file .entry)) s) source minute first (now (work .entry))
         → Found (timetableIn (now (file .entry)) s) source minute target (ready (now (work .exit)) target)) ⌝ }
 {
@@ -68,7 +69,7 @@ fn sail_until(
     while i < s.rows {
         let row = nth_row(file, s, i);
         i += 1;
-        if opens(row.departure, number(work[STOPS + target])) {
+        if can_board(row.departure, number(work[STOP_CELLS + target])) {
             return;
         }
         sail(row, tables, work);
@@ -77,8 +78,8 @@ fn sail_until(
 
 // One row: who is aboard or can board lands by a + M.
 fn sail(row: Row, tables: &[u32], work: &mut [u32])
-    requires { ⌜ Placed (now tables) row × (length (now tables) ≡ 4096) × (2400 ≤ length (now work)) ⌝ }
-    ensures { λ r. ⌜ Sailed row (landingOf (now (tables .entry)) row) (now (work .entry)) (now (work .exit)) ⌝ }
+    requires { ⌜ RowInCells (now tables) row × (length (now tables) ≡ tableCells) × (pairCells ≤ length (now work)) ⌝ }
+    ensures { λ r. ⌜ RowSailed row (landingOf (now (tables .entry)) row) (now (work .entry)) (now (work .exit)) ⌝ }
 {
     if !board(row, work) {
         return;
@@ -88,15 +89,15 @@ fn sail(row: Row, tables: &[u32], work: &mut [u32])
 
 // Aboard since an earlier row of the trip, or from this one on?
 fn board(row: Row, work: &mut [u32]) -> bool
-    requires { ⌜ (row .board < 200) × (row .trip < 2000) × (2400 ≤ length (now work)) ⌝ }
+    requires { ⌜ (row .board < mostStops) × (row .trip < mostTrips) × (pairCells ≤ length (now work)) ⌝ }
     ensures { λ r. ⌜ Boarded row (now (work .entry)) (now (work .exit)) r ⌝ }
 {
-    let trip = TRIPS + row.trip;
-    let stop = STOPS + row.board;
+    let trip = TRIP_CELLS + row.trip;
+    let stop = STOP_CELLS + row.board;
     if work[trip] != 0 {
         return true;
     }
-    if opens(row.departure, number(work[stop])) {
+    if can_board(row.departure, number(work[stop])) {
         work[trip] = 1;
         return true;
     }
@@ -105,12 +106,12 @@ fn board(row: Row, work: &mut [u32]) -> bool
 
 // Lands by a + M: the stop's cell keeps the earlier minute.
 fn land(row: Row, tables: &[u32], work: &mut [u32])
-    requires { ⌜ Placed (now tables) row × (length (now tables) ≡ 4096) × (2400 ≤ length (now work)) ⌝ }
+    requires { ⌜ RowInCells (now tables) row × (length (now tables) ≡ tableCells) × (pairCells ≤ length (now work)) ⌝ }
     ensures { λ r. ⌜ Landed (row .land) (landingOf (now (tables .entry)) row) (now (work .entry)) (now (work .exit)) ⌝ }
 {
-    let stop = STOPS + row.land;
+    let stop = STOP_CELLS + row.land;
     let class = BLOCK * row.class;
-    let landing = cell(row.arrival) + tables[class + LONGEST];
+    let landing = cell(row.arrival) + tables[class + MAX_DELAY];
     if work[stop] <= landing {
         return;
     }

@@ -6,7 +6,7 @@ use native.Mathlib.Nat.{zero-add}
 use native.Mathlib.Omega.{arith}
 use lib.ListN.{length, getD, set}
 use lib.Seq.{getD-set-same}
-use Rattle.plan_cells.specs.Cells.{trips, stops, filled}
+use Rattle.plan_cells.specs.Cells.{tripCells, stopCells, filled}
 use Rattle.plan_cells.specs.Outside.{SameOutside}
 use Rattle.plan_cells.proofs.Filled.{length-filled, filled-inside}
 use Rattle.plan_cells.proofs.Outside.{outside-then, outside-wider, outside-set, outside-filled, set-cell}
@@ -19,7 +19,7 @@ module _ (work : List ℕ) (n at head : ℕ) (here : at ≡ head) (inside : head
   cleared-length : length cleared ≡ length work
   cleared-length = length-filled work 0 n 0 (omega arith)
 
-  pub headed-kept : SameOutside trips stops work (set cleared at 1)
+  pub headed-kept : SameOutside tripCells stopCells work (set cleared at 1)
   headed-kept =
       outside-then (outside-wider (omega arith) (omega arith) (outside-filled work 0 n 0 (omega arith)))
       (outside-set cleared at 1 (omega arith) (omega arith))

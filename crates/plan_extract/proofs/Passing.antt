@@ -10,7 +10,7 @@ use borrow.Author.Tests.{leb-true, leb-false, not-true, not-false}
 use lib.Dec.{leb}
 use lib.ListN.{length, getD, set, length-set}
 use Rattle.laws.proofs.Tests.{ifb}
-use Rattle.plan_cells.specs.Cells.{trips, stops}
+use Rattle.plan_cells.specs.Cells.{tripCells, stopCells}
 use Rattle.plan_stacks.specs.Stacks.{keyStep, stackStart, stackSize, entryDeparture, Falling, FirstOpenAt, entryRow}
 use Rattle.plan_cells.specs.Outside.{SameOutside}
 use Rattle.plan_cells.proofs.Outside.{set-cell}
@@ -86,7 +86,7 @@ module _ (work : List ℕ) (land arrival landing : ℕ) (c : Catching work land 
       }
 
   -- the marks stand ahead of the stacks
-  pub marks-only : {new : List ℕ} {place : ℕ} → Passed work new start size arrival landing place → SameOutside trips stops work new
+  pub marks-only : {new : List ℕ} {place : ℕ} → Passed work new start size arrival landing place → SameOutside tripCells stopCells work new
   marks-only p =
       record {
         same-length = p .same-length;

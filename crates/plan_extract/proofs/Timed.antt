@@ -21,11 +21,11 @@ use Rattle.plans.proofs.Order.{Ordered}
 use Rattle.plans.proofs.OwnWorth.{OwnWorth}
 use Rattle.plans.proofs.ChosenWorth.{chosen-own}
 use Rattle.plan_rows.specs.declared.Sailings.{Sailings}
-use Rattle.plan_rows.specs.Reading.{rowsIn, tablesIn, Stand}
+use Rattle.plan_rows.specs.Reading.{rowsIn, tablesIn, FileReadable}
 use Rattle.plans.specs.declared.Goal.{Goal}
 use Rattle.plan_scan.specs.Scanned.{scanIn, bestIn}
 
-module _ (file : List ℕ) (s : Sailings) (stand : Stand file s) (end : ℕ) (inside : end ≤ s .rows) where
+module _ (file : List ℕ) (s : Sailings) (stand : FileReadable file s) (end : ℕ) (inside : end ≤ s .rows) where
   -- the rows before `end`
   abbrev pub timed : Timetable
   timed = record { stops = 0; rows = take end (rowsIn file s); tables = tablesIn file s }

@@ -10,14 +10,14 @@ use Rattle.timetable.specs.declared.Row.{Row}
 use Rattle.plans.specs.Rides.{latest}
 use Rattle.plans.specs.Worth.{Valued}
 use Rattle.plans.proofs.Order.{Ordered}
-use Rattle.plan_cells.specs.Cells.{trips, stops, pairs, used}
+use Rattle.plan_cells.specs.Cells.{tripCells, stopCells, pairCells, used}
 use Rattle.plan_cells.specs.Outside.{SameOutside}
 use Rattle.plan_rows.specs.declared.Sailings.{Sailings}
-use Rattle.plan_rows.specs.Reading.{rowsIn, tablesIn, Stand, TablesHeld}
+use Rattle.plan_rows.specs.Reading.{rowsIn, tablesIn, FileReadable, TablesHeld}
 use Rattle.plans.specs.declared.Goal.{Goal}
 use Rattle.plan_scan.specs.Scanned.{scanIn, ScanHeld}
 use Rattle.plan_slice.specs.Slice.{withRide}
-use Rattle.plan_extract.specs.Extracted.{FirstRide, ridesOf}
+use Rattle.plan_extract.specs.Extracted.{FirstRide, planFrom}
 use Rattle.plan_extract.specs.Marks.{Catching, AllPassed}
 use Rattle.plan_extract.proofs.Kept.{kept-held}
 use Rattle.plan_extract.proofs.Timed.{ordered, known}
@@ -29,12 +29,12 @@ use Rattle.plan_extract.proofs.Writing.{Writing, marked-ride, lands, wr
 abbrev pub AtRow : (file : List ℕ) (s : Sailings) (goal : Goal) (first head end : ℕ) (plan₀ work plan : List ℕ) (rides last i : ℕ) → Type 0
 AtRow file s goal first head end plan₀ work plan rides last i =
     (f : FirstRide (scanIn file s goal first end .chosen) head)
-    → Writing (goal .target) (s .rows) (ridesOf (goal .target) f) (scanIn file s goal first end .chosen) plan₀ work plan rides last i
+    → Writing (goal .target) (s .rows) (planFrom (goal .target) f) (scanIn file s goal first end .chosen) plan₀ work plan rides last i
 
 -- what is known there, if the row is marked
 pub record Turn (file : List ℕ) (s : Sailings) (tables : List ℕ) (goal : Goal) (first head end : ℕ) (work₀ plan₀ work plan : List ℕ)
     (rides last i : ℕ) : Type 0 where
-  pub stand : Stand file s
+  pub stand : FileReadable file s
   pub blocks : TablesHeld tables (tablesIn file s)
   pub ahead : first ≤ end
   pub inside : end ≤ s .rows
@@ -44,7 +44,7 @@ pub record Turn (file : List ℕ) (s : Sailings) (tables : List ℕ) (goal : Goa
   pub begun : FirstRide (scanIn file s goal first end .chosen) head
   pub below : i < end
   pub few : rides ≤ i
-  pub kept : SameOutside trips stops work₀ work
+  pub kept : SameOutside tripCells stopCells work₀ work
   pub at-row : AtRow file s goal first head end plan₀ work plan rides last i
   pub mark : getD work i 0 ≡ 1
 
@@ -70,7 +70,7 @@ module _ {file : List ℕ} {s : Sailings} {tables : List ℕ} {goal : Goal} {fir
   on-board = aboard (t .stand) (t .blocks) goal first end (t .ahead) (t .inside) held-still (found .0) (found .1) i (found .2)
 
   -- the row where it leaves, by the number that its cell holds
-  module _ (leave : ℕ) (left : leave ≡ getD work (pairs + 2 * i + 1) 0) where
+  module _ (leave : ℕ) (left : leave ≡ getD work (pairCells + 2 * i + 1) 0) where
     pub leave-inside : leave < s .rows
     leave-inside = omega (arith, on-board .leaves, on-board .inside)
 
@@ -112,11 +112,11 @@ module _ {file : List ℕ} {s : Sailings} {tables : List ℕ} {goal : Goal} {fir
             (λ u m. omega (arith, known file s (t .stand) end (t .inside) goal first (t .ahead) u m .before-end, t .inside)))))
 
         -- the plan slice with its three numbers, and the latest minute so far
-        module _ (plan' : List ℕ) (laid : plan' ≡ withRide plan rides i (getD work (pairs + 2 * i + 1) 0) (getD work (pairs + 2 * i) 0))
+        module _ (plan' : List ℕ) (laid : plan' ≡ withRide plan rides i (getD work (pairCells + 2 * i + 1) 0) (getD work (pairCells + 2 * i) 0))
             (last' : ℕ) (later : last' ≡ max last (row .arrival + delay)) where
           ride-laid : plan' ≡ withRide plan rides (found .0 .ride .board) (found .0 .ride .leave) (found .0 .worth)
           ride-laid =
-              laid ∙ ap (λ k. withRide plan rides k (getD work (pairs + 2 * i + 1) 0) (getD work (pairs + 2 * i) 0)) (sym (found .2))
+              laid ∙ ap (λ k. withRide plan rides k (getD work (pairCells + 2 * i + 1) 0) (getD work (pairCells + 2 * i) 0)) (sym (found .2))
               ∙ ap₂ (λ a b. withRide plan rides (found .0 .ride .board) a b) (on-board .leaves) (on-board .worth)
 
           room-left : 3 * suc rides ≤ length plan₀

@@ -19,7 +19,7 @@ use Rattle.plans.proofs.OwnWorth.{OwnWorth}
 use Rattle.plan_stacks.specs.Chosen.{StackHolds, Climbing}
 use Rattle.plan_slice.specs.Slice.{written, withRide}
 use Rattle.plan_slice.proofs.Written.{length-over, length-more, over-none, over-more}
-use Rattle.plan_extract.specs.Extracted.{FirstRide, ridesOf}
+use Rattle.plan_extract.specs.Extracted.{FirstRide, planFrom}
 use Rattle.numbers.specs.Over.{over}
 use Rattle.plan_extract.specs.Marks.{HeadAlone, AllPassed}
 use Rattle.plan_extract.proofs.Going.{Going, Taken, going-start, going-pass, going-take, going-end}
@@ -80,16 +80,16 @@ module _ (chosen : List Valued) (ordered : Ordered chosen) {head : ℕ} (f : Fir
       (λ b. absurd (let z : ⊥ = omega (arith, ap (λ (x : Valued). x .ride .departs) same, b .apart from) in z)) (found .2)
 
   module _ (target n : ℕ) (own-worth : OwnWorth target chosen) (plan work : List ℕ) (alone : HeadAlone work n head) where
-    going-to : (k : ℕ) → k ≤ head → Going target (ridesOf target f) chosen start [] k
-    going-to zero h = going-start target (ridesOf target f) chosen start ordered own-worth refl
+    going-to : (k : ℕ) → k ≤ head → Going target (planFrom target f) chosen start [] k
+    going-to zero h = going-start target (planFrom target f) chosen start ordered own-worth refl
     going-to (suc k) h =
-        going-pass target (ridesOf target f) chosen (going-to k (omega arith))
+        going-pass target (planFrom target f) chosen (going-to k (omega arith))
         (λ v m here. ifb (λ b. wanted start (v .ride) ≡ b → b ≡ false) (wanted start (v .ride))
         (λ _ e. absurd (let same = ap (λ (x : Valued). x .ride .board) (first-alone v m e) in let z : ⊥ = omega (arith, f .boards-at) in z))
         (λ _ _. refl) refl)
 
     -- nothing is written yet, and the first ride alone is wanted
-    pub writing-start : Writing target n (ridesOf target f) chosen plan work plan 0 0 head
+    pub writing-start : Writing target n (planFrom target f) chosen plan work plan 0 0 head
     unfolding latestOf
     writing-start =
         record {

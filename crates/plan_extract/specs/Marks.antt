@@ -4,6 +4,8 @@ use mathlib.Core.List.{List}
 use mathlib.Core.Logic.{_⊎_}
 use mathlib.Core.Path.{_≡_}
 use lib.ListN.{length, getD}
+use Rattle.timetable.specs.Limits.{mostStops, mostRows}
+use Rattle.plan_cells.specs.Cells.{pairCells}
 use Rattle.plan_stacks.specs.Stacks.{stackStart, stackSize, entryDeparture, entryRow, Falling}
 
 -- an entry from `arrival` on, up to and including the first at or after `landing`: all that depart before it do so before `landing`
@@ -14,10 +16,10 @@ pub record Caught (work : List ℕ) (start size arrival landing place : ℕ) : T
 
 -- the stack of a landing stop, whose last entry departs at or after `landing`
 pub record Catching (work : List ℕ) (land arrival landing : ℕ) : Type 0 where
-  pub stop : land < 200
-  pub cells : 2400 ≤ length work
+  pub stop : land < mostStops
+  pub cells : pairCells ≤ length work
   pub falling : Falling work (stackStart work land) (stackSize work land) arrival
-  pub rows : (k : ℕ) → k < stackSize work land → entryRow work (stackStart work land) k < 2000
+  pub rows : (k : ℕ) → k < stackSize work land → entryRow work (stackStart work land) k < mostRows
   pub late : arrival ≤ landing
   pub safe : landing ≤ entryDeparture work (stackStart work land) 0
 

@@ -3,24 +3,24 @@ ghost use mathlib.Core.Path.{_≡_};
 ghost use Prim.Native.Nat.{_+_, _*_, _≤_, _<_, max};
 ghost use lib.ListN.{length, getD};
 ghost use Rattle.plans.specs.Plan.{latestOf};
-ghost use Rattle.plan_cells.specs.Cells.{trips, used, pairs};
+ghost use Rattle.plan_cells.specs.Cells.{tripCells, used, pairCells};
 ghost use Rattle.plan_cells.specs.Outside.{SameOutside};
-ghost use Rattle.plan_rows.specs.Reading.{tablesIn, Stand, TablesHeld};
+ghost use Rattle.plan_rows.specs.Reading.{tablesIn, FileReadable, TablesHeld};
 ghost use Rattle.plan_scan.specs.Scanned.{scanIn, ScanHeld};
-ghost use Rattle.plan_extract.specs.Extracted.{FirstRide, ridesOf};
+ghost use Rattle.plan_extract.specs.Extracted.{FirstRide, planFrom};
 ghost use Rattle.plan_slice.specs.Slice.{written, withRide};
 ghost use Rattle.numbers.specs.Over.{over};
 ghost use Rattle.plan_extract.specs.Marks.{Catching, AllPassed, HeadAlone};
 use numbers::cell;
 use numbers::number;
-use plan_cells::PAIRS;
-use plan_cells::TRIPS;
+use plan_cells::PAIR_CELLS;
+use plan_cells::TRIP_CELLS;
 use plan_cells::fill;
 use plan_rows::BLOCK;
-use plan_rows::LONGEST;
+use plan_rows::MAX_DELAY;
 use plan_rows::Sailings;
+use plan_rows::can_board;
 use plan_rows::nth_row;
-use plan_rows::opens;
 use plan_slice::write_ride;
 use plan_stacks::departure_of;
 use plan_stacks::first_open;
@@ -46,17 +46,17 @@ pub fn write_plan(
     work: &mut [u32],
     plan: &mut [u32],
 ) -> Written
-    requires { ⌜ Stand (now file) s × TablesHeld (now tables) (tablesIn (now file) s) × (first ≤ end) × (end ≤ s .rows)
+    requires { ⌜ FileReadable (now file) s × TablesHeld (now tables) (tablesIn (now file) s) × (first ≤ end) × (end ≤ s .rows)
         × (used (s .rows) ≤ length (now work)) × (3 * s .rows ≤ length (now plan))
         × ScanHeld (now work) (s .rows) first end (scanIn (now file) s goal first end)
         × FirstRide (scanIn (now file) s goal first end .chosen) head ⌝ }
     ensures { λ r. ⌜ ((f : FirstRide (scanIn (now (file .entry)) s goal first end .chosen) head)
-        → (now (plan .exit) ≡ over (written (ridesOf (goal .target) f)) (now (plan .entry)))
-        × (r .rides ≡ length (ridesOf (goal .target) f)) × (r .latest ≡ latestOf (ridesOf (goal .target) f)))
-        × SameOutside trips (used (s .rows)) (now (work .entry)) (now (work .exit)) ⌝ }
+        → (now (plan .exit) ≡ over (written (planFrom (goal .target) f)) (now (plan .entry)))
+        × (r .rides ≡ length (planFrom (goal .target) f)) × (r .latest ≡ latestOf (planFrom (goal .target) f)))
+        × SameOutside tripCells (used (s .rows)) (now (work .entry)) (now (work .exit)) ⌝ }
 {
-    fill(work, TRIPS, s.rows, 0);
-    work[TRIPS + head] = 1;
+    fill(work, TRIP_CELLS, s.rows, 0);
+    work[TRIP_CELLS + head] = 1;
     write_wanted(file, s, tables, goal, first, head, end, work, plan)
 }
 
@@ -72,14 +72,14 @@ fn write_wanted(
     work: &mut [u32],
     plan: &mut [u32],
 ) -> Written
-    requires { ⌜ Stand (now file) s × TablesHeld (now tables) (tablesIn (now file) s) × (first ≤ end) × (end ≤ s .rows)
+    requires { ⌜ FileReadable (now file) s × TablesHeld (now tables) (tablesIn (now file) s) × (first ≤ end) × (end ≤ s .rows)
         × (used (s .rows) ≤ length (now work)) × (3 * s .rows ≤ length (now plan))
         × ScanHeld (now work) (s .rows) first end (scanIn (now file) s goal first end)
         × FirstRide (scanIn (now file) s goal first end .chosen) head × HeadAlone (now work) (s .rows) head ⌝ }
     ensures { λ r. ⌜ ((f : FirstRide (scanIn (now (file .entry)) s goal first end .chosen) head)
-        → (now (plan .exit) ≡ over (written (ridesOf (goal .target) f)) (now (plan .entry)))
-        × (r .rides ≡ length (ridesOf (goal .target) f)) × (r .latest ≡ latestOf (ridesOf (goal .target) f)))
-        × SameOutside trips (used (s .rows)) (now (work .entry)) (now (work .exit)) ⌝ }
+        → (now (plan .exit) ≡ over (written (planFrom (goal .target) f)) (now (plan .entry)))
+        × (r .rides ≡ length (planFrom (goal .target) f)) × (r .latest ≡ latestOf (planFrom (goal .target) f)))
+        × SameOutside tripCells (used (s .rows)) (now (work .entry)) (now (work .exit)) ⌝ }
 {
     let mut rides = 0;
     let mut latest = 0;
@@ -87,10 +87,10 @@ fn write_wanted(
     while i < end {
         let board = i;
         i += 1;
-        if work[TRIPS + board] == 1 {
+        if work[TRIP_CELLS + board] == 1 {
             let leave = write_row(board, rides, work, plan);
             let row = nth_row(file, s, leave);
-            let landing = row.arrival + number(tables[BLOCK * row.class + LONGEST]);
+            let landing = row.arrival + number(tables[BLOCK * row.class + MAX_DELAY]);
             rides += 1;
             latest = later(latest, landing);
             if row.land != goal.target {
@@ -116,11 +116,11 @@ fn later(a: usize, b: usize) -> usize
 
 // The ride of row `board` by the row's pair of cells, as ride number `ride`; its leaving row.
 fn write_row(board: usize, ride: usize, work: &[u32], plan: &mut [u32]) -> usize
-    requires { ⌜ (board < 4294967296) × (pairs + 2 * board + 1 < length (now work)) × (3 * ride + 2 < length (now plan)) ⌝ }
-    ensures { λ r. ⌜ (r ≡ getD (now (work .entry)) (pairs + 2 * board + 1) 0)
-        × (now (plan .exit) ≡ withRide (now (plan .entry)) ride board (getD (now (work .entry)) (pairs + 2 * board + 1) 0) (getD (now (work .entry)) (pairs + 2 * board) 0)) ⌝ }
+    requires { ⌜ (board < 4294967296) × (pairCells + 2 * board + 1 < length (now work)) × (3 * ride + 2 < length (now plan)) ⌝ }
+    ensures { λ r. ⌜ (r ≡ getD (now (work .entry)) (pairCells + 2 * board + 1) 0)
+        × (now (plan .exit) ≡ withRide (now (plan .entry)) ride board (getD (now (work .entry)) (pairCells + 2 * board + 1) 0) (getD (now (work .entry)) (pairCells + 2 * board) 0)) ⌝ }
 {
-    let pair = PAIRS + 2 * board;
+    let pair = PAIR_CELLS + 2 * board;
     let leave = work[pair + 1];
     write_ride(plan, ride, cell(board), leave, work[pair]);
     number(leave)
@@ -135,11 +135,11 @@ fn want(land: usize, arrival: usize, landing: usize, work: &mut [u32])
     let stack = stack_of(work, land);
     let mut entry = first_open(work, stack, arrival);
     let mut key = work[entry];
-    while !opens(departure_of(key), landing) {
-        work[TRIPS + row_of(key)] = 1;
+    while !can_board(departure_of(key), landing) {
+        work[TRIP_CELLS + row_of(key)] = 1;
         entry -= 2;
         key = work[entry];
     }
     let safe = row_of(key);
-    work[TRIPS + safe] = 1;
+    work[TRIP_CELLS + safe] = 1;
 }

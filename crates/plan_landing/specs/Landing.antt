@@ -4,21 +4,23 @@ use mathlib.Core.List.{List}
 use mathlib.Core.Path.{_≡_}
 use lib.ListN.{length}
 use Rattle.timetable.specs.declared.Row.{Row}
+use Rattle.timetable.specs.Limits.{mostStops, mostClasses}
+use Rattle.plan_cells.specs.Cells.{pairCells}
 use Rattle.plans.specs.Rides.{Ride}
 use Rattle.plans.specs.Worth.{Valued}
 use Rattle.plan_stacks.specs.Stacks.{stackStart, stackSize}
 use Rattle.plan_stacks.specs.Chosen.{StackHolds, Climbing}
-use Rattle.plan_rows.specs.Reading.{BlockHeld, SharesFit}
+use Rattle.plan_rows.specs.Reading.{tableCells, BlockHeld, SharesFit}
 
 -- what getting off a row needs: the class's block, and the stack of the landing stop within the lent cells
 pub record Ready (row : Row) (tables work : List ℕ) (shares : List ℕ) (chosen : List Valued) : Type 0 where
-  pub land : row .land < 200
-  pub class : row .class < 16
-  pub tables-room : length tables ≡ 4096
+  pub land : row .land < mostStops
+  pub class : row .class < mostClasses
+  pub tables-room : length tables ≡ tableCells
   pub block : BlockHeld tables (row .class) shares
   pub shares-fit : SharesFit shares
   pub lands : row .arrival + length shares ≤ 65536
-  pub cells : 2400 ≤ length work
+  pub cells : pairCells ≤ length work
   pub stack-inside : stackStart work (row .land) + 2 * stackSize work (row .land) ≤ length work
   pub stack-holds : StackHolds work (row .land) chosen
   pub climbing : Climbing (row .land) chosen

@@ -17,9 +17,9 @@ use numbers::short;
 use plan_cells::NONE;
 use plan_rows::BLOCK;
 use plan_rows::EXPECTED;
-use plan_rows::LONGEST;
+use plan_rows::MAX_DELAY;
 use plan_rows::SHARES;
-use plan_rows::opens;
+use plan_rows::can_board;
 use plan_stacks::departure_of;
 use plan_stacks::first_open;
 use plan_stacks::stack_of;
@@ -36,7 +36,7 @@ pub fn getting_off(row: Row, tables: &[u32], goal: Goal, work: &[u32]) -> u32
         → r ≡ cellOf (offInTicks goal (rideOff row shares) chosen)) ⌝ }
 {
     let class = BLOCK * row.class;
-    let landing = row.arrival + number(tables[class + LONGEST]);
+    let landing = row.arrival + number(tables[class + MAX_DELAY]);
     if row.land == goal.target {
         if !bounded(goal.bound, landing) {
             return NONE;
@@ -48,7 +48,7 @@ pub fn getting_off(row: Row, tables: &[u32], goal: Goal, work: &[u32]) -> u32
     if stack.size == 0 {
         return NONE;
     }
-    if !opens(departure_of(work[start]), landing) {
+    if !can_board(departure_of(work[start]), landing) {
         return NONE;
     }
     let at = first_open(work, stack, row.arrival);
@@ -82,7 +82,7 @@ fn changing(
     let mut departure = departure_of(work[entry]);
     let mut done = 0;
     let mut sum = 0;
-    while !opens(departure, landing) {
+    while !can_board(departure, landing) {
         let share = long(tables[shares + (departure - arrival)]);
         sum += (share - done) * long(work[entry + 1]);
         done = share;

@@ -31,17 +31,12 @@ use Rattle.plans.proofs.RideMinutes.{departs-before}
 use Rattle.plans.proofs.ChosenWorth.{best-within}
 use Rattle.plans.proofs.Made.{chosen-for}
 use Rattle.plan_rows.specs.Reading.{Cut}
+use Rattle.plan_rows.specs.Idle.{Idle}
 use Rattle.plan_rows.proofs.Departed.{notLeft, choice-left, first-left, late-up-to, extract-left}
 
 -- the scan of the rows from row i to before `end`
 abbrev pub scanPart : Aim → Timetable → (i end : ℕ) → Scan
 scanPart aim t i end = scan aim (t .tables) i (slice i end (t .rows))
-
--- rows from `end` on that are worth nothing might as well not be there
-pub record Idle (aim : Aim) (t : Timetable) (end : ℕ) : Type 0 where
-  pub inside : end ≤ length (t .rows)
-  pub none-chosen : chosenFrom aim t end ≡ []
-  pub no-next : (trip : ℕ) → nextFrom aim t end trip ≡ none
 
 module _ (aim : Aim) (t : Timetable) where
   -- behind the last row

@@ -19,7 +19,7 @@ use Rattle.plans.specs.Journeys.{goalOf, boundOf}
 use Rattle.plans.specs.Worth.{Valued, firstOpen}
 use Rattle.plans.specs.Chosen.{inTicks, scan, scanned}
 use Rattle.plans.specs.Plan.{planned, planBefore, planWithin, chosenFor, ridesFrom, latestOf, earliest}
-use Rattle.plan_rows.specs.Reading.{rowsIn, tablesIn, timetableIn, RowFits, SharesFit, Stand, BlocksStand}
+use Rattle.plan_rows.specs.Reading.{rowsIn, tablesIn, timetableIn, RowFits, SharesFit, FileReadable, BlocksStand}
 use Rattle.plan_rows.specs.Sections.{sailingsOf, Plannable}
 
 pub version-one-plannable : Plannable versionOne
@@ -110,7 +110,7 @@ module _ (f : Format) (plannable : Plannable f) (s : List ℕ) (sound : SoundFil
             );
       }
 
-  pub stands : Stand s (sailingsOf f (trailerOf f s))
+  pub stands : FileReadable s (sailingsOf f (trailerOf f s))
   unfolding decode
   stands =
       record {

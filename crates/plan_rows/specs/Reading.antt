@@ -6,6 +6,7 @@ use lib.ListN.{length, getD, take}
 use Rattle.timetable.specs.Timetable.{Timetable, sharesOf, longest, rowOf}
 use Rattle.timetable.specs.Classes.{whole, sum}
 use Rattle.timetable.specs.declared.Row.{Row}
+use Rattle.timetable.specs.Limits.{mostStops, mostRows, mostTrips, mostClasses}
 use Rattle.file_layout.specs.Decode.{rowAt, tableAt, rowsFrom, tablesFrom}
 use Rattle.file_layout.specs.Sound.{blockAt}
 use Rattle.plans.specs.Worth.{up, weigh}
@@ -23,10 +24,10 @@ timetableIn file s = record { stops = 0; rows = rowsIn file s; tables = tablesIn
 
 -- a row whose numbers are places in the lent cells, and whose last landing is a minute of 16 bits
 pub record RowFits (classes : ℕ) (tables : List (List ℕ)) (r : Row) : Type 0 where
-  pub board : r .board < 200
-  pub land : r .land < 200
+  pub board : r .board < mostStops
+  pub land : r .land < mostStops
   pub onward : r .departure < r .arrival
-  pub trip : r .trip < 2000
+  pub trip : r .trip < mostTrips
   pub class : r .class < classes
   pub lands : r .arrival + longest (sharesOf tables (r .class)) < 65536
 
@@ -37,9 +38,9 @@ pub record SharesFit (shares : List ℕ) : Type 0 where
   pub shares-whole : sum shares ≡ whole
 
 -- the rows and tables stand in the file, and keep what planning uses of the rules
-pub record Stand (file : List ℕ) (s : Sailings) : Type 0 where
-  pub few-rows : s .rows ≤ 2000
-  pub few-classes : s .classes ≤ 16
+pub record FileReadable (file : List ℕ) (s : Sailings) : Type 0 where
+  pub few-rows : s .rows ≤ mostRows
+  pub few-classes : s .classes ≤ mostClasses
   pub rows-count : length (rowsIn file s) ≡ s .rows
   pub tables-count : length (tablesIn file s) ≡ s .classes
   pub row-readable : (i : ℕ) → i < s .rows → s .rowstart + s .width * i + 11 < length file
@@ -51,7 +52,7 @@ pub record Stand (file : List ℕ) (s : Sailings) : Type 0 where
 
 -- each class block stands in the file
 pub record BlocksStand (file : List ℕ) (s : Sailings) : Type 0 where
-  pub few-classes : s .classes ≤ 16
+  pub few-classes : s .classes ≤ mostClasses
   pub tables-count : length (tablesIn file s) ≡ s .classes
   pub block-readable :
       (c : ℕ) → c < s .classes → blockAt file (s .tablestart) c + 2 + 2 * length (sharesOf (tablesIn file s) c) ≤ length file
@@ -68,11 +69,15 @@ pub record Cut (rows : List Row) (minute first : ℕ) : Type 0 where
 abbrev pub blockCell : ℕ → ℕ
 blockCell class = 256 * class
 
+-- a block for each of 16 classes
+abbrev pub tableCells : ℕ
+tableCells = blockCell mostClasses
+
 pub record BlockHeld (cells : List ℕ) (class : ℕ) (shares : List ℕ) : Type 0 where
   pub longest-held : getD cells (blockCell class) 0 ≡ longest shares
   pub expected-held : getD cells (blockCell class + 1) 0 ≡ up 16 (weigh shares 0 (λ v. v))
   pub cumulative-held : (v : ℕ) → v < length shares → getD cells (blockCell class + 2 + v) 0 ≡ sum (take (suc v) shares)
 
 pub record TablesHeld (cells : List ℕ) (tables : List (List ℕ)) : Type 0 where
-  pub room : length cells ≡ 4096
+  pub room : length cells ≡ tableCells
   pub held : (c : ℕ) → c < length tables → BlockHeld cells c (sharesOf tables c)

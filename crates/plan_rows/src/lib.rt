@@ -4,7 +4,7 @@ ghost use Prim.Native.Nat.{_<_};
 ghost use lib.Dec.{leb};
 ghost use Rattle.timetable.specs.Timetable.{rowOf};
 ghost use Rattle.file_layout.specs.Small.{SmallRow};
-ghost use Rattle.plan_rows.specs.Reading.{rowsIn, Stand, Cut};
+ghost use Rattle.plan_rows.specs.Reading.{rowsIn, FileReadable, Cut};
 use file_layout::row_at;
 use timetable::Row;
 
@@ -22,7 +22,7 @@ pub struct Sailings {
 // then the share of landings at most 0, 1, .. M minutes late.
 pub const BLOCK: usize = 256;
 
-pub const LONGEST: usize = 0;
+pub const MAX_DELAY: usize = 0;
 
 pub const EXPECTED: usize = 1;
 
@@ -30,14 +30,14 @@ pub const SHARES: usize = 2;
 
 // Row number `i`.
 pub fn nth_row(file: &[u8], s: Sailings, i: usize) -> Row
-    requires { ⌜ Stand (now file) s × (i < s .rows) ⌝ }
+    requires { ⌜ FileReadable (now file) s × (i < s .rows) ⌝ }
     ensures { λ r. ⌜ (r ≡ rowOf (rowsIn (now (file .entry)) s) i) × SmallRow r ⌝ }
 {
     row_at(file, s.rowstart + s.width * i)
 }
 
 // One who stands at the stop at `minute` can board what departs there at `departure`.
-pub fn opens(departure: usize, minute: usize) -> bool
+pub fn can_board(departure: usize, minute: usize) -> bool
     ensures { λ r. ⌜ r ≡ leb minute departure ⌝ }
 {
     minute <= departure
@@ -45,7 +45,7 @@ pub fn opens(departure: usize, minute: usize) -> bool
 
 // How many rows depart before `minute`: they stand ahead of all others.
 pub fn rows_before(file: &[u8], s: Sailings, minute: usize) -> usize
-    requires { ⌜ Stand (now file) s ⌝ }
+    requires { ⌜ FileReadable (now file) s ⌝ }
     ensures { λ r. ⌜ Cut (rowsIn (now (file .entry)) s) minute r ⌝ }
 {
     let mut low = 0;
@@ -53,7 +53,7 @@ pub fn rows_before(file: &[u8], s: Sailings, minute: usize) -> usize
     while low < high {
         let middle = low + (high - low) / 2;
         let row = nth_row(file, s, middle);
-        if opens(row.departure, minute) {
+        if can_board(row.departure, minute) {
             high = middle;
         } else {
             low = middle + 1;

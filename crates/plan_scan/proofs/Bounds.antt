@@ -6,10 +6,10 @@ use native.Mathlib.Omega.{arith}
 use lib.ListN.{getD}
 use lib.Seq.{slice, slice-empty, length-slice}
 use Rattle.plans.specs.Chosen.{inTicks, Scan, scan, nextOf}
-use Rattle.plan_cells.specs.Cells.{trips, missing, pairCell}
+use Rattle.plan_cells.specs.Cells.{tripCells, missing, pairCell}
 use Rattle.plan_stacks.specs.Stacks.{stackAt, stackStart, startPair, stackSize}
 use Rattle.plan_rows.specs.declared.Sailings.{Sailings}
-use Rattle.plan_rows.specs.Reading.{rowsIn, tablesIn, Stand}
+use Rattle.plan_rows.specs.Reading.{rowsIn, tablesIn, FileReadable}
 use Rattle.plans.specs.declared.Goal.{Goal}
 use Rattle.plan_stacks.specs.Chosen.{atStop}
 use Rattle.plan_scan.specs.Stores.{rowWorth}
@@ -22,14 +22,14 @@ use Rattle.plan_scan.proofs.TimetableTo.{climbing}
 abbrev nothing : Scan
 nothing = record { weighed = []; chosen = [] }
 
-module _ (file : List ℕ) (s : Sailings) (goal : Goal) (first end : ℕ) (stand : Stand file s) (inside : end ≤ s .rows) where
+module _ (file : List ℕ) (s : Sailings) (goal : Goal) (first end : ℕ) (stand : FileReadable file s) (inside : end ≤ s .rows) where
   scan-none : scanIn file s goal end end ≡ nothing
   unfolding scan
   scan-none = ap (scan (inTicks goal) (tablesIn file s) end) (slice-empty end (rowsIn file s))
 
   -- no row has been weighed: no trip has a next row, the stacks are empty
   pub held-begins :
-      (w : List ℕ) → ((trip : ℕ) → trip < 2000 → getD w (trips + trip) 0 ≡ s .rows) → rowWorth w (s .rows) ≡ missing
+      (w : List ℕ) → ((trip : ℕ) → trip < 2000 → getD w (tripCells + trip) 0 ≡ s .rows) → rowWorth w (s .rows) ≡ missing
       → ((stop : ℕ) → stop < 200 → startPair w stop ≡ suc (s .rows) + below (λ k. countAt k (slice first end (rowsIn file s))) stop)
       → ((stop : ℕ) → stop < 200 → stackSize w stop ≡ 0) → Held file s goal first end end w
   unfolding nextOf atStop stackAt

@@ -1,4 +1,4 @@
--- Counting the rows that board at each stop: with the rows to come, the sizes are those of all rows. Assumes nothing.
+-- Counting the rows that board at each stop: with the rows to come, the sizeCells are those of all rows. Assumes nothing.
 use Prim.Native.Nat.{ℕ, _+_, _≤_, _<_}
 use mathlib.Core.List.{List, [], _∷_}
 use mathlib.Core.Path.{_≡_, refl, subst}
@@ -9,7 +9,7 @@ use lib.Seq.{getD-set-same, getD-set-other}
 use borrow.Author.Tests.{eqb-true, eqb-false}
 use Rattle.timetable.specs.declared.Row.{Row}
 use Rattle.laws.proofs.Tests.{ifb}
-use Rattle.plan_cells.specs.Cells.{stops, sizes, pairs}
+use Rattle.plan_cells.specs.Cells.{stopCells, sizeCells, pairCells}
 use Rattle.plan_cells.specs.Outside.{SameOutside}
 use Rattle.plan_cells.proofs.Outside.{outside-same, outside-then, outside-set}
 use Rattle.plan_stacks.specs.Stacks.{stackSize}
@@ -17,37 +17,37 @@ use Rattle.plan_scan.specs.Regions.{countAt, Counted}
 use Rattle.plan_scan.proofs.Regions.{count-here, count-elsewhere}
 
 pub record Counting (all rest : List Row) (w w' : List ℕ) : Type 0 where
-  pub outside : SameOutside stops pairs w w'
+  pub outside : SameOutside stopCells pairCells w w'
   pub so-far : (stop : ℕ) → stop < 200 → stackSize w' stop + countAt stop rest ≡ countAt stop all
 
 pub counting-begins : (rows : List Row) (w : List ℕ) → ((stop : ℕ) → stop < 200 → stackSize w stop ≡ 0) → Counting rows rows w w
-counting-begins rows w empty = record { outside = outside-same stops pairs w; so-far = λ stop h. let e : stackSize w stop ≡ 0 = empty stop h in omega arith }
+counting-begins rows w empty = record { outside = outside-same stopCells pairCells w; so-far = λ stop h. let e : stackSize w stop ≡ 0 = empty stop h in omega arith }
 
 counts-on :
-    (all rest : List Row) (r : Row) (w : List ℕ) → pairs ≤ length w → r .board < 200 → (stop : ℕ) → stop < 200
+    (all rest : List Row) (r : Row) (w : List ℕ) → pairCells ≤ length w → r .board < 200 → (stop : ℕ) → stop < 200
     → stackSize w stop + countAt stop (r ∷ rest) ≡ countAt stop all
-    → stackSize (set w (sizes + r .board) (stackSize w (r .board) + 1)) stop + countAt stop rest ≡ countAt stop all
+    → stackSize (set w (sizeCells + r .board) (stackSize w (r .board) + 1)) stop + countAt stop rest ≡ countAt stop all
 counts-on all rest r w room board stop h so-far =
-    ifb (λ b. eqb (r .board) stop ≡ b → stackSize (set w (sizes + r .board) (stackSize w (r .board) + 1)) stop + countAt stop rest ≡ countAt stop all) (eqb (r .board) stop)
+    ifb (λ b. eqb (r .board) stop ≡ b → stackSize (set w (sizeCells + r .board) (stackSize w (r .board) + 1)) stop + countAt stop rest ≡ countAt stop all) (eqb (r .board) stop)
     (λ e _. let here : r .board ≡ stop = eqb-true (r .board) stop e in
     let count = count-here stop r rest here in
-    let stored : stackSize (set w (sizes + r .board) (stackSize w (r .board) + 1)) (r .board) ≡ stackSize w (r .board) + 1 =
-    getD-set-same w (sizes + r .board) (stackSize w (r .board) + 1) 0 (omega arith) in
-    let moved : stackSize (set w (sizes + r .board) (stackSize w (r .board) + 1)) stop ≡ stackSize w stop + 1 =
-    subst (λ k. stackSize (set w (sizes + r .board) (stackSize w (r .board) + 1)) k ≡ stackSize w k + 1) here stored in
+    let stored : stackSize (set w (sizeCells + r .board) (stackSize w (r .board) + 1)) (r .board) ≡ stackSize w (r .board) + 1 =
+    getD-set-same w (sizeCells + r .board) (stackSize w (r .board) + 1) 0 (omega arith) in
+    let moved : stackSize (set w (sizeCells + r .board) (stackSize w (r .board) + 1)) stop ≡ stackSize w stop + 1 =
+    subst (λ k. stackSize (set w (sizeCells + r .board) (stackSize w (r .board) + 1)) k ≡ stackSize w k + 1) here stored in
     omega arith)
     (λ e _. let apart : r .board ≡ stop → ⊥ = eqb-false (r .board) stop e in
     let count = count-elsewhere stop r rest apart in
-    let kept : stackSize (set w (sizes + r .board) (stackSize w (r .board) + 1)) stop ≡ stackSize w stop =
-    getD-set-other w (sizes + r .board) (sizes + stop) (stackSize w (r .board) + 1) 0 (λ q. apart (omega arith)) in
+    let kept : stackSize (set w (sizeCells + r .board) (stackSize w (r .board) + 1)) stop ≡ stackSize w stop =
+    getD-set-other w (sizeCells + r .board) (sizeCells + stop) (stackSize w (r .board) + 1) 0 (λ q. apart (omega arith)) in
     omega arith) refl
 
 pub counting-on :
-    (all rest : List Row) (r : Row) (w w' : List ℕ) → pairs ≤ length w → r .board < 200 → Counting all (r ∷ rest) w w'
-    → Counting all rest w (set w' (sizes + r .board) (stackSize w' (r .board) + 1))
+    (all rest : List Row) (r : Row) (w w' : List ℕ) → pairCells ≤ length w → r .board < 200 → Counting all (r ∷ rest) w w'
+    → Counting all rest w (set w' (sizeCells + r .board) (stackSize w' (r .board) + 1))
 counting-on all rest r w w' room board c =
     record {
-      outside = outside-then (c .outside) (outside-set w' (sizes + r .board) (stackSize w' (r .board) + 1) (omega arith) (omega arith));
+      outside = outside-then (c .outside) (outside-set w' (sizeCells + r .board) (stackSize w' (r .board) + 1) (omega arith) (omega arith));
       so-far = λ stop h. counts-on all rest r w' (omega (arith, c .outside .same-length)) board stop h (c .so-far stop h);
     }
 

@@ -14,7 +14,7 @@ use Rattle.timetable.specs.declared.Row.{Row}
 use Rattle.plans.specs.Rides.{Ride}
 use Rattle.plans.specs.Worth.{Valued}
 use Rattle.plans.specs.Chosen.{Scan, least, getOff, stayOn, nextOf, boardedAt}
-use Rattle.plan_cells.specs.Cells.{pairs, trips, stops, used, missing, cellOf, pairCell, paired}
+use Rattle.plan_cells.specs.Cells.{pairCells, tripCells, stopCells, used, missing, cellOf, pairCell, paired}
 use Rattle.plan_cells.specs.Outside.{SameOutside}
 use Rattle.plan_cells.proofs.Outside.{outside-then, outside-set}
 use Rattle.plan_scan.specs.Stores.{entered, nextPair, Weighs, gets-off, stays-on}
@@ -71,14 +71,14 @@ inFront row best later chosen = record { weighed = record { trip = row .trip; be
 
 module _ (w : List ℕ) (n i end : ℕ) (row : Row) (trip : row .trip < 2000) (below : i < end) (inside : end ≤ n) (room : used n ≤ length w) where
   -- the pair of row i and its trip's cell, after other stores at places that hold no pair of a later row
-  entered-cell : (a b : ℕ) → getD (paired (entered w (row .trip) i) i a b) (trips + row .trip) 0 ≡ i
+  entered-cell : (a b : ℕ) → getD (paired (entered w (row .trip) i) i a b) (tripCells + row .trip) 0 ≡ i
   entered-cell a b =
-      paired-other (entered w (row .trip) i) i a b (trips + row .trip) (λ e. omega arith) (λ e. omega arith)
-      ∙ getD-set-same w (trips + row .trip) i 0 (omega arith)
+      paired-other (entered w (row .trip) i) i a b (tripCells + row .trip) (λ e. omega arith) (λ e. omega arith)
+      ∙ getD-set-same w (tripCells + row .trip) i 0 (omega arith)
 
-  other-cell : (a b k : ℕ) → (k ≡ trips + row .trip → ⊥) → (k ≡ pairCell i → ⊥) → (k ≡ pairCell i + 1 → ⊥)
+  other-cell : (a b k : ℕ) → (k ≡ tripCells + row .trip → ⊥) → (k ≡ pairCell i → ⊥) → (k ≡ pairCell i + 1 → ⊥)
       → getD (paired (entered w (row .trip) i) i a b) k 0 ≡ getD w k 0
-  other-cell a b k p q r = paired-other (entered w (row .trip) i) i a b k q r ∙ getD-set-other w (trips + row .trip) k i 0 p
+  other-cell a b k p q r = paired-other (entered w (row .trip) i) i a b k q r ∙ getD-set-other w (tripCells + row .trip) k i 0 p
 
   later-pair : (a b j : ℕ) (best : Option Valued) → i < j → PairHolds w j best → PairHolds (paired (entered w (row .trip) i) i a b) j best
   later-pair a b j best h =
@@ -87,7 +87,7 @@ module _ (w : List ℕ) (n i end : ℕ) (row : Row) (trip : row .trip < 2000) (b
 
   own-pair : (a b : ℕ) (best : Option Valued) → Holds a b best → PairHolds (paired (entered w (row .trip) i) i a b) i best
   own-pair a b best h =
-      let fits : pairCell i + 1 < length (entered w (row .trip) i) = omega (arith, length-set w (trips + row .trip) i) in
+      let fits : pairCell i + 1 < length (entered w (row .trip) i) = omega (arith, length-set w (tripCells + row .trip) i) in
       holds-pair (paired (entered w (row .trip) i) i a b) i best a b (paired-front (entered w (row .trip) i) i a b fits)
       (paired-behind (entered w (row .trip) i) i a b fits) h
 
@@ -123,8 +123,8 @@ module _ (w : List ℕ) (n i end : ℕ) (row : Row) (trip : row .trip < 2000) (b
         → NextHolds (paired (entered w (row .trip) i) i a b) n i t (nextOf (inFront row best later chosen .weighed) t)
     unfolding nextOf
     next-elsewhere t small apart =
-        let kept : getD (paired (entered w (row .trip) i) i a b) (trips + t) 0 ≡ getD w (trips + t) 0 =
-        other-cell a b (trips + t) (λ e. apart (omega arith)) (λ e. omega arith) (λ e. omega arith) in
+        let kept : getD (paired (entered w (row .trip) i) i a b) (tripCells + t) 0 ≡ getD w (tripCells + t) 0 =
+        other-cell a b (tripCells + t) (λ e. apart (omega arith)) (λ e. omega arith) (λ e. omega arith) in
         let old = held .next t small in
         let low = old .later in
         let high = old .inside in
@@ -132,9 +132,9 @@ module _ (w : List ℕ) (n i end : ℕ) (row : Row) (trip : row .trip < 2000) (b
           later = omega arith;
           inside = omega arith;
           holds = subst (λ k. PairHolds (paired (entered w (row .trip) i) i a b) k (nextOf (inFront row best later chosen .weighed) t)) (sym kept)
-              (subst (λ (o : Option Valued). PairHolds (paired (entered w (row .trip) i) i a b) (getD w (trips + t) 0) o)
+              (subst (λ (o : Option Valued). PairHolds (paired (entered w (row .trip) i) i a b) (getD w (tripCells + t) 0) o)
               (sym (cond-false best (nextOf (later .weighed) t) (ne-eqb (row .trip) t apart)))
-              (later-pair a b (getD w (trips + t) 0) (nextOf (later .weighed) t) low (old .holds)));
+              (later-pair a b (getD w (tripCells + t) 0) (nextOf (later .weighed) t) low (old .holds)));
         }
 
     stored : PairsHeld (paired (entered w (row .trip) i) i a b) n i end (inFront row best later chosen)
@@ -151,11 +151,11 @@ module _ (w : List ℕ) (n i end : ℕ) (row : Row) (trip : row .trip < 2000) (b
         }
 
   -- the leaving row of the trip's next row is read after two stores that do not touch it
-  leave-read : (on : ℕ) → suc i ≤ getD w (trips + row .trip) 0
+  leave-read : (on : ℕ) → suc i ≤ getD w (tripCells + row .trip) 0
       → getD (set (entered w (row .trip) i) (pairCell i) on) (nextPair w (row .trip) + 1) 0 ≡ getD w (nextPair w (row .trip) + 1) 0
   leave-read on low =
       getD-set-other (entered w (row .trip) i) (pairCell i) (nextPair w (row .trip) + 1) on 0 (λ e. omega arith)
-      ∙ getD-set-other w (trips + row .trip) (nextPair w (row .trip) + 1) i 0 (λ e. omega arith)
+      ∙ getD-set-other w (tripCells + row .trip) (nextPair w (row .trip) + 1) i 0 (λ e. omega arith)
 
   -- a row that was weighed
   pub pairs-weighed :
@@ -168,7 +168,7 @@ module _ (w : List ℕ) (n i end : ℕ) (row : Row) (trip : row .trip < 2000) (b
       subst (λ (l : List ℕ). PairsHeld l n i end (inFront row best later chosen)) (sym e)
       (stored later held best chosen (cellOf o) i
       (least-off i row r at-row o (nextOf (later .weighed) (row .trip)) (getD w (nextPair w (row .trip)) 0) (getD w (nextPair w (row .trip) + 1) 0) fits
-      (pair-holds w (getD w (trips + row .trip) 0) (nextOf (later .weighed) (row .trip)) (next .holds)) less))
+      (pair-holds w (getD w (tripCells + row .trip) 0) (nextOf (later .weighed) (row .trip)) (next .holds)) less))
   pairs-weighed w' r o later chosen at-row fits held (stays-on less e) =
       let next = held .next (row .trip) trip in
       let best = least (getOff r o) (stayOn i row (nextOf (later .weighed) (row .trip))) in
@@ -177,32 +177,32 @@ module _ (w : List ℕ) (n i end : ℕ) (row : Row) (trip : row .trip < 2000) (b
       (sym (e ∙ ap (λ leave. paired (entered w (row .trip) i) i on leave) (leave-read on (next .later))))
       (stored later held best chosen on (getD w (nextPair w (row .trip) + 1) 0)
       (least-on i row r at-row o (nextOf (later .weighed) (row .trip)) on (getD w (nextPair w (row .trip) + 1) 0) fits
-      (pair-holds w (getD w (trips + row .trip) 0) (nextOf (later .weighed) (row .trip)) (next .holds)) less))
+      (pair-holds w (getD w (tripCells + row .trip) 0) (nextOf (later .weighed) (row .trip)) (next .holds)) less))
 
   pub weighs-other :
-      (w' : List ℕ) (off k : ℕ) → Weighs row i off w w' → stops ≤ k → (k ≡ pairCell i → ⊥) → (k ≡ pairCell i + 1 → ⊥) → getD w' k 0 ≡ getD w k 0
+      (w' : List ℕ) (off k : ℕ) → Weighs row i off w w' → stopCells ≤ k → (k ≡ pairCell i → ⊥) → (k ≡ pairCell i + 1 → ⊥) → getD w' k 0 ≡ getD w k 0
   weighs-other w' off k (gets-off less e) low p q = ap (λ (l : List ℕ). getD l k 0) e ∙ other-cell off i k (λ z. omega arith) p q
   weighs-other w' off k (stays-on less e) low p q =
       ap (λ (l : List ℕ). getD l k 0) e
       ∙ other-cell (getD w (nextPair w (row .trip)) 0)
       (getD (set (entered w (row .trip) i) (pairCell i) (getD w (nextPair w (row .trip)) 0)) (nextPair w (row .trip) + 1) 0) k (λ z. omega arith) p q
 
--- pairs up to pair n and the trips' cells are as they were
+-- pairCells up to pair n and the trips' cells are as they were
 pub pairs-kept :
-    (w w' : List ℕ) (n i end : ℕ) (sc : Scan) → end ≤ n → PairsHeld w n i end sc → ((k : ℕ) → k < stops → getD w' k 0 ≡ getD w k 0)
-    → ((k : ℕ) → pairs ≤ k → k < pairCell (suc n) → getD w' k 0 ≡ getD w k 0) → PairsHeld w' n i end sc
+    (w w' : List ℕ) (n i end : ℕ) (sc : Scan) → end ≤ n → PairsHeld w n i end sc → ((k : ℕ) → k < stopCells → getD w' k 0 ≡ getD w k 0)
+    → ((k : ℕ) → pairCells ≤ k → k < pairCell (suc n) → getD w' k 0 ≡ getD w k 0) → PairsHeld w' n i end sc
 pairs-kept w w' n i end sc inside held ahead behind =
     record {
       weighed = λ j low high. at j (bestIn sc i j) (omega arith) (held .weighed j low high);
       last = behind (pairCell n) (omega arith) (omega arith) ∙ held .last;
       next = λ trip small.
           let old = held .next trip small in
-          let kept : getD w' (trips + trip) 0 ≡ getD w (trips + trip) 0 = ahead (trips + trip) (omega arith) in
+          let kept : getD w' (tripCells + trip) 0 ≡ getD w (tripCells + trip) 0 = ahead (tripCells + trip) (omega arith) in
           record {
             later = (let low = old .later in omega arith);
             inside = (let high = old .inside in omega arith);
             holds = subst (λ k. PairHolds w' k (nextOf (sc .weighed) trip)) (sym kept)
-                (at (getD w (trips + trip) 0) (nextOf (sc .weighed) trip) (old .inside) (old .holds));
+                (at (getD w (tripCells + trip) 0) (nextOf (sc .weighed) trip) (old .inside) (old .holds));
           };
     }
   where
@@ -210,15 +210,15 @@ pairs-kept w w' n i end sc inside held ahead behind =
     at j best h = pair-same w w' j best (behind (pairCell j) (omega arith) (omega arith)) (behind (pairCell j + 1) (omega arith) (omega arith))
 
 -- weighing stores in cells that planning uses
-entered-stays : (n i trip a b : ℕ) (w : List ℕ) → trip < 2000 → i < n → SameOutside trips (used n) w (paired (entered w trip i) i a b)
+entered-stays : (n i trip a b : ℕ) (w : List ℕ) → trip < 2000 → i < n → SameOutside tripCells (used n) w (paired (entered w trip i) i a b)
 entered-stays n i trip a b w small h =
-    outside-then (outside-set w (trips + trip) i (omega arith) (omega arith)) (outside-paired (entered w trip i) i a b (omega arith) (omega arith))
+    outside-then (outside-set w (tripCells + trip) i (omega arith) (omega arith)) (outside-paired (entered w trip i) i a b (omega arith) (omega arith))
 
 pub weighs-stays : (n : ℕ) (row : Row) (i off : ℕ) (w w' : List ℕ) → row .trip < 2000 → i < n → Weighs row i off w w'
-    → SameOutside trips (used n) w w'
+    → SameOutside tripCells (used n) w w'
 weighs-stays n row i off w w' small h (gets-off less e) =
-    subst (λ (l : List ℕ). SameOutside trips (used n) w l) (sym e) (entered-stays n i (row .trip) off i w small h)
+    subst (λ (l : List ℕ). SameOutside tripCells (used n) w l) (sym e) (entered-stays n i (row .trip) off i w small h)
 weighs-stays n row i off w w' small h (stays-on less e) =
-    subst (λ (l : List ℕ). SameOutside trips (used n) w l) (sym e)
+    subst (λ (l : List ℕ). SameOutside tripCells (used n) w l) (sym e)
     (entered-stays n i (row .trip) (getD w (nextPair w (row .trip)) 0)
     (getD (set (entered w (row .trip) i) (pairCell i) (getD w (nextPair w (row .trip)) 0)) (nextPair w (row .trip) + 1) 0) w small h)

@@ -1,4 +1,4 @@
--- Parting the stacks: the stops below `stop` have their regions. Assumes nothing.
+-- Parting the stacks: the stopCells below `stop` have their regions. Assumes nothing.
 use Prim.Native.Nat.{ℕ, _+_, _≤_, _<_}
 use mathlib.Core.List.{List}
 use mathlib.Core.Path.{_≡_, refl, sym, subst, _∙_}
@@ -8,14 +8,14 @@ use lib.ListN.{length, set, length-set}
 use lib.Seq.{getD-set-same, getD-set-other}
 use borrow.Author.Tests.{eqb-true, eqb-false}
 use Rattle.laws.proofs.Tests.{ifb}
-use Rattle.plan_cells.specs.Cells.{stops, sizes, pairs}
+use Rattle.plan_cells.specs.Cells.{stopCells, sizeCells, pairCells}
 use Rattle.plan_cells.specs.Outside.{SameOutside}
 use Rattle.plan_cells.proofs.Outside.{outside-same, outside-then, outside-set}
 use Rattle.plan_stacks.specs.Stacks.{startPair, stackSize}
 use Rattle.plan_scan.specs.Regions.{below}
 
 pub record Parting (from stop : ℕ) (w w' : List ℕ) : Type 0 where
-  pub outside : SameOutside stops pairs w w'
+  pub outside : SameOutside stopCells pairCells w w'
   pub starts : (k : ℕ) → k < stop → startPair w' k ≡ from + below (stackSize w) k
   pub empty : (k : ℕ) → k < stop → stackSize w' k ≡ 0
   pub left : (k : ℕ) → stop ≤ k → k < 200 → stackSize w' k ≡ stackSize w k
@@ -23,7 +23,7 @@ pub record Parting (from stop : ℕ) (w w' : List ℕ) : Type 0 where
 pub parting-begins : (from : ℕ) (w : List ℕ) → Parting from 0 w w
 parting-begins from w =
     record {
-      outside = outside-same stops pairs w;
+      outside = outside-same stopCells pairCells w;
       starts = λ k h. absurd (let z : ⊥ = omega arith in z);
       empty = λ k h. absurd (let z : ⊥ = omega arith in z);
       left = λ k low high. refl;
@@ -31,26 +31,26 @@ parting-begins from w =
 
 -- the next stop's start and size
 abbrev pub partedNext : (stop start : ℕ) → List ℕ → List ℕ
-partedNext stop start w = set (set w (stops + stop) start) (sizes + stop) 0
+partedNext stop start w = set (set w (stopCells + stop) start) (sizeCells + stop) 0
 
-module _ (from stop start : ℕ) (w w' : List ℕ) (room : pairs ≤ length w') (inside : stop < 200) where
+module _ (from stop start : ℕ) (w w' : List ℕ) (room : pairCells ≤ length w') (inside : stop < 200) where
   next-start : startPair (partedNext stop start w') stop ≡ start
   next-start =
-      getD-set-other (set w' (stops + stop) start) (sizes + stop) (stops + stop) 0 0 (λ e. omega arith)
-      ∙ getD-set-same w' (stops + stop) start 0 (omega arith)
+      getD-set-other (set w' (stopCells + stop) start) (sizeCells + stop) (stopCells + stop) 0 0 (λ e. omega arith)
+      ∙ getD-set-same w' (stopCells + stop) start 0 (omega arith)
 
   next-size : stackSize (partedNext stop start w') stop ≡ 0
-  next-size = getD-set-same (set w' (stops + stop) start) (sizes + stop) 0 0 (omega (arith, length-set w' (stops + stop) start))
+  next-size = getD-set-same (set w' (stopCells + stop) start) (sizeCells + stop) 0 0 (omega (arith, length-set w' (stopCells + stop) start))
 
   kept-start : (k : ℕ) → k < 200 → (k ≡ stop → ⊥) → startPair (partedNext stop start w') k ≡ startPair w' k
   kept-start k h ne =
-      getD-set-other (set w' (stops + stop) start) (sizes + stop) (stops + k) 0 0 (λ e. omega arith)
-      ∙ getD-set-other w' (stops + stop) (stops + k) start 0 (λ e. ne (omega arith))
+      getD-set-other (set w' (stopCells + stop) start) (sizeCells + stop) (stopCells + k) 0 0 (λ e. omega arith)
+      ∙ getD-set-other w' (stopCells + stop) (stopCells + k) start 0 (λ e. ne (omega arith))
 
   kept-size : (k : ℕ) → k < 200 → (k ≡ stop → ⊥) → stackSize (partedNext stop start w') k ≡ stackSize w' k
   kept-size k h ne =
-      getD-set-other (set w' (stops + stop) start) (sizes + stop) (sizes + k) 0 0 (λ e. ne (omega arith))
-      ∙ getD-set-other w' (stops + stop) (sizes + k) start 0 (λ e. omega arith)
+      getD-set-other (set w' (stopCells + stop) start) (sizeCells + stop) (sizeCells + k) 0 0 (λ e. ne (omega arith))
+      ∙ getD-set-other w' (stopCells + stop) (sizeCells + k) start 0 (λ e. omega arith)
 
   pub parting-on :
       start ≡ from + below (stackSize w) stop → Parting from stop w w' → Parting from (stop + 1) w (partedNext stop start w')
@@ -58,8 +58,8 @@ module _ (from stop start : ℕ) (w w' : List ℕ) (room : pairs ≤ length w') 
       record {
         outside =
             outside-then (p .outside)
-            (outside-then (outside-set w' (stops + stop) start (omega arith) (omega arith))
-            (outside-set (set w' (stops + stop) start) (sizes + stop) 0 (omega arith) (omega arith)));
+            (outside-then (outside-set w' (stopCells + stop) start (omega arith) (omega arith))
+            (outside-set (set w' (stopCells + stop) start) (sizeCells + stop) 0 (omega arith) (omega arith)));
         starts = λ k h. ifb (λ b. eqb k stop ≡ b → startPair (partedNext stop start w') k ≡ from + below (stackSize w) k) (eqb k stop)
             (λ e _. subst (λ j. startPair (partedNext stop start w') j ≡ from + below (stackSize w) j) (sym (eqb-true k stop e)) (next-start ∙ here))
             (λ e _. let ne : k ≡ stop → ⊥ = eqb-false k stop e in kept-start k (omega arith) ne ∙ p .starts k (omega arith)) refl;

@@ -14,10 +14,10 @@ use Rattle.plans.specs.Worth.{Valued, arrivalWorth, changeWorth}
 use Rattle.plans.specs.Chosen.{inTicks, Scan, choose, offInTicks}
 use Rattle.plan_cells.specs.Outside.{SameOutside}
 use Rattle.plan_cells.proofs.Outside.{outside-same}
-use Rattle.plan_cells.specs.Cells.{trips, stops, sizes, used, cellOf, pairCell}
+use Rattle.plan_cells.specs.Cells.{tripCells, stopCells, sizeCells, used, cellOf, pairCell}
 use Rattle.plan_stacks.specs.Stacks.{stackStart, stackSize, startPair}
 use Rattle.plan_rows.specs.declared.Sailings.{Sailings}
-use Rattle.plan_rows.specs.Reading.{rowsIn, tablesIn, Stand, TablesHeld, RowFits}
+use Rattle.plan_rows.specs.Reading.{rowsIn, tablesIn, FileReadable, TablesHeld, RowFits}
 use Rattle.plans.specs.declared.Goal.{Goal}
 use Rattle.plan_stacks.specs.Chosen.{entryOf, atStop}
 use Rattle.plan_landing.specs.Landing.{Ready, rideOff}
@@ -34,7 +34,7 @@ use Rattle.plan_scan.proofs.Choosing.{Choosable, stacks-chosen, chose-o
 use Rattle.plan_scan.proofs.TimetableTo.{bestRow, ownRide, scan-step, best-step, BoardsRow, best-boards-row, scan-ordered, climbing, chosen-fits, rising-behind, off-fits}
 
 -- a part of a scan with one row in front
-module _ (file : List ℕ) (s : Sailings) (goal : Goal) (first end : ℕ) (stand : Stand file s) (inside : end ≤ s .rows) where
+module _ (file : List ℕ) (s : Sailings) (goal : Goal) (first end : ℕ) (stand : FileReadable file s) (inside : end ≤ s .rows) where
   abbrev rows : List Row
   rows = rowsIn file s
 
@@ -120,7 +120,7 @@ module _ (file : List ℕ) (s : Sailings) (goal : Goal) (first end : ℕ) (stand
           (choose (inTicks goal) (bestRow file s goal end i) (after (suc i) .chosen)) refl
           (λ x e. off-fits file s goal end stand inside i high x e) (held .pairs-held) weighs))
 
-      same-behind : (k : ℕ) → stops ≤ k → (k ≡ pairCell i → ⊥) → (k ≡ pairCell i + 1 → ⊥) → getD w' k 0 ≡ getD w k 0
+      same-behind : (k : ℕ) → stopCells ≤ k → (k ≡ pairCell i → ⊥) → (k ≡ pairCell i + 1 → ⊥) → getD w' k 0 ≡ getD w k 0
       same-behind k =
           weighs-other w (s .rows) i end (rowAt i) (fits .trip) high inside room w' (cellOf (offInTicks goal (ownRide file s i) (after (suc i) .chosen))) k weighs
 
@@ -129,8 +129,8 @@ module _ (file : List ℕ) (s : Sailings) (goal : Goal) (first end : ℕ) (stand
           → StackHeld w' (suc (s .rows)) (slice first end rows) (slice (suc i) end rows) (after (suc i) .chosen) stop
       stacks-after stop h =
           let old = held .stacks-held stop h in
-          let start : startPair w' stop ≡ startPair w stop = same-behind (stops + stop) (omega arith) (λ e. omega arith) (λ e. omega arith) in
-          let size : stackSize w' stop ≡ stackSize w stop = same-behind (sizes + stop) (omega arith) (λ e. omega arith) (λ e. omega arith) in
+          let start : startPair w' stop ≡ startPair w stop = same-behind (stopCells + stop) (omega arith) (λ e. omega arith) (λ e. omega arith) in
+          let size : stackSize w' stop ≡ stackSize w stop = same-behind (sizeCells + stop) (omega arith) (λ e. omega arith) (λ e. omega arith) in
           let begins = old .start in
           record {
             start = start ∙ old .start;
@@ -242,11 +242,11 @@ module _ (file : List ℕ) (s : Sailings) (goal : Goal) (first end : ℕ) (stand
                   (slice first end rows) (slice (suc i) end rows) stacks suffix regions-room (own-best pairs-held) w' chose stop h));
             }
 
-        stays-inside : (w' ≡ w) ⊎ ((k : ℕ) × (k ≤ stackSize w (rowAt i .board)) × (w' ≡ stored (rowAt i) i k w)) → SameOutside trips (used (s .rows)) w w'
-        stays-inside (inl q) = subst (λ (l : List ℕ). SameOutside trips (used (s .rows)) w l) (sym q) (outside-same trips (used (s .rows)) w)
+        stays-inside : (w' ≡ w) ⊎ ((k : ℕ) × (k ≤ stackSize w (rowAt i .board)) × (w' ≡ stored (rowAt i) i k w)) → SameOutside tripCells (used (s .rows)) w w'
+        stays-inside (inl q) = subst (λ (l : List ℕ). SameOutside tripCells (used (s .rows)) w l) (sym q) (outside-same tripCells (used (s .rows)) w)
         stays-inside (inr f) =
-            subst (λ (l : List ℕ). SameOutside trips (used (s .rows)) w l) (sym (f .2))
+            subst (λ (l : List ℕ). SameOutside tripCells (used (s .rows)) w l) (sym (f .2))
             (outside-stored (rowAt i) i (f .0) w (fits .board) (region-used (f .0) (f .1)))
 
-        pub inside-chosen : SameOutside trips (used (s .rows)) w w'
+        pub inside-chosen : SameOutside tripCells (used (s .rows)) w w'
         inside-chosen = stays-inside or-stored

@@ -18,7 +18,7 @@ use Rattle.plans.proofs.BestRides.{best-boards, chosen-picked, each-best}
 use Rattle.plans.proofs.Order.{Ordered}
 use Rattle.plans.proofs.FirstLeast.{chosen-rising, chosen-ordered}
 use Rattle.plan_rows.specs.declared.Sailings.{Sailings}
-use Rattle.plan_rows.specs.Reading.{rowsIn, tablesIn, Stand, RowFits}
+use Rattle.plan_rows.specs.Reading.{rowsIn, tablesIn, FileReadable, RowFits}
 use Rattle.plans.specs.declared.Goal.{Goal}
 use Rattle.plan_stacks.specs.Chosen.{atStop, Climbing, EntryFits}
 use Rattle.plan_cells.specs.Cells.{missing}
@@ -39,7 +39,7 @@ bestRow file s goal end i = bestAt (inTicks goal) (timetableTo file s end) i
 abbrev pub ownRide : List ℕ → Sailings → ℕ → Ride
 ownRide file s i = rowRide (tablesIn file s) i (rowOf (rowsIn file s) i)
 
-module _ (file : List ℕ) (s : Sailings) (goal : Goal) (end : ℕ) (stand : Stand file s) (inside : end ≤ s .rows) where
+module _ (file : List ℕ) (s : Sailings) (goal : Goal) (end : ℕ) (stand : FileReadable file s) (inside : end ≤ s .rows) where
   to-length : length (take end (rowsIn file s)) ≡ end
   to-length = length-take-le end (rowsIn file s) (omega (arith, stand .rows-count))
 

@@ -10,11 +10,11 @@ use Rattle.timetable.specs.Timetable.{rowOf, sharesOf}
 use Rattle.timetable.specs.declared.Row.{Row}
 use Rattle.plans.specs.Worth.{Valued}
 use Rattle.plans.specs.Chosen.{offInTicks}
-use Rattle.plan_cells.specs.Cells.{trips, used, cellOf}
+use Rattle.plan_cells.specs.Cells.{tripCells, used, cellOf}
 use Rattle.plan_cells.specs.Outside.{SameOutside}
 use Rattle.plan_cells.proofs.Outside.{outside-then}
 use Rattle.plan_rows.specs.declared.Sailings.{Sailings}
-use Rattle.plan_rows.specs.Reading.{rowsIn, tablesIn, Stand, TablesHeld}
+use Rattle.plan_rows.specs.Reading.{rowsIn, tablesIn, FileReadable, TablesHeld}
 use Rattle.plans.specs.declared.Goal.{Goal}
 use Rattle.plan_landing.specs.Landing.{Ready, SomeReady, rideOff}
 use Rattle.plan_scan.specs.Stores.{Weighs, Chose, Weighable, Pushable}
@@ -30,9 +30,9 @@ pub record Weighed (file : List ℕ) (s : Sailings) (goal : Goal) (first end i :
   pub stacks-held :
       (stop : ℕ) → stop < 200
       → StackHeld w' (suc (s .rows)) (slice first end (rowsIn file s)) (slice (suc i) end (rowsIn file s)) (scanIn file s goal (suc i) end .chosen) stop
-  pub stays : SameOutside trips (used (s .rows)) w w'
+  pub stays : SameOutside tripCells (used (s .rows)) w w'
 
-module _ (file : List ℕ) (s : Sailings) (goal : Goal) (first end : ℕ) (stand : Stand file s) (inside : end ≤ s .rows) (i : ℕ) (low : first ≤ i)
+module _ (file : List ℕ) (s : Sailings) (goal : Goal) (first end : ℕ) (stand : FileReadable file s) (inside : end ≤ s .rows) (i : ℕ) (low : first ≤ i)
     (high : i < end) (w : List ℕ) (room : used (s .rows) ≤ length w) (row : Row) (is : row ≡ rowOf (rowsIn file s) i) where
   module _ (held : Held file s goal first end (suc i) w) where
     pub turn-weighable : Weighable row i w
@@ -97,7 +97,7 @@ module _ (file : List ℕ) (s : Sailings) (goal : Goal) (first end : ℕ) (stand
         turn-chosen =
             held-chosen file s goal first end stand inside i low high w' room' row-away (weighed .stacks-held) w'' as-row (weighed .pairs-held)
 
-        pub turn-stays : SameOutside trips (used (s .rows)) w w''
+        pub turn-stays : SameOutside tripCells (used (s .rows)) w w''
         turn-stays =
             outside-then (weighed .stays)
             (inside-chosen file s goal first end stand inside i low high w' room' row-away (weighed .stacks-held) w'' as-row)

@@ -6,9 +6,10 @@ use mathlib.Core.Path.{_≡_}
 use lib.ListN.{getD}
 use lib.Seq.{slice}
 use Rattle.timetable.specs.declared.Row.{Row}
+use Rattle.timetable.specs.Limits.{mostStops, mostTrips}
 use Rattle.plans.specs.Worth.{Valued}
 use Rattle.plans.specs.Chosen.{Scan, nextOf}
-use Rattle.plan_cells.specs.Cells.{trips, missing}
+use Rattle.plan_cells.specs.Cells.{tripCells, missing}
 use Rattle.plan_rows.specs.declared.Sailings.{Sailings}
 use Rattle.plan_rows.specs.Reading.{rowsIn}
 use Rattle.plans.specs.declared.Goal.{Goal}
@@ -20,15 +21,15 @@ use Rattle.plan_scan.specs.Regions.{countAt, below}
 
 -- a trip's cell names its next row, n for none, whose pair holds its best ride
 pub record NextHolds (w : List ℕ) (n i trip : ℕ) (best : Option Valued) : Type 0 where
-  pub later : i ≤ getD w (trips + trip) 0
-  pub inside : getD w (trips + trip) 0 ≤ n
-  pub holds : PairHolds w (getD w (trips + trip) 0) best
+  pub later : i ≤ getD w (tripCells + trip) 0
+  pub inside : getD w (tripCells + trip) 0 ≤ n
+  pub holds : PairHolds w (getD w (tripCells + trip) 0) best
 
 -- worths, leaving rows and next rows
 pub record PairsHeld (w : List ℕ) (n i end : ℕ) (sc : Scan) : Type 0 where
   pub weighed : (j : ℕ) → i ≤ j → j < end → PairHolds w j (bestIn sc i j)
   pub last : rowWorth w n ≡ missing
-  pub next : (trip : ℕ) → trip < 2000 → NextHolds w n i trip (nextOf (sc .weighed) trip)
+  pub next : (trip : ℕ) → trip < mostTrips → NextHolds w n i trip (nextOf (sc .weighed) trip)
 
 -- a stop's stack: its region begins behind those of the stops below, and has room for the rows to come; `all` are the scan's rows, `rest`
 -- those that have been weighed
@@ -40,5 +41,5 @@ pub record StackHeld (w : List ℕ) (from : ℕ) (all rest : List Row) (chosen :
 pub record Held (file : List ℕ) (s : Sailings) (goal : Goal) (first end i : ℕ) (w : List ℕ) : Type 0 where
   pub pairs-held : PairsHeld w (s .rows) i end (scanIn file s goal i end)
   pub stacks-held :
-      (stop : ℕ) → stop < 200
+      (stop : ℕ) → stop < mostStops
       → StackHeld w (suc (s .rows)) (slice first end (rowsIn file s)) (slice i end (rowsIn file s)) (scanIn file s goal i end .chosen) stop

@@ -5,7 +5,8 @@ use mathlib.Core.List.{List, [], _∷_}
 use mathlib.Core.Path.{_≡_}
 use lib.Dec.{eqb}
 use Rattle.timetable.specs.declared.Row.{Row}
-use Rattle.plan_cells.specs.Cells.{stops, pairs}
+use Rattle.timetable.specs.Limits.{mostStops}
+use Rattle.plan_cells.specs.Cells.{stopCells, pairCells}
 use Rattle.plan_cells.specs.Outside.{SameOutside}
 use Rattle.plan_stacks.specs.Stacks.{startPair, stackSize}
 
@@ -14,18 +15,18 @@ unfoldable pub countAt : ℕ → List Row → ℕ
 countAt stop [] = 0
 countAt stop (r ∷ rows) = let further = countAt stop rows in cond (eqb (r .board) stop) (suc further) further
 
--- the sum over the stops below one
+-- the sum over the stopCells below one
 unfoldable pub below : (ℕ → ℕ) → ℕ → ℕ
 below f zero = 0
 below f (suc stop) = below f stop + f stop
 
 -- the sizes count the rows
 pub record Counted (rows : List Row) (w w' : List ℕ) : Type 0 where
-  pub outside : SameOutside stops pairs w w'
-  pub counts : (stop : ℕ) → stop < 200 → stackSize w' stop ≡ countAt stop rows
+  pub outside : SameOutside stopCells pairCells w w'
+  pub counts : (stop : ℕ) → stop < mostStops → stackSize w' stop ≡ countAt stop rows
 
--- a region of pairs for each stop, as large as its size was; the stacks are empty
+-- a region of pairCells for each stop, as large as its size was; the stacks are empty
 pub record Parted (from : ℕ) (w w' : List ℕ) : Type 0 where
-  pub outside : SameOutside stops pairs w w'
-  pub starts : (stop : ℕ) → stop < 200 → startPair w' stop ≡ from + below (stackSize w) stop
-  pub empty : (stop : ℕ) → stop < 200 → stackSize w' stop ≡ 0
+  pub outside : SameOutside stopCells pairCells w w'
+  pub starts : (stop : ℕ) → stop < mostStops → startPair w' stop ≡ from + below (stackSize w) stop
+  pub empty : (stop : ℕ) → stop < mostStops → stackSize w' stop ≡ 0

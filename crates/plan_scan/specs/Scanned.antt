@@ -5,9 +5,10 @@ use mathlib.Core.Option.{Option, none, some}
 use mathlib.Core.Path.{_≡_}
 use lib.ListN.{getD}
 use lib.Seq.{slice}
+use Rattle.timetable.specs.Limits.{mostStops}
 use Rattle.plans.specs.Worth.{Valued}
 use Rattle.plans.specs.Chosen.{inTicks, Scan, scan}
-use Rattle.plan_cells.specs.Cells.{pairs, used, missing}
+use Rattle.plan_cells.specs.Cells.{pairCells, used, missing}
 use Rattle.plan_stacks.specs.Stacks.{stackStart, stackSize}
 use Rattle.plan_rows.specs.declared.Sailings.{Sailings}
 use Rattle.plan_rows.specs.Reading.{rowsIn, tablesIn}
@@ -25,15 +26,15 @@ bestIn sc first i = getD (sc .weighed) (i - first) (record { trip = 0; best = no
 
 -- a row's pair of cells: its worth and its leaving row
 abbrev pub PairHolds : List ℕ → ℕ → Option Valued → Type 0
-PairHolds work i none = getD work (pairs + 2 * i) 0 ≡ missing
+PairHolds work i none = getD work (pairCells + 2 * i) 0 ≡ missing
 PairHolds work i (some v) =
-    (getD work (pairs + 2 * i) 0 ≡ v .worth) × (getD work (pairs + 2 * i + 1) 0 ≡ v .ride .leave) × (v .worth < missing)
+    (getD work (pairCells + 2 * i) 0 ≡ v .worth) × (getD work (pairCells + 2 * i + 1) 0 ≡ v .ride .leave) × (v .worth < missing)
 
 -- the cells after the scan of the rows from `first` to before `end`, of n rows in all
 pub record ScanHeld (work : List ℕ) (n first end : ℕ) (sc : Scan) : Type 0 where
   pub pair-holds : (i : ℕ) → first ≤ i → i < end → PairHolds work i (bestIn sc first i)
-  pub stack-holds : (stop : ℕ) → stop < 200 → StackHolds work stop (sc .chosen)
-  pub climbing : (stop : ℕ) → stop < 200 → Climbing stop (sc .chosen)
-  -- each stack stands behind the rows' pairs, within the cells that planning uses
-  pub stack-behind : (stop : ℕ) → stop < 200 → pairs + 2 * suc n ≤ stackStart work stop
-  pub stack-inside : (stop : ℕ) → stop < 200 → stackStart work stop + 2 * stackSize work stop ≤ used n
+  pub stack-holds : (stop : ℕ) → stop < mostStops → StackHolds work stop (sc .chosen)
+  pub climbing : (stop : ℕ) → stop < mostStops → Climbing stop (sc .chosen)
+  -- each stack stands behind the rows' pairCells, within the cells that planning uses
+  pub stack-behind : (stop : ℕ) → stop < mostStops → pairCells + 2 * suc n ≤ stackStart work stop
+  pub stack-inside : (stop : ℕ) → stop < mostStops → stackStart work stop + 2 * stackSize work stop ≤ used n

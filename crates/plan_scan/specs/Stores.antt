@@ -4,16 +4,17 @@ use mathlib.Core.List.{List}
 use mathlib.Core.Path.{_≡_}
 use lib.ListN.{length, getD, set}
 use Rattle.timetable.specs.declared.Row.{Row}
-use Rattle.plan_cells.specs.Cells.{trips, sizes, missing, pairCell, paired}
+use Rattle.timetable.specs.Limits.{mostStops, mostTrips}
+use Rattle.plan_cells.specs.Cells.{tripCells, sizeCells, missing, pairCell, paired}
 use Rattle.plan_stacks.specs.Stacks.{keyStep, keyOf, startPair, stackSize}
 
 -- the pair of the trip's next row
 abbrev pub nextPair : List ℕ → ℕ → ℕ
-nextPair w trip = pairCell (getD w (trips + trip) 0)
+nextPair w trip = pairCell (getD w (tripCells + trip) 0)
 
 -- row i becomes its trip's next row
 abbrev pub entered : List ℕ → (trip i : ℕ) → List ℕ
-entered w trip i = set w (trips + trip) i
+entered w trip i = set w (tripCells + trip) i
 
 -- a row's worth is the least over getting off and staying on
 pub data Weighs (row : Row) (i off : ℕ) (w w' : List ℕ) : Type 0 where
@@ -35,7 +36,7 @@ pushed row i k w = paired w (startPair w (row .board) + k) (keyOf (row .departur
 
 -- the stack has `size` entries
 abbrev pub sized : Row → ℕ → List ℕ → List ℕ
-sized row size w = set w (sizes + row .board) size
+sized row size w = set w (sizeCells + row .board) size
 
 -- a row with a worth below that of its stop's first chosen row goes on the stack; in the same minute it replaces that row
 pub data Chose (row : Row) (i : ℕ) (w w' : List ℕ) : Type 0 where
@@ -57,13 +58,13 @@ pub data Chose (row : Row) (i : ℕ) (w w' : List ℕ) : Type 0 where
 
 -- the cells that weighing and choosing a row touch are lent
 pub record Weighable (row : Row) (i : ℕ) (w : List ℕ) : Type 0 where
-  pub trip : row .trip < 2000
+  pub trip : row .trip < mostTrips
   pub number : i < 4294967296
   pub own : pairCell i + 1 < length w
   pub next : nextPair w (row .trip) + 1 < length w
 
 pub record Pushable (row : Row) (i : ℕ) (w : List ℕ) : Type 0 where
-  pub board : row .board < 200
+  pub board : row .board < mostStops
   pub own : pairCell i < length w
   pub key : keyOf (row .departure) i < 4294967296
   pub few : stackSize w (row .board) < 4294967295

@@ -3,10 +3,11 @@ ghost use mathlib.Core.Path.{_≡_};
 ghost use Prim.Native.Nat.{ℕ, _+_, _≤_, _<_};
 ghost use lib.ListN.{length};
 ghost use lib.Seq.{slice};
-ghost use Rattle.plan_cells.specs.Cells.{trips, pairs, used};
+ghost use Rattle.timetable.specs.Limits.{mostStops};
+ghost use Rattle.plan_cells.specs.Cells.{tripCells, pairCells, used};
 ghost use Rattle.plan_stacks.specs.Stacks.{stackSize};
 ghost use Rattle.plan_cells.specs.Outside.{SameOutside};
-ghost use Rattle.plan_rows.specs.Reading.{rowsIn, tablesIn, Stand, TablesHeld};
+ghost use Rattle.plan_rows.specs.Reading.{rowsIn, tablesIn, FileReadable, TablesHeld};
 ghost use Rattle.plan_scan.specs.Held.{Held};
 ghost use Rattle.plan_scan.specs.Regions.{below, Counted, Parted};
 ghost use Rattle.plan_scan.specs.Scanned.{scanIn, ScanHeld};
@@ -16,10 +17,10 @@ use numbers::number;
 use plan_cells::MOST_STOPS;
 use plan_cells::MOST_TRIPS;
 use plan_cells::NONE;
-use plan_cells::PAIRS;
-use plan_cells::SIZES;
-use plan_cells::STOPS;
-use plan_cells::TRIPS;
+use plan_cells::PAIR_CELLS;
+use plan_cells::SIZE_CELLS;
+use plan_cells::STOP_CELLS;
+use plan_cells::TRIP_CELLS;
 use plan_cells::fill;
 use plan_landing::getting_off;
 use plan_rows::Sailings;
@@ -39,14 +40,14 @@ pub fn scan_back(
     end: usize,
     work: &mut [u32],
 )
-    requires { ⌜ Stand (now file) s × TablesHeld (now tables) (tablesIn (now file) s) × (first ≤ end) × (end ≤ s .rows)
+    requires { ⌜ FileReadable (now file) s × TablesHeld (now tables) (tablesIn (now file) s) × (first ≤ end) × (end ≤ s .rows)
         × (used (s .rows) ≤ length (now work)) ⌝ }
     ensures { λ r. ⌜ ScanHeld (now (work .exit)) (s .rows) first end (scanIn (now (file .entry)) s goal first end)
-        × SameOutside trips (used (s .rows)) (now (work .entry)) (now (work .exit)) ⌝ }
+        × SameOutside tripCells (used (s .rows)) (now (work .entry)) (now (work .exit)) ⌝ }
 {
-    let none = PAIRS + 2 * s.rows;
-    fill(work, TRIPS, MOST_TRIPS, cell(s.rows));
-    fill(work, SIZES, MOST_STOPS, 0);
+    let none = PAIR_CELLS + 2 * s.rows;
+    fill(work, TRIP_CELLS, MOST_TRIPS, cell(s.rows));
+    fill(work, SIZE_CELLS, MOST_STOPS, 0);
     count_boardings(file, s, first, end, work);
     part_stacks(s.rows + 1, work);
     work[none] = NONE;
@@ -55,30 +56,30 @@ pub fn scan_back(
 
 // How many rows board at each stop.
 fn count_boardings(file: &[u8], s: Sailings, first: usize, end: usize, work: &mut [u32])
-    requires { ⌜ Stand (now file) s × (first ≤ end) × (end ≤ s .rows) × (pairs ≤ length (now work))
-        × ((stop : ℕ) → stop < 200 → stackSize (now work) stop ≡ 0) ⌝ }
+    requires { ⌜ FileReadable (now file) s × (first ≤ end) × (end ≤ s .rows) × (pairCells ≤ length (now work))
+        × ((stop : ℕ) → stop < mostStops → stackSize (now work) stop ≡ 0) ⌝ }
     ensures { λ r. ⌜ Counted (slice first end (rowsIn (now (file .entry)) s)) (now (work .entry)) (now (work .exit)) ⌝ }
 {
     let mut i = first;
     while i < end {
         let row = nth_row(file, s, i);
-        let size = SIZES + row.board;
+        let size = SIZE_CELLS + row.board;
         work[size] += 1;
         i += 1;
     }
 }
 
-// A region of pairs for each stop, one behind the other from pair `from` on; the stacks are empty.
+// A region of pairCells for each stop, one behind the other from pair `from` on; the stacks are empty.
 fn part_stacks(from: usize, work: &mut [u32])
-    requires { ⌜ (pairs ≤ length (now work)) × (from + below (stackSize (now work)) 200 < 4294967296) ⌝ }
+    requires { ⌜ (pairCells ≤ length (now work)) × (from + below (stackSize (now work)) mostStops < 4294967296) ⌝ }
     ensures { λ r. ⌜ Parted from (now (work .entry)) (now (work .exit)) ⌝ }
 {
     let mut stop = 0;
     let mut start = cell(from);
     while stop < MOST_STOPS {
-        work[STOPS + stop] = start;
-        start += work[SIZES + stop];
-        work[SIZES + stop] = 0;
+        work[STOP_CELLS + stop] = start;
+        start += work[SIZE_CELLS + stop];
+        work[SIZE_CELLS + stop] = 0;
         stop += 1;
     }
 }
@@ -93,10 +94,10 @@ fn weigh_rows(
     end: usize,
     work: &mut [u32],
 )
-    requires { ⌜ Stand (now file) s × TablesHeld (now tables) (tablesIn (now file) s) × (first ≤ end) × (end ≤ s .rows)
+    requires { ⌜ FileReadable (now file) s × TablesHeld (now tables) (tablesIn (now file) s) × (first ≤ end) × (end ≤ s .rows)
         × (used (s .rows) ≤ length (now work)) × Held (now file) s goal first end end (now work) ⌝ }
     ensures { λ r. ⌜ Held (now (file .entry)) s goal first end first (now (work .exit))
-        × SameOutside trips (used (s .rows)) (now (work .entry)) (now (work .exit)) ⌝ }
+        × SameOutside tripCells (used (s .rows)) (now (work .entry)) (now (work .exit)) ⌝ }
 {
     let mut i = end;
     while first < i {
@@ -115,9 +116,9 @@ fn weigh_row(row: Row, i: usize, off: u32, work: &mut [u32])
     requires { ⌜ Weighable row i (now work) ⌝ }
     ensures { λ r. ⌜ Weighs row i off (now (work .entry)) (now (work .exit)) ⌝ }
 {
-    let trip = TRIPS + row.trip;
-    let pair = PAIRS + 2 * i;
-    let next = PAIRS + 2 * number(work[trip]);
+    let trip = TRIP_CELLS + row.trip;
+    let pair = PAIR_CELLS + 2 * i;
+    let next = PAIR_CELLS + 2 * number(work[trip]);
     let on = work[next];
     work[trip] = cell(i);
     if off < on {
@@ -136,25 +137,25 @@ fn choose(row: Row, i: usize, work: &mut [u32])
     ensures { λ r. ⌜ Chose row i (now (work .entry)) (now (work .exit)) ⌝ }
 {
     let board = row.board;
-    let worth = work[PAIRS + 2 * i];
-    let size = number(work[SIZES + board]);
-    let start = number(work[STOPS + board]);
+    let worth = work[PAIR_CELLS + 2 * i];
+    let size = number(work[SIZE_CELLS + board]);
+    let start = number(work[STOP_CELLS + board]);
     if worth == NONE {
         return;
     }
     if size == 0 {
         push(work, start, row.departure, i, worth);
-        work[SIZES + board] = 1;
+        work[SIZE_CELLS + board] = 1;
         return;
     }
     let top = start + size - 1;
-    if work[PAIRS + 2 * top + 1] <= worth {
+    if work[PAIR_CELLS + 2 * top + 1] <= worth {
         return;
     }
-    if departure_of(work[PAIRS + 2 * top]) == row.departure {
+    if departure_of(work[PAIR_CELLS + 2 * top]) == row.departure {
         push(work, top, row.departure, i, worth);
     } else {
         push(work, top + 1, row.departure, i, worth);
-        work[SIZES + board] = cell(size + 1);
+        work[SIZE_CELLS + board] = cell(size + 1);
     }
 }

@@ -2,22 +2,23 @@
 ghost use mathlib.Core.Path.{_≡_};
 ghost use Prim.Native.Nat.{suc, _+_, _<_};
 ghost use lib.ListN.{length};
+ghost use Rattle.timetable.specs.Limits.{mostClasses};
 ghost use Rattle.file_layout.specs.Decode.{sharesFrom, tableAt, blockEnd};
 ghost use Rattle.plans.specs.Worth.{weigh};
 ghost use Rattle.plan_cells.specs.Outside.{SameOutside};
-ghost use Rattle.plan_rows.specs.Reading.{tablesIn, blockCell, BlocksStand, BlockHeld, TablesHeld};
+ghost use Rattle.plan_rows.specs.Reading.{tablesIn, tableCells, blockCell, BlocksStand, BlockHeld, TablesHeld};
 ghost use Rattle.plan_shares.specs.Summed.{BlockStands, SharesStand, Summed};
 use numbers::cell;
 use numbers::u16_at;
 use plan_rows::BLOCK;
 use plan_rows::EXPECTED;
-use plan_rows::LONGEST;
+use plan_rows::MAX_DELAY;
 use plan_rows::SHARES;
 use plan_rows::Sailings;
 
 // Each class's block of cells, from its class block in the file.
 pub fn read_tables(file: &[u8], s: Sailings, tables: &mut [u32])
-    requires { ⌜ BlocksStand (now file) s × (length (now tables) ≡ 4096) ⌝ }
+    requires { ⌜ BlocksStand (now file) s × (length (now tables) ≡ tableCells) ⌝ }
     ensures { λ r. ⌜ TablesHeld (now (tables .exit)) (tablesIn (now (file .entry)) s) ⌝ }
 {
     let mut k = 0;
@@ -30,14 +31,14 @@ pub fn read_tables(file: &[u8], s: Sailings, tables: &mut [u32])
 
 // One class block at byte `at`, into the cells of class `k`; the byte where it ends.
 fn read_table(file: &[u8], at: usize, k: usize, tables: &mut [u32]) -> usize
-    requires { ⌜ BlockStands (now file) at × (k < 16) × (length (now tables) ≡ 4096) ⌝ }
+    requires { ⌜ BlockStands (now file) at × (k < mostClasses) × (length (now tables) ≡ tableCells) ⌝ }
     ensures { λ r. ⌜ (r ≡ blockEnd (now (file .entry)) at) × BlockHeld (now (tables .exit)) k (tableAt (now (file .entry)) at)
         × SameOutside (blockCell k) (blockCell (suc k)) (now (tables .entry)) (now (tables .exit)) ⌝ }
 {
     let longest = u16_at(file, at);
     let into = BLOCK * k;
     let late = read_shares(file, at + 2, longest, into + SHARES, tables);
-    tables[into + LONGEST] = cell(longest);
+    tables[into + MAX_DELAY] = cell(longest);
     tables[into + EXPECTED] = cell((late + 15) / 16);
     at + 4 + 2 * longest
 }

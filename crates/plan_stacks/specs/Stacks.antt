@@ -3,7 +3,7 @@ use Prim.Native.Nat.{ℕ, zero, suc, _+_, _*_, _/_, _%_, _≤_, _<_}
 use mathlib.Core.List.{List, [], _∷_}
 use mathlib.Core.Path.{_≡_}
 use lib.ListN.{length, getD}
-use Rattle.plan_cells.specs.Cells.{stops, sizes, pairCell}
+use Rattle.plan_cells.specs.Cells.{stopCells, sizeCells, pairCell}
 
 -- an entry of a stack: 2,048 × departure + row, then the row's worth
 pub record Entry : Type 0 where
@@ -26,13 +26,13 @@ stackAt work at (suc size) = entryAt work (at + 2 * size) ∷ stackAt work at si
 
 -- where a stop's stack starts, as a pair and as a cell, and its entries
 abbrev pub startPair : List ℕ → ℕ → ℕ
-startPair work stop = getD work (stops + stop) 0
+startPair work stop = getD work (stopCells + stop) 0
 
 abbrev pub stackStart : List ℕ → ℕ → ℕ
 stackStart work stop = pairCell (startPair work stop)
 
 abbrev pub stackSize : List ℕ → ℕ → ℕ
-stackSize work stop = getD work (sizes + stop) 0
+stackSize work stop = getD work (sizeCells + stop) 0
 
 abbrev pub stackOf : List ℕ → ℕ → List Entry
 stackOf work stop = stackAt work (stackStart work stop) (stackSize work stop)

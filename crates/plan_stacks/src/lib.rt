@@ -2,15 +2,16 @@
 ghost use mathlib.Core.Path.{_≡_};
 ghost use Prim.Native.Nat.{_+_, _-_, _*_, _/_, _%_, _≤_, _<_};
 ghost use lib.ListN.{length, getD};
-ghost use Rattle.plan_cells.specs.Cells.{pairs, pairCell, paired};
+ghost use Rattle.timetable.specs.Limits.{mostStops};
+ghost use Rattle.plan_cells.specs.Cells.{pairCells, pairCell, paired};
 ghost use Rattle.plan_stacks.specs.Stacks.{keyStep, keyOf, stackStart, stackSize, entryRow, entryWorth, Falling, FirstOpenAt};
 ghost use Rattle.plan_stacks.specs.Search.{look, Narrowed, Searched};
 use numbers::cell;
 use numbers::number;
-use plan_cells::PAIRS;
-use plan_cells::SIZES;
-use plan_cells::STOPS;
-use plan_rows::opens;
+use plan_cells::PAIR_CELLS;
+use plan_cells::SIZE_CELLS;
+use plan_cells::STOP_CELLS;
+use plan_rows::can_board;
 
 // An entry's first cell, its key, holds 2,048 x departure + row.
 const KEY: usize = 2048;
@@ -28,11 +29,11 @@ pub struct TopEntry {
 }
 
 pub fn stack_of(work: &[u32], stop: usize) -> Stack
-    requires { ⌜ (stop < 200) × (pairs ≤ length (now work)) ⌝ }
+    requires { ⌜ (stop < mostStops) × (pairCells ≤ length (now work)) ⌝ }
     ensures { λ r. ⌜ (r .start ≡ stackStart (now (work .entry)) stop) × (r .size ≡ stackSize (now (work .entry)) stop) ⌝ }
 {
-    let size = number(work[SIZES + stop]);
-    let start = PAIRS + 2 * number(work[STOPS + stop]);
+    let size = number(work[SIZE_CELLS + stop]);
+    let start = PAIR_CELLS + 2 * number(work[STOP_CELLS + stop]);
     Stack { start, size }
 }
 
@@ -68,7 +69,7 @@ pub fn push(work: &mut [u32], pair: usize, departure: usize, row: usize, worth: 
     requires { ⌜ (keyOf departure row < 4294967296) × (pairCell pair + 1 < length (now work)) ⌝ }
     ensures { λ r. ⌜ now (work .exit) ≡ paired (now (work .entry)) pair (keyOf departure row) worth ⌝ }
 {
-    let at = PAIRS + 2 * pair;
+    let at = PAIR_CELLS + 2 * pair;
     work[at] = cell(KEY * departure + row);
     work[at + 1] = worth;
 }
@@ -147,5 +148,5 @@ fn open_at(work: &[u32], at: usize, minute: usize) -> usize
     requires { ⌜ (at < length (now work)) × (minute < 4294967296) ⌝ }
     ensures { λ r. ⌜ r ≡ look minute (getD (now (work .entry)) at 0 / keyStep) ⌝ }
 {
-    opens(number(work[at]), KEY * minute) as usize
+    can_board(number(work[at]), KEY * minute) as usize
 }

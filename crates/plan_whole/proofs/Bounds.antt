@@ -17,10 +17,10 @@ use Rattle.plans.specs.Journeys.{Onward, leaves, changes, boundOf}
 use Rattle.plans.specs.Plan.{earliest}
 use Rattle.plans.proofs.EarliestSafe.{earliest-is-least, journey-after}
 use Rattle.plan_rows.specs.declared.Sailings.{Sailings}
-use Rattle.plan_rows.specs.Reading.{timetableIn, Stand}
+use Rattle.plan_rows.specs.Reading.{timetableIn, FileReadable}
 use Rattle.plan_whole.specs.Steps.{Reaches}
 
-module _ (file : List ℕ) (s : Sailings) (stand : Stand file s) where
+module _ (file : List ℕ) (s : Sailings) (stand : FileReadable file s) where
   ride-lands : (r : Ride) → IsRide (timetableIn file s) r → latest r < 65536
   ride-lands r is =
       let inside : r .leave < s .rows = omega (arith, is .inside, stand .rows-count) in

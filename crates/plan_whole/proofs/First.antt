@@ -22,12 +22,13 @@ use Rattle.plans.proofs.BestRides.{best-boards, chosen-picked}
 use Rattle.plan_stacks.specs.Stacks.{keyOf, entryRow, entryWorth, Entry, entryAt, stackStart, stackSize}
 use Rattle.plan_rows.specs.declared.Sailings.{Sailings}
 use Rattle.plan_rows.specs.Reading.{timetableIn}
-use Rattle.plan_rows.proofs.Cuts.{Idle, scanPart, part-chosen, part-first, part-rides}
+use Rattle.plan_rows.specs.Idle.{Idle}
+use Rattle.plan_rows.proofs.Cuts.{scanPart, part-chosen, part-first, part-rides}
 use Rattle.plan_stacks.specs.Chosen.{atStop, entryOf, EntryFits}
 use Rattle.plan_stacks.proofs.AtStop.{first-open-at-stop, first-open-at, first-open-none, at-stop-from, at-stop-member}
 use Rattle.plan_stacks.proofs.Entries.{stack-size, entry-at}
 use Rattle.plan_scan.specs.Scanned.{ScanHeld}
-use Rattle.plan_whole.specs.Steps.{Laid, planIn}
+use Rattle.plan_whole.specs.Steps.{PlanningInput, planIn}
 
 -- chosen rides are no more than the rows
 others-few : (r : Ride) (vs : List Valued) → length (others r vs) ≤ length vs
@@ -73,7 +74,7 @@ module _
     (tables : List ℕ)
     (q : Query)
     (first : ℕ)
-    (laid : Laid file s tables q first)
+    (laid : PlanningInput file s tables q first)
     (bound end : ℕ)
     (ordered : first ≤ end)
     (inside : end ≤ s .rows)

@@ -12,25 +12,25 @@ use Rattle.plans.specs.Sound.{Timely}
 use Rattle.plans.specs.Journeys.{boundOf}
 use Rattle.plans.specs.Plan.{planned, planBefore, earliest}
 use Rattle.plan_rows.specs.declared.Sailings.{Sailings}
-use Rattle.plan_rows.specs.Reading.{rowsIn, tablesIn, timetableIn, Stand, BlocksStand, Cut, TablesHeld}
+use Rattle.plan_rows.specs.Reading.{rowsIn, tablesIn, timetableIn, FileReadable, BlocksStand, Cut, TablesHeld}
 use Rattle.plan_rows.specs.Sections.{sailingsOf}
 use Rattle.plan_rows.proofs.Standing.{stands, blocks-stand, timely, same-earliest, same-plan}
 use Rattle.plan_whole.proofs.Bounds.{earliest-fits}
-use Rattle.plan_whole.specs.Steps.{Asked, Laid, planIn}
+use Rattle.plan_whole.specs.Steps.{CallFits, PlanningInput, planIn}
 
-module _ (f : Format) (file : List ℕ) (trailer : Trailer) (q : Query) (asked : Asked f file trailer q)
+module _ (f : Format) (file : List ℕ) (trailer : Trailer) (q : Query) (asked : CallFits f file trailer q)
     (s : Sailings) (from-trailer : s ≡ sailingsOf f trailer) where
   where-they-stand : s ≡ sailingsOf f (trailerOf f file)
   where-they-stand = from-trailer ∙ ap (sailingsOf f) (asked .read)
 
-  pub rows-stand : Stand file s
-  rows-stand = subst (Stand file) (sym where-they-stand) (stands f (asked .plannable) file (asked .sound))
+  pub rows-stand : FileReadable file s
+  rows-stand = subst (FileReadable file) (sym where-they-stand) (stands f (asked .plannable) file (asked .sound))
 
   pub tables-stand : BlocksStand file s
   tables-stand = subst (BlocksStand file) (sym where-they-stand) (blocks-stand f (asked .plannable) file (asked .sound))
 
   pub lays : (tables : List ℕ) (first : ℕ) → TablesHeld tables (tablesIn file s) → Cut (rowsIn file s) (q .minute) first
-      → Laid file s tables q first
+      → PlanningInput file s tables q first
   lays tables first held cut =
       record {
         stand = rows-stand;

@@ -14,9 +14,10 @@ use Rattle.plans.specs.Sound.{Timely}
 use Rattle.plans.specs.Chosen.{inTicks}
 use Rattle.plan_rows.specs.declared.Sailings.{Sailings}
 use Rattle.plan_rows.specs.Reading.{rowsIn, timetableIn, Cut}
-use Rattle.plan_rows.proofs.Cuts.{Idle, idle-end, bound-idle}
+use Rattle.plan_rows.specs.Idle.{Idle}
+use Rattle.plan_rows.proofs.Cuts.{idle-end, bound-idle}
 use Rattle.plans.specs.declared.Goal.{Goal}
-use Rattle.plan_whole.specs.Steps.{Laid, Reaches, RowsWithin, Part}
+use Rattle.plan_whole.specs.Steps.{PlanningInput, Reaches, RowsWithin, RowsInReach}
 
 -- rows that depart before an earlier minute stand ahead of those that do not before a later one
 cuts-in-order : (rows : List Row) (minute bound first end : ℕ) → Cut rows minute first → Cut rows bound end → minute ≤ bound → first ≤ end
@@ -46,9 +47,9 @@ within-inside rows bound end within =
     ifb (λ _. end ≤ length rows) (eqb bound 0) (λ e. omega (arith, within .all (eqb-true bound 0 e)))
     (λ e. within .before (eqb-false bound 0 e) .inside)
 
-pub is-part : (file : List ℕ) (s : Sailings) (tables : List ℕ) (q : Query) (goal : Goal) (first end : ℕ) → Laid file s tables q first
+pub is-part : (file : List ℕ) (s : Sailings) (tables : List ℕ) (q : Query) (goal : Goal) (first end : ℕ) → PlanningInput file s tables q first
     → goal .target ≡ q .target → goal .bound < 4294967296 → Reaches (q .minute) (goal .bound) → RowsWithin (rowsIn file s) (goal .bound) end
-    → Part file s q goal first end
+    → RowsInReach file s q goal first end
 is-part file s tables q goal first end laid target fits reaches within =
     record {
       target = target;

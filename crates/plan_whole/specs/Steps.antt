@@ -6,6 +6,7 @@ use mathlib.Core.Option.{Option}
 use mathlib.Core.Path.{_≡_}
 use lib.ListN.{length}
 use Rattle.timetable.specs.declared.Row.{Row}
+use Rattle.timetable.specs.Limits.{mostStops}
 use Rattle.file_layout.specs.declared.Format.{Format}
 use Rattle.file_layout.specs.declared.Trailer.{Trailer}
 use Rattle.file_layout.specs.Decode.{trailerOf}
@@ -17,31 +18,31 @@ use Rattle.plans.specs.Worth.{firstOpen}
 use Rattle.plans.specs.Chosen.{inTicks}
 use Rattle.plans.specs.Plan.{Plan, chosenFor, planWithin}
 use Rattle.plan_cells.specs.Outside.{SameOutside}
-use Rattle.plan_cells.specs.Cells.{trips}
+use Rattle.plan_cells.specs.Cells.{tripCells}
 use Rattle.plan_rows.specs.declared.Sailings.{Sailings}
-use Rattle.plan_rows.specs.Reading.{rowsIn, tablesIn, timetableIn, Stand, Cut, TablesHeld}
+use Rattle.plan_rows.specs.Reading.{rowsIn, tablesIn, timetableIn, FileReadable, Cut, TablesHeld}
 use Rattle.plan_rows.specs.Sections.{Plannable}
-use Rattle.plan_rows.proofs.Cuts.{Idle}
+use Rattle.plan_rows.specs.Idle.{Idle}
 use Rattle.plans.specs.declared.Goal.{Goal}
 
 -- a sound file with its trailer, and a query of its stops and minutes
-pub record Asked (f : Format) (file : List ℕ) (trailer : Trailer) (q : Query) : Type 0 where
+pub record CallFits (f : Format) (file : List ℕ) (trailer : Trailer) (q : Query) : Type 0 where
   pub plannable : Plannable f
   pub sound : SoundFile f file
   pub read : trailer ≡ trailerOf f file
-  pub source : q .source < 200
-  pub target : q .target < 200
+  pub source : q .source < mostStops
+  pub target : q .target < mostStops
   pub apart : q .source ≢ q .target
   pub minute : q .minute ≤ f .lastminute
   pub code : q .code ≤ 16
 
 -- a sound file's rows, its tables as lent cells, and the first row at or after T
-pub record Laid (file : List ℕ) (s : Sailings) (tables : List ℕ) (q : Query) (first : ℕ) : Type 0 where
-  pub stand : Stand file s
+pub record PlanningInput (file : List ℕ) (s : Sailings) (tables : List ℕ) (q : Query) (first : ℕ) : Type 0 where
+  pub stand : FileReadable file s
   pub held : TablesHeld tables (tablesIn file s)
   pub timely : Timely (timetableIn file s)
-  pub source : q .source < 200
-  pub target : q .target < 200
+  pub source : q .source < mostStops
+  pub target : q .target < mostStops
   pub apart : q .source ≢ q .target
   pub minute : q .minute < 65536
   pub cut : Cut (rowsIn file s) (q .minute) first
@@ -56,7 +57,7 @@ pub record RowsWithin (rows : List Row) (bound end : ℕ) : Type 0 where
   pub before : bound ≢ 0 → Cut rows bound end
 
 -- the rows from `first` to before `end` are all that a plan for this goal can board
-pub record Part (file : List ℕ) (s : Sailings) (q : Query) (goal : Goal) (first end : ℕ) : Type 0 where
+pub record RowsInReach (file : List ℕ) (s : Sailings) (q : Query) (goal : Goal) (first end : ℕ) : Type 0 where
   pub target : goal .target ≡ q .target
   pub bound : goal .bound < 4294967296
   pub ordered : first ≤ end
@@ -70,4 +71,4 @@ planIn file s q bound =
 
 -- cells from `from` on are as they were
 abbrev pub KeptBehind : (from : ℕ) (work work' : List ℕ) → Type 0
-KeptBehind from work work' = SameOutside trips from work work'
+KeptBehind from work work' = SameOutside tripCells from work work'

@@ -5,12 +5,12 @@ ghost use lib.ListN.{length};
 ghost use Rattle.file_layout.specs.Decode.{decode};
 ghost use Rattle.plans.specs.Journeys.{boundOf};
 ghost use Rattle.plans.specs.Plan.{planned, earliest as earliestIn};
-ghost use Rattle.plan_cells.specs.Cells.{used, cellOf};
-ghost use Rattle.plan_rows.specs.Reading.{rowsIn, timetableIn, Stand};
+ghost use Rattle.plan_cells.specs.Cells.{pairCells, used, cellOf};
+ghost use Rattle.plan_rows.specs.Reading.{rowsIn, timetableIn, FileReadable};
 ghost use Rattle.plan_rows.specs.Sections.{sailingsOf};
 ghost use Rattle.plan_scan.specs.Scanned.{scanIn, ScanHeld};
 ghost use Rattle.plan_whole.specs.Answers.{Answers};
-ghost use Rattle.plan_whole.specs.Steps.{Asked, Laid, Reaches, RowsWithin, Part, planIn, KeptBehind};
+ghost use Rattle.plan_whole.specs.Steps.{CallFits, PlanningInput, Reaches, RowsWithin, RowsInReach, planIn, KeptBehind};
 ghost use Rattle.plan_whole.specs.declared.Planned.the-variants.{Refused as NoPlan};
 use file_layout::Format;
 use file_layout::Trailer;
@@ -51,7 +51,7 @@ pub fn plan_in_room(
     work: &mut [u32],
     plan: &mut [u32],
 ) -> Planned
-    requires { ⌜ Asked f (now file) trailer q × (used (trailer .rows) ≤ length (now work)) × (3 * trailer .rows ≤ length (now plan)) ⌝ }
+    requires { ⌜ CallFits f (now file) trailer q × (used (trailer .rows) ≤ length (now work)) × (3 * trailer .rows ≤ length (now plan)) ⌝ }
     ensures { λ r. ⌜ Answers (planned (decode f (now (file .entry))) q) r (now (plan .entry)) (now (plan .exit))
         × KeptBehind (used (trailer .rows)) (now (work .entry)) (now (work .exit)) ⌝ }
 {
@@ -102,7 +102,7 @@ fn plan_within(
     work: &mut [u32],
     plan: &mut [u32],
 ) -> Planned
-    requires { ⌜ Laid (now file) s (now tables) q first × Reaches (q .minute) bound × (bound < 4294967296)
+    requires { ⌜ PlanningInput (now file) s (now tables) q first × Reaches (q .minute) bound × (bound < 4294967296)
         × (used (s .rows) ≤ length (now work)) × (3 * s .rows ≤ length (now plan)) ⌝ }
     ensures { λ r. ⌜ Answers (planIn (now (file .entry)) s q bound) r (now (plan .entry)) (now (plan .exit))
         × KeptBehind (used (s .rows)) (now (work .entry)) (now (work .exit)) ⌝ }
@@ -119,7 +119,7 @@ fn plan_within(
 // The rows that a plan within the bound can board: a row that departs at or after a real bound lands
 // behind it.
 fn rows_within(file: &[u8], s: Sailings, bound: usize) -> usize
-    requires { ⌜ Stand (now file) s ⌝ }
+    requires { ⌜ FileReadable (now file) s ⌝ }
     ensures { λ r. ⌜ RowsWithin (rowsIn (now (file .entry)) s) bound r ⌝ }
 {
     if bound == 0 {
@@ -140,7 +140,7 @@ fn plan_scanned(
     work: &mut [u32],
     plan: &mut [u32],
 ) -> Planned
-    requires { ⌜ Laid (now file) s (now tables) q first × Part (now file) s q goal first end × (used (s .rows) ≤ length (now work))
+    requires { ⌜ PlanningInput (now file) s (now tables) q first × RowsInReach (now file) s q goal first end × (used (s .rows) ≤ length (now work))
         × (3 * s .rows ≤ length (now plan)) × ScanHeld (now work) (s .rows) first end (scanIn (now file) s goal first end) ⌝ }
     ensures { λ r. ⌜ Answers (planIn (now (file .entry)) s q (goal .bound)) r (now (plan .entry)) (now (plan .exit))
         × KeptBehind (used (s .rows)) (now (work .entry)) (now (work .exit)) ⌝ }
@@ -167,8 +167,8 @@ fn no_plan(number: u32) -> Planned
 
 // E or NONE, with room to find it.
 pub fn earliest_in_room(file: &[u8], f: Format, trailer: Trailer, q: Query, work: &mut [u32]) -> u32
-    requires { ⌜ Asked f (now file) trailer q × (used (trailer .rows) ≤ length (now work)) ⌝ }
-    ensures { λ r. ⌜ (r ≡ cellOf (earliestIn (decode f (now (file .entry))) q)) × KeptBehind 2400 (now (work .entry)) (now (work .exit)) ⌝ }
+    requires { ⌜ CallFits f (now file) trailer q × (used (trailer .rows) ≤ length (now work)) ⌝ }
+    ensures { λ r. ⌜ (r ≡ cellOf (earliestIn (decode f (now (file .entry))) q)) × KeptBehind pairCells (now (work .entry)) (now (work .exit)) ⌝ }
 {
     let mut tables = [0u32; 4096];
     let s = sailings_in(f, trailer);

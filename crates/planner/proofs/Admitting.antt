@@ -24,7 +24,7 @@ use Rattle.query.specs.declared.Query.{Query}
 use Rattle.query.specs.Query.{queryRule, QueryFits}
 use Rattle.query.proofs.Rules.{rule-gives, code-most}
 use Rattle.plan_rows.specs.Sections.{Plannable}
-use Rattle.plan_whole.specs.Steps.{Asked}
+use Rattle.plan_whole.specs.Steps.{CallFits}
 use Rattle.planner.specs.declared.Room.{Room}
 use Rattle.planner.specs.declared.Admission.the-variants.{Admitted, Refused as NotAdmitted}
 use Rattle.planner.specs.Admission.{needs, enough, callVerdict, admission, admitted, faultNumber, SmallRoom, workRoom, planRoom, noRoom, Admits}
@@ -191,7 +191,7 @@ module _ {f : Format} {file : List ℕ} {h : Trailer} {q : Query} {work other : 
       let range = file-sound .trailer .in-range in
       subst (λ (k : Trailer). (k .stops ≤ mostStops) × (k .rows ≤ mostRows)) (sym (call .read)) (range .stops-most, range .rows-most)
 
-  pub asks : Asked f file h q
+  pub asks : CallFits f file h q
   asks =
       let fits = query-kept in
       record {

@@ -30,8 +30,8 @@ slice-read-number c = search needs
 number-requires : tie.Need-number-requires
 number-requires c κs = search needs
 
-opens-requires : tie.Need-opens-requires
-opens-requires c κs = search needs
+can-board-requires : tie.Need-can-board-requires
+can-board-requires c κs = search needs
 
 mul-work : tie.Need-mul-work
 mul-work c = search needs
@@ -46,13 +46,13 @@ returns-2 : tie.Need-returns-2
 returns-2 c =
     let a = c .before .before .before .before .before .before .before .before .before .args in
     boards-now (a .row) (a .work .now) (c .before .before .number .ensures .0)
-    (sym (c .before .opens .ensures) ∙ c .if2 .taken)
+    (sym (c .before .can-board .ensures) ∙ c .if2 .taken)
 
 returns-3 : tie.Need-returns-3
 returns-3 c =
     let a = c .before .before .before .before .before .before .before .before .before .args in
     misses-now (a .row) (a .work .now) (c .before .before .before .before .if1 .left) (c .before .before .number .ensures .0)
-    (sym (c .before .opens .ensures) ∙ c .if2 .left)
+    (sym (c .before .can-board .ensures) ∙ c .if2 .left)
 
 pub board-spec : {M : Type 1} → statement M
 board-spec =
@@ -66,7 +66,7 @@ board-spec =
     mul-number
     slice-read-number
     number-requires
-    opens-requires
+    can-board-requires
     mul-work
     slice-write-work
     same-length

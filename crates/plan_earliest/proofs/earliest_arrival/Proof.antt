@@ -1,6 +1,6 @@
 -- `plan_earliest::earliest_arrival` meets its contract: blank cells, then the sweep. Assumes nothing.
 use native.Mathlib.Omega.{arith}
-use Rattle.plan_cells.specs.Cells.{trips, pairs}
+use Rattle.plan_cells.specs.Cells.{tripCells, pairCells}
 use Rattle.plan_cells.specs.Outside.{SameOutside}
 use Rattle.plan_cells.proofs.Outside.{outside-then}
 use Rattle.plan_earliest.proofs.Start.{Blank, blanked, start-behind, set-out}
@@ -56,9 +56,9 @@ add-result c = search needs
 mul-result : tie.Need-mul-result
 mul-result c = search needs
 
--- only the cells of trips and stops were touched
+-- only the cells of tripCells and stops were touched
 behind :
-    (c : tie.After-slice-known5) → SameOutside trips pairs (entry (sweep c) .args .work .now) (c .before .before .before .sail-until .last .1 .1 .1 .1 .1 .0)
+    (c : tie.After-slice-known5) → SameOutside tripCells pairCells (entry (sweep c) .args .work .now) (c .before .before .before .sail-until .last .1 .1 .1 .1 .1 .0)
 behind c =
     let a = entry (sweep c) in
     outside-then (start-behind (blank (sweep c)) (a .args .source) (a .pre .2) (sweep c .before .cell .ensures))

@@ -2,11 +2,11 @@
 use Prim.Native.Nat.{ℕ, _-_, _≤_}
 use mathlib.Core.Path.{sym, subst, _∙_}
 use native.Mathlib.Omega.{arith}
-use Rattle.plan_cells.specs.Cells.{trips, pairs}
+use Rattle.plan_cells.specs.Cells.{tripCells, pairCells}
 use Rattle.plan_cells.specs.Outside.{SameOutside}
 use Rattle.plan_cells.proofs.Outside.{outside-same}
 use Rattle.plan_rows.specs.Reading.{timetableIn}
-use Rattle.plan_earliest.specs.Cells.{Placed}
+use Rattle.plan_earliest.specs.Cells.{RowInCells}
 use Rattle.plan_earliest.proofs.InFile.{row-placed, row-behind, row-swept, stops-there, ends-there}
 use Rattle.plan_earliest.specs.Swept.{Swept}
 use Rattle.plan_earliest.proofs.sail_until.Statement.{statement}
@@ -14,14 +14,14 @@ use Rattle.plan_earliest.proofs.sail_until.Tie as tie
 
 abbrev Inv-loop : tie.InvT-loop
 Inv-loop file s tables target first work₀ i₀ work i =
-    (first ≤ i) × (i ≤ s .rows) × SameOutside trips pairs work₀ work
+    (first ≤ i) × (i ≤ s .rows) × SameOutside tripCells pairCells work₀ work
     × ((source minute : ℕ) → Swept (timetableIn file s) source minute first work₀ → Swept (timetableIn file s) source minute i work)
 
 abbrev μ-loop : tie.MeasureT-loop
 μ-loop file s tables target first work₀ i₀ work i = s .rows - i
 
 loop-holds : tie.Need-loop-holds Inv-loop μ-loop
-loop-holds c = (omega arith, omega arith, outside-same trips pairs (c .before .before .before .args .work .now), λ _ _ sw. sw)
+loop-holds c = (omega arith, omega arith, outside-same tripCells pairCells (c .before .before .before .args .work .now), λ _ _ sw. sw)
 
 nth-row-requires : tie.Need-nth-row-requires Inv-loop μ-loop
 nth-row-requires c κs = (c .before .before .before .before .before .before .pre .0, omega arith)
@@ -41,8 +41,8 @@ slice-read-number c = omega (arith, c .before .before .before .before .loop .inv
 number-requires : tie.Need-number-requires Inv-loop μ-loop
 number-requires c κs = tt
 
-opens-requires : tie.Need-opens-requires Inv-loop μ-loop
-opens-requires c κs = tt
+can-board-requires : tie.Need-can-board-requires Inv-loop μ-loop
+can-board-requires c κs = tt
 
 same-length : tie.Need-same-length Inv-loop μ-loop
 same-length c = c .before .before .before .before .before .before .before .loop .inv .2 .same-length
@@ -54,14 +54,14 @@ returns c =
       l .inv .2,
       λ source minute sw. stops-there (a .args .file .now) (a .args .s) (a .pre .0) (l .i) (omega arith)
           (c .before .before .before .before .nth-row .ensures .0) (a .args .target) (a .pre .2) (l .work) (c .before .before .number .ensures .0)
-          (sym (c .before .opens .ensures) ∙ c .if2 .taken) source minute (l .inv .3 source minute sw),
+          (sym (c .before .can-board .ensures) ∙ c .if2 .taken) source minute (l .inv .3 source minute sw),
     )
 
 sail-requires : tie.Need-sail-requires Inv-loop μ-loop
 sail-requires c κs =
     let a = c .before .before .before .before .before .before .before .before .before .before .before .before in
     let l = c .before .before .before .before .before .before .before .before .loop in (
-      subst (λ r. Placed (a .args .tables .now) r) (sym (c .before .before .before .before .before .nth-row .ensures .0))
+      subst (λ r. RowInCells (a .args .tables .now) r) (sym (c .before .before .before .before .before .nth-row .ensures .0))
           (row-placed (a .args .file .now) (a .args .s) (a .pre .0) (a .args .tables .now) (a .pre .1) (l .i) (omega arith)),
       a .pre .1 .room,
       omega (arith, l .inv .2 .same-length),
@@ -109,7 +109,7 @@ sail-until-spec =
     mul-number
     slice-read-number
     number-requires
-    opens-requires
+    can-board-requires
     same-length
     returns
     sail-requires

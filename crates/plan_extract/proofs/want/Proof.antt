@@ -41,8 +41,8 @@ loop-holds c =
 departure-of-requires : tie.Need-departure-of-requires Inv-loop μ-loop
 departure-of-requires c κs = tt
 
-opens-requires : tie.Need-opens-requires Inv-loop μ-loop
-opens-requires c κs = tt
+can-board-requires : tie.Need-can-board-requires Inv-loop μ-loop
+can-board-requires c κs = tt
 
 row-of-requires : tie.Need-row-of-requires Inv-loop μ-loop
 row-of-requires c κs = tt
@@ -73,7 +73,7 @@ loop-again c =
     let a = c .before .before .before .before .before .before .before .before .before .before .before .before in
     let l = c .before .before .before .before .before .loop in
     let d = c .before .before .before .before .departure-of in
-    let o = c .before .before .before .opens in
+    let o = c .before .before .before .can-board in
     let here : 0 + c .before .row-of .result ≡ l .key % keyStep = omega (arith, c .before .row-of .ensures) in
     passing.down-on (a .args .work .now) (a .args .land) (a .args .arrival) (a .args .landing) (a .pre) (l .inv) (0 + c .before .row-of .result)
     here (passing.missed (a .args .landing) (l .key) (d .result) (o .result) (o .ensures) (d .ensures) (c .before .before .if1 .taken))
@@ -98,7 +98,7 @@ returns c =
     let a = c .before .before .before .before .before .before .before .before .before .before .before in
     let l = c .before .before .before .before .loop in
     let d = c .before .before .before .departure-of in
-    let o = c .before .before .opens in
+    let o = c .before .before .can-board in
     let here : 0 + c .row-of2 .result ≡ l .key % keyStep = omega (arith, c .row-of2 .ensures) in
     passing.down-last (a .args .work .now) (a .args .land) (a .args .arrival) (a .args .landing) (a .pre) (l .inv) (0 + c .row-of2 .result) here
     (passing.reached (a .args .landing) (l .key) (d .result) (o .result) (o .ensures) (d .ensures) (c .before .if1 .left))
@@ -115,7 +115,7 @@ want-spec =
     slice-read-key
     loop-holds
     departure-of-requires
-    opens-requires
+    can-board-requires
     row-of-requires
     add-work
     mul-work

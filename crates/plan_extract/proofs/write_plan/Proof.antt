@@ -6,7 +6,7 @@ use native.Mathlib.Nat.{zero-add}
 use native.Mathlib.Omega.{arith}
 use lib.ListN.{set}
 use Rattle.plans.proofs.Open.{found-member}
-use Rattle.plan_cells.specs.Cells.{trips, stops}
+use Rattle.plan_cells.specs.Cells.{tripCells, stopCells}
 use Rattle.plan_cells.specs.Outside.{SameOutside}
 use Rattle.plan_cells.proofs.Outside.{outside-then, outside-wider}
 use Rattle.plan_scan.specs.Scanned.{scanIn}
@@ -37,11 +37,11 @@ entered c = c .before .before .before .before .before .before
 abbrev marked : tie.After-fill → List ℕ
 marked c = set (c .fill .last .0) (0 + entered c .args .head) 1
 
-kept : (c : tie.After-fill) → SameOutside trips stops (entered c .args .work .now) (marked c)
+kept : (c : tie.After-fill) → SameOutside tripCells stopCells (entered c .args .work .now) (marked c)
 kept c =
     let a = entered c in
     let h = a .args .head in
-    subst (λ l. SameOutside trips stops (a .args .work .now) (set l (0 + h) 1)) (sym (c .fill .ensures))
+    subst (λ l. SameOutside tripCells stopCells (a .args .work .now) (set l (0 + h) 1)) (sym (c .fill .ensures))
     (headed-kept (a .args .work .now) (a .args .s .rows) (0 + h) h (zero-add h) (head-inside a) (a .pre .0 .few-rows) (omega (arith, a .pre .4)))
 
 alone : (c : tie.After-fill) → HeadAlone (marked c) (entered c .args .s .rows) (entered c .args .head)

@@ -11,7 +11,7 @@ use Rattle.plans.specs.Worth.{Valued}
 use Rattle.plans.proofs.Open.{found-member}
 use Rattle.plans.proofs.Order.{Ordered}
 use Rattle.plans.proofs.OwnWorth.{OwnWorth}
-use Rattle.plan_cells.specs.Cells.{trips, stops}
+use Rattle.plan_cells.specs.Cells.{tripCells, stopCells}
 use Rattle.plan_cells.specs.Outside.{SameOutside}
 use Rattle.plan_cells.proofs.Outside.{outside-same, outside-then, outside-wider}
 use Rattle.plan_scan.specs.Scanned.{scanIn}
@@ -25,7 +25,7 @@ use Rattle.plan_extract.proofs.write_wanted.Tie as tie
 
 abbrev Inv-loop : tie.InvT-loop
 Inv-loop file s tables goal first head end work₀ plan₀ rides₀ latest₀ i₀ work plan rides latest i =
-    (i ≤ end) × (rides ≤ i) × (latest < 65536) × SameOutside trips stops work₀ work × AtRow file s goal first head end plan₀ work plan rides latest i
+    (i ≤ end) × (rides ≤ i) × (latest < 65536) × SameOutside tripCells stopCells work₀ work × AtRow file s goal first head end plan₀ work plan rides latest i
 
 abbrev μ-loop : tie.MeasureT-loop
 μ-loop file s tables goal first head end work₀ plan₀ rides₀ latest₀ i₀ work plan rides latest i = end - i
@@ -58,7 +58,7 @@ loop-holds c =
       omega (arith, head-inside a),
       omega arith,
       omega arith,
-      outside-same trips stops (a .args .work .now),
+      outside-same tripCells stopCells (a .args .work .now),
       λ f. writing-start (chosen a) (all .0) f (a .args .goal .target) (a .args .s .rows) (all .1) p w (a .pre .8),
     )
 

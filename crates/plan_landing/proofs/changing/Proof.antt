@@ -52,7 +52,7 @@ room-at c = room (begun c .pre .boarding) (turn-at c)
 early : (c : tie.Then1 Inv-loop μ-loop) → turning c .loop .departure < begun (turning c) .args .landing
 early c =
     leb-false (begun (turning c) .args .landing) (turning c .loop .departure)
-    (sym (c .before .opens .ensures) ∙ not-true (c .before .opens .result) (c .if1 .taken))
+    (sym (c .before .can-board .ensures) ∙ not-true (c .before .can-board .result) (c .if1 .taken))
 
 more-at : (c : tie.Then1 Inv-loop μ-loop) →
     let l = turning c in
@@ -63,7 +63,7 @@ more-at c = more-room (begun (turning c) .pre .boarding) (turn-at (turning c)) (
 late : (c : tie.Else1 Inv-loop μ-loop) → begun (leaving c) .args .landing ≤ leaving c .loop .departure
 late c =
     leb-true (begun (leaving c) .args .landing) (leaving c .loop .departure)
-    (sym (c .before .opens .ensures) ∙ not-false (c .before .opens .result) (c .if1 .left))
+    (sym (c .before .can-board .ensures) ∙ not-false (c .before .can-board .result) (c .if1 .left))
 
 -- what a turn adds fits: the share is within the whole, the worth within an entry
 added : (c : tie.After-long2 Inv-loop μ-loop) →
@@ -103,8 +103,8 @@ loop-holds c =
     begins boarding (a .at) (c .departure-of .result) stands
     (c .departure-of .ensures ∙ ap (λ e. getD (a .work .now) e 0 / keyStep) stands)
 
-opens-requires : tie.Need-opens-requires Inv-loop μ-loop
-opens-requires c κs = tt
+can-board-requires : tie.Need-can-board-requires Inv-loop μ-loop
+can-board-requires c κs = tt
 
 sub-long : tie.Need-sub-long Inv-loop μ-loop
 sub-long c = omega (arith, room-at (turning c) .after)
@@ -243,7 +243,7 @@ changing-spec =
     shared-slice-read-departure-of
     departure-of-requires
     loop-holds
-    opens-requires
+    can-board-requires
     sub-long
     add-long
     mul-long

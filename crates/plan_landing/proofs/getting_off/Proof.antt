@@ -31,7 +31,7 @@ elsewhere c = c .before
 abbrev timed : tie.After-stack-of → tie.After-number
 timed c = elsewhere c .before .before .before .before
 
-abbrev stacked : tie.After-opens → tie.After-stack-of
+abbrev stacked : tie.After-can-board → tie.After-stack-of
 stacked c = c .before .before .before .before .before
 
 -- a + M, as the class's block has it
@@ -52,7 +52,7 @@ some-entry : (c : tie.Else3) →
 some-entry c = omega (arith, c .if3 .left, c .before .before .stack-of .ensures .1)
 
 -- the bottom entry's departure, as read
-bottom-read : (c : tie.After-opens) →
+bottom-read : (c : tie.After-can-board) →
     let a = begun (timed (stacked c)) .args in
     c .before .departure-of .result ≡ entryDeparture (a .work .now) (stackStart (a .work .now) (a .row .land)) 0
 bottom-read c =
@@ -69,7 +69,7 @@ gone c =
     let t = timed (stacked (c .before)) in
     subst (λ d. d < landing t) (bottom-read (c .before))
     (leb-false (landing t) (c .before .before .departure-of .result)
-    (sym (c .before .opens .ensures) ∙ not-true (c .before .opens .result) (c .if4 .taken)))
+    (sym (c .before .can-board .ensures) ∙ not-true (c .before .can-board .result) (c .if4 .taken)))
 
 late : (c : tie.Else4) →
     let t = timed (stacked (c .before)) in
@@ -79,7 +79,7 @@ late c =
     let t = timed (stacked (c .before)) in
     subst (λ d. landing t ≤ d) (bottom-read (c .before))
     (leb-true (landing t) (c .before .before .departure-of .result)
-    (sym (c .before .opens .ensures) ∙ not-false (c .before .opens .result) (c .if4 .left)))
+    (sym (c .before .can-board .ensures) ∙ not-false (c .before .can-board .result) (c .if4 .left)))
 
 found : (c : tie.After-first-open) →
     let a = begun (timed (stacked (c .before .before))) .args in
@@ -172,8 +172,8 @@ shared-slice-read-departure-of c = search needs
 departure-of-requires : tie.Need-departure-of-requires
 departure-of-requires c κs = search needs
 
-opens-requires : tie.Need-opens-requires
-opens-requires c κs = search needs
+can-board-requires : tie.Need-can-board-requires
+can-board-requires c κs = search needs
 
 returns-4 : tie.Need-returns-4
 returns-4 c =
@@ -246,7 +246,7 @@ getting-off-spec =
     mul-departure-of
     shared-slice-read-departure-of
     departure-of-requires
-    opens-requires
+    can-board-requires
     returns-4
     first-open-requires
     add-changing

@@ -29,8 +29,8 @@ add-middle c = omega arith
 nth-row-requires : tie.Need-nth-row-requires Inv-loop μ-loop
 nth-row-requires c κs = (c .before .before .before .pre, omega arith)
 
-opens-requires : tie.Need-opens-requires Inv-loop μ-loop
-opens-requires c κs = tt
+can-board-requires : tie.Need-can-board-requires Inv-loop μ-loop
+can-board-requires c κs = tt
 
 loop-less : tie.Need-loop-less Inv-loop μ-loop
 loop-less c = omega arith
@@ -42,7 +42,7 @@ loop-again c =
     let middle = l .low + (l .high - l .low) / 2 in
     let opened : a .args .minute ≤ rowOf (rowsIn (a .args .file .now) (a .args .s)) middle .departure =
     subst (λ r. a .args .minute ≤ r .departure) (c .before .before .nth-row .ensures .0)
-    (leb-true (a .args .minute) (c .before .before .nth-row .result .departure) (sym (c .before .opens .ensures) ∙ c .if1 .taken))
+    (leb-true (a .args .minute) (c .before .before .nth-row .result .departure) (sym (c .before .can-board .ensures) ∙ c .if1 .taken))
     in
     (omega arith, omega arith, l .inv .2, λ i h below. le-trans opened (a .pre .departures middle i h below))
 
@@ -60,7 +60,7 @@ loop-again-2 c =
     let inside : middle < a .args .s .rows = omega arith in
     let missed : rowOf (rowsIn (a .args .file .now) (a .args .s)) middle .departure < a .args .minute =
     subst (λ r. r .departure < a .args .minute) (c .before .before .nth-row .ensures .0)
-    (leb-false (a .args .minute) (c .before .before .nth-row .result .departure) (sym (c .before .opens .ensures) ∙ c .if1 .left))
+    (leb-false (a .args .minute) (c .before .before .nth-row .result .departure) (sym (c .before .can-board .ensures) ∙ c .if1 .left))
     in
     (omega arith, omega arith, (λ i h. lt-of-le-of-lt (a .pre .departures i middle (omega arith) inside) missed), l .inv .3)
 
@@ -84,7 +84,7 @@ rows-before-spec =
     sub-middle
     add-middle
     nth-row-requires
-    opens-requires
+    can-board-requires
     loop-less
     loop-again
     add-low

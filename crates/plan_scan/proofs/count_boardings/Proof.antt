@@ -1,4 +1,4 @@
--- `plan_scan::count_boardings` meets its contract: sizes so far and rows to come make the whole count. Assumes nothing.
+-- `plan_scan::count_boardings` meets its contract: sizeCells so far and rows to come make the whole count. Assumes nothing.
 use Prim.Native.Nat.{ℕ, _+_, _-_, _≤_, _<_}
 use mathlib.Core.List.{List, _∷_}
 use mathlib.Core.Path.{_≡_, sym, ap, ap₂, subst, _∙_}
@@ -8,7 +8,7 @@ use lib.ListN.{set}
 use lib.Seq.{slice, slice-empty, slice-cons, length-slice}
 use Rattle.timetable.specs.Timetable.{noRow}
 use Rattle.timetable.specs.declared.Row.{Row}
-use Rattle.plan_cells.specs.Cells.{sizes}
+use Rattle.plan_cells.specs.Cells.{sizeCells}
 use Rattle.plan_rows.specs.Reading.{rowsIn}
 use Rattle.plan_stacks.specs.Stacks.{stackSize}
 use Rattle.plan_scan.proofs.Regions.{count-few}
@@ -54,7 +54,7 @@ counted-on :
     → let a = c .before .before .before .before .before .before .args in
     let l = c .before .before .before .loop in
     Counting (slice (a .first) (a .end) (rowsIn (a .file .now) (a .s))) (slice (l .i + 1) (a .end) (rowsIn (a .file .now) (a .s))) (a .work .now)
-    (set (l .work) (sizes + c .before .nth-row .result .board) (stackSize (l .work) (c .before .nth-row .result .board) + 1))
+    (set (l .work) (sizeCells + c .before .nth-row .result .board) (stackSize (l .work) (c .before .nth-row .result .board) + 1))
 counted-on c =
     let a = c .before .before .before .before .before .before in
     let l = c .before .before .before .loop in

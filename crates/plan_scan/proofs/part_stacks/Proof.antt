@@ -1,11 +1,11 @@
--- `plan_scan::part_stacks` meets its contract: the stops below `stop` have their regions. Assumes nothing.
+-- `plan_scan::part_stacks` meets its contract: the stopCells below `stop` have their regions. Assumes nothing.
 use Prim.Native.Nat.{ℕ, _+_, _-_, _≤_}
 use mathlib.Core.List.{List}
 use mathlib.Core.Path.{_≡_, _∙_}
 use native.Mathlib.Omega.{arith}
 use lib.ListN.{getD, set, length-set}
 use lib.Seq.{getD-set-other}
-use Rattle.plan_cells.specs.Cells.{stops, sizes}
+use Rattle.plan_cells.specs.Cells.{stopCells, sizeCells}
 use Rattle.plan_stacks.specs.Stacks.{stackSize}
 use Rattle.plan_scan.specs.Regions.{below}
 use Rattle.plan_scan.proofs.Regions.{below-later, below-next}
@@ -42,10 +42,10 @@ slice-write-work c = omega (arith, c .before .loop .inv .2 .outside .same-length
 size-left :
     (c : tie.After-slice-known2 Inv-loop μ-loop)
     → let l = c .before .before .loop in
-    getD (set (l .work) (stops + l .stop) (l .start)) (sizes + l .stop) 0 ≡ stackSize (c .before .before .before .before .before .args .work .now) (l .stop)
+    getD (set (l .work) (stopCells + l .stop) (l .start)) (sizeCells + l .stop) 0 ≡ stackSize (c .before .before .before .before .before .args .work .now) (l .stop)
 size-left c =
     let l = c .before .before .loop in
-    getD-set-other (l .work) (stops + l .stop) (sizes + l .stop) (l .start) 0 (λ e. omega arith)
+    getD-set-other (l .work) (stopCells + l .stop) (sizeCells + l .stop) (l .start) 0 (λ e. omega arith)
     ∙ l .inv .2 .left (l .stop) (let z : l .stop ≤ l .stop = omega arith in z) (omega arith)
 
 further :
@@ -86,7 +86,7 @@ loop-again c =
     let a = c .before .before .before .before .before in
     let l = c .before .before .loop in (
       omega arith,
-      further (a .args .work .now) (a .args .from) (l .start) (l .stop) (getD (set (l .work) (stops + l .stop) (l .start)) (sizes + l .stop) 0) (l .inv .1) (size-left c),
+      further (a .args .work .now) (a .args .from) (l .start) (l .stop) (getD (set (l .work) (stopCells + l .stop) (l .start)) (sizeCells + l .stop) 0) (l .inv .1) (size-left c),
       parting-on (a .args .from) (l .stop) (l .start) (a .args .work .now) (l .work) (omega (arith, l .inv .2 .outside .same-length)) (omega arith) (l .inv .1) (l .inv .2),
     )
 

@@ -5,7 +5,7 @@ use mathlib.Core.Path.{_≡_}
 use native.Mathlib.Omega.{arith}
 use borrow.Author.Needs.{needs}
 use lib.ListN.{length, getD, set}
-use Rattle.plan_cells.specs.Cells.{trips, used, missing, pairCell}
+use Rattle.plan_cells.specs.Cells.{tripCells, used, missing, pairCell}
 use Rattle.plan_cells.specs.Outside.{SameOutside}
 use Rattle.plan_cells.proofs.Outside.{outside-then}
 use Rattle.plan_stacks.specs.Stacks.{stackSize}
@@ -30,18 +30,18 @@ fill-requires c κs = search needs
 fill-requires-2 : tie.Need-fill-requires-2
 fill-requires-2 c κs = search needs
 
--- the entry, from where trips and sizes are filled, and from where the stacks are parted
+-- the entry, from where tripCells and sizes are filled, and from where the stacks are parted
 abbrev begun : tie.After-fill2 → tie.Start
 begun c = c .before .before .before .before .before .before .before .before .before .before .before
 
 abbrev emptied-at : tie.After-part-stacks → tie.After-fill2
 emptied-at c = c .before .before .before .before .before .before .before .before .before
 
--- the cells once trips and sizes are filled
+-- the cells once tripCells and sizes are filled
 abbrev filled-trips : tie.After-fill2 → List ℕ
 filled-trips c = c .before .before .before .before .fill .last .0
 
-emptied-here : (c : tie.After-fill2) → SameOutside trips (used (begun c .args .s .rows)) (begun c .args .work .now) (c .fill2 .last .0)
+emptied-here : (c : tie.After-fill2) → SameOutside tripCells (used (begun c .args .s .rows)) (begun c .args .work .now) (c .fill2 .last .0)
 emptied-here c =
     let n = c .before .before .before .before .before .cell in
     emptied (begun c .args .s .rows) (begun c .args .work .now) (filled-trips c) (c .fill2 .last .0) (n .result) (begun c .pre .4) (n .ensures)
@@ -56,7 +56,7 @@ no-sizes-here c =
     no-sizes (begun c .args .s .rows) (begun c .args .work .now) (filled-trips c) (c .fill2 .last .0) (n .result) (begun c .pre .4) (n .ensures)
     (c .before .before .before .before .fill .ensures) (c .fill2 .ensures)
 
-no-next-here : (c : tie.After-fill2) → (trip : ℕ) → trip < 2000 → getD (c .fill2 .last .0) (trips + trip) 0 ≡ begun c .args .s .rows
+no-next-here : (c : tie.After-fill2) → (trip : ℕ) → trip < 2000 → getD (c .fill2 .last .0) (tripCells + trip) 0 ≡ begun c .args .s .rows
 no-next-here c =
     let n = c .before .before .before .before .before .cell in
     no-next (begun c .args .s .rows) (begun c .args .work .now) (filled-trips c) (c .fill2 .last .0) (n .result) (begun c .pre .4) (n .ensures)
@@ -104,7 +104,7 @@ laid-here c =
     (c .part-stacks .ensures) (no-next-here f)
 
 stays-here : (c : tie.After-part-stacks)
-    → let a = begun (emptied-at c) .args in SameOutside trips (used (a .s .rows)) (a .work .now) (closed-here c)
+    → let a = begun (emptied-at c) .args in SameOutside tripCells (used (a .s .rows)) (a .work .now) (closed-here c)
 unfolding closed-here
 stays-here c =
     let f = emptied-at c in
@@ -129,7 +129,7 @@ parted-at c = c .before .before .before .before .before .before
 
 scanned-stays : (c : tie.After-slice-known6)
     → let a = begun (emptied-at (parted-at c)) .args in
-    SameOutside trips (used (a .s .rows)) (a .work .now) (c .before .before .weigh-rows .last .1 .1 .1 .1 .1 .1 .0)
+    SameOutside tripCells (used (a .s .rows)) (a .work .now) (c .before .before .weigh-rows .last .1 .1 .1 .1 .1 .1 .0)
 unfolding closed-here
 scanned-stays c = outside-then (stays-here (parted-at c)) (c .before .before .weigh-rows .ensures .1)
 

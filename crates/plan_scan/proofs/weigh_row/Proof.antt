@@ -5,7 +5,7 @@ use mathlib.Core.Path.{_≡_, ap₂, subst}
 use native.Mathlib.Omega.{arith}
 use lib.ListN.{getD, set, length-set}
 use Rattle.timetable.specs.declared.Row.{Row}
-use Rattle.plan_cells.specs.Cells.{trips, pairCell, paired}
+use Rattle.plan_cells.specs.Cells.{tripCells, pairCell, paired}
 use Rattle.plan_scan.specs.Stores.{entered, Weighs, gets-off, stays-on}
 use borrow.Author.Needs.{needs}
 use Rattle.plan_scan.proofs.weigh_row.Statement.{statement}
@@ -13,13 +13,13 @@ use Rattle.plan_scan.proofs.weigh_row.Tie as tie
 
 -- the two ways, over plain values
 weighs-off :
-    (row : Row) (i off : ℕ) (w : List ℕ) (entry leave next : ℕ) → entry ≡ i → leave ≡ i → next ≡ getD w (trips + row .trip) 0
-    → off < getD w (pairCell next) 0 → Weighs row i off w (set (set (set w (trips + row .trip) entry) (pairCell i) off) (pairCell i + 1) leave)
+    (row : Row) (i off : ℕ) (w : List ℕ) (entry leave next : ℕ) → entry ≡ i → leave ≡ i → next ≡ getD w (tripCells + row .trip) 0
+    → off < getD w (pairCell next) 0 → Weighs row i off w (set (set (set w (tripCells + row .trip) entry) (pairCell i) off) (pairCell i + 1) leave)
 weighs-off row i off w entry leave next e l n h =
     gets-off (subst (λ k. off < getD w (pairCell k) 0) n h) (ap₂ (λ a b. paired (entered w (row .trip) a) i off b) e l)
 
 weighs-on :
-    (row : Row) (i off : ℕ) (w : List ℕ) (entry next : ℕ) → entry ≡ i → next ≡ getD w (trips + row .trip) 0
+    (row : Row) (i off : ℕ) (w : List ℕ) (entry next : ℕ) → entry ≡ i → next ≡ getD w (tripCells + row .trip) 0
     → getD w (pairCell next) 0 ≤ off
     → Weighs row i off w
     (paired (entered w (row .trip) entry) i (getD w (pairCell next) 0) (getD (set (entered w (row .trip) entry) (pairCell i) (getD w (pairCell next) 0)) (pairCell next + 1) 0))

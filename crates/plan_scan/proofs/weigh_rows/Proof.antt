@@ -3,7 +3,7 @@ use Prim.Native.Nat.{suc, _-_, _≤_, _<_}
 use mathlib.Core.Path.{_≡_, subst}
 use native.Mathlib.Omega.{arith}
 use lib.ListN.{length}
-use Rattle.plan_cells.specs.Cells.{trips, used}
+use Rattle.plan_cells.specs.Cells.{tripCells, used}
 use Rattle.plan_cells.specs.Outside.{SameOutside}
 use Rattle.plan_cells.proofs.Outside.{outside-same, outside-then}
 use Rattle.plan_scan.specs.Held.{Held}
@@ -13,14 +13,14 @@ use Rattle.plan_scan.proofs.weigh_rows.Tie as tie
 
 abbrev Inv-loop : tie.InvT-loop
 Inv-loop file s tables goal first end work₀ i₀ work i =
-    (first ≤ i) × (i ≤ end) × Held file s goal first end i work × SameOutside trips (used (s .rows)) work₀ work
+    (first ≤ i) × (i ≤ end) × Held file s goal first end i work × SameOutside tripCells (used (s .rows)) work₀ work
 
 abbrev μ-loop : tie.MeasureT-loop
 μ-loop file s tables goal first end work₀ i₀ work i = i
 
 loop-holds : tie.Need-loop-holds Inv-loop μ-loop
 loop-holds c =
-    let a = c .before .before .before in (a .pre .2, (let z : a .args .end ≤ a .args .end = omega arith in z), a .pre .5, outside-same trips (used (a .args .s .rows)) (a .args .work .now))
+    let a = c .before .before .before in (a .pre .2, (let z : a .args .end ≤ a .args .end = omega arith in z), a .pre .5, outside-same tripCells (used (a .args .s .rows)) (a .args .work .now))
 
 sub-i : tie.Need-sub-i Inv-loop μ-loop
 sub-i c = omega arith

@@ -25,11 +25,11 @@ shared-slice-read-number c = search needs
 number-requires : tie.Need-number-requires
 number-requires c κs = search needs
 
-mul-opens : tie.Need-mul-opens
-mul-opens c = search needs
+mul-can-board : tie.Need-mul-can-board
+mul-can-board c = search needs
 
-opens-requires : tie.Need-opens-requires
-opens-requires c κs = search needs
+can-board-requires : tie.Need-can-board-requires
+can-board-requires c κs = search needs
 
 cast-result : tie.Need-cast-result
 cast-result c = search needs
@@ -38,8 +38,8 @@ returns : tie.Need-returns
 returns c =
     let a = c .before .before .before .before .args in
     let key = getD (a .work .now) (a .at) 0 in
-    counted (c .opens .result) (leb (a .minute) (key / keyStep))
-    (c .opens .ensures ∙ ap (λ k. leb (keyStep * a .minute) k) (c .before .number .ensures .0) ∙ by-keys (a .minute) key)
+    counted (c .can-board .result) (leb (a .minute) (key / keyStep))
+    (c .can-board .ensures ∙ ap (λ k. leb (keyStep * a .minute) k) (c .before .number .ensures .0) ∙ by-keys (a .minute) key)
 
 pub open-at-spec : {M : Type 1} → statement M
 open-at-spec =
@@ -48,7 +48,7 @@ open-at-spec =
     mul-number
     shared-slice-read-number
     number-requires
-    mul-opens
-    opens-requires
+    mul-can-board
+    can-board-requires
     cast-result
     returns)

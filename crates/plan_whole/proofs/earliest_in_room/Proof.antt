@@ -2,7 +2,7 @@
 use mathlib.Core.Path.{refl, sym, ap, _∙_}
 use native.Mathlib.Omega.{arith}
 use Rattle.plan_cells.specs.Cells.{cellOf}
-use Rattle.plan_whole.specs.Steps.{Laid}
+use Rattle.plan_whole.specs.Steps.{PlanningInput}
 use Rattle.plan_whole.proofs.Laying.{rows-stand, tables-stand, lays, earliest-there}
 use borrow.Author.Needs.{needs}
 use Rattle.plan_whole.proofs.earliest_in_room.Statement.{statement}
@@ -13,7 +13,7 @@ abbrev begun : tie.After-rows-before → tie.Start
 begun c = c .before .before .before .before .before .before .before
 
 laid : (c : tie.After-rows-before)
-    → Laid (begun c .args .file .now) (c .before .before .before .before .sailings-in .result) (c .before .before .read-tables .last .1 .1 .0)
+    → PlanningInput (begun c .args .file .now) (c .before .before .before .before .sailings-in .result) (c .before .before .read-tables .last .1 .1 .0)
     (begun c .args .q) (c .rows-before .result)
 laid c =
     let a = begun c in

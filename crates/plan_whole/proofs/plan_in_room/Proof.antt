@@ -9,7 +9,7 @@ use Rattle.plans.specs.Journeys.{boundOf}
 use Rattle.plans.specs.Plan.{Plan, planned, earliest}
 use Rattle.plan_cells.specs.Cells.{used, missing, cellOf}
 use Rattle.plan_rows.specs.Reading.{timetableIn}
-use Rattle.plan_whole.specs.Steps.{Laid, Reaches, planIn, KeptBehind}
+use Rattle.plan_whole.specs.Steps.{PlanningInput, Reaches, planIn, KeptBehind}
 use Rattle.plan_whole.specs.Answers.{Answers}
 use Rattle.plan_whole.proofs.Bounds.{earliest-fits, bound-reaches}
 use Rattle.plan_whole.proofs.Answered.{no-arrival-cell, arrival-cell, no-plan-answers, no-plan-of, kept-later, kept-both}
@@ -29,7 +29,7 @@ abbrev arriving : tie.After-slice-known5 → tie.Else1
 arriving c = c .before .before .before .before .before .before .before .before .before .before
 
 laid : (c : tie.After-rows-before)
-    → Laid (begun c .args .file .now) (c .before .before .before .before .sailings-in .result) (c .before .before .read-tables .last .1 .1 .0)
+    → PlanningInput (begun c .args .file .now) (c .before .before .before .before .sailings-in .result) (c .before .before .read-tables .last .1 .1 .0)
     (begun c .args .q) (c .rows-before .result)
 laid c =
     let a = begun c in

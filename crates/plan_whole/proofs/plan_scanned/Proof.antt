@@ -2,7 +2,7 @@
 use Prim.Native.Nat.{_-_, _<_, _≤_}
 use mathlib.Core.Path.{_≡_, sym, ap, ap₂, subst, _∙_}
 use native.Mathlib.Omega.{arith}
-use Rattle.plan_cells.specs.Cells.{trips, used}
+use Rattle.plan_cells.specs.Cells.{tripCells, used}
 use Rattle.plan_cells.proofs.Outside.{outside-same}
 use Rattle.plan_stacks.specs.Stacks.{stackStart, stackSize, entryRow, entryWorth}
 use Rattle.plan_scan.specs.Scanned.{scanIn}
@@ -86,7 +86,7 @@ returns c =
     let none-here : stackSize (a .args .work .now) (a .args .q .source) ≡ 0 = sym (sized s) ∙ c .before .if1 .taken in (
       no-plan-answers (planIn (a .args .file .now) (a .args .s) (a .args .q) (a .args .goal .bound)) (c .no-plan .result) (a .args .plan .now)
           (told a .0 none-here) (c .no-plan .ensures),
-      outside-same trips (used (a .args .s .rows)) (a .args .work .now),
+      outside-same tripCells (used (a .args .s .rows)) (a .args .work .now),
     )
 
 top-requires : tie.Need-top-requires

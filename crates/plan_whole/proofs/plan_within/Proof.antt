@@ -4,7 +4,7 @@ use mathlib.Core.Path.{refl}
 use native.Mathlib.Omega.{arith}
 use lib.ListN.{length}
 use Rattle.plan_cells.specs.Cells.{used}
-use Rattle.plan_whole.specs.Steps.{Part}
+use Rattle.plan_whole.specs.Steps.{RowsInReach}
 use Rattle.plan_whole.proofs.Parts.{is-part}
 use Rattle.plan_whole.proofs.Answered.{kept-both}
 use borrow.Author.Needs.{needs}
@@ -20,7 +20,7 @@ scanned-at c = c .before .before .before .before .before .before .before
 
 -- the rows that are scanned, for the goal
 looked-at : (c : tie.After-rows-within)
-    → Part (begun c .args .file .now) (begun c .args .s) (begun c .args .q)
+    → RowsInReach (begun c .args .file .now) (begun c .args .s) (begun c .args .q)
     (record { target = begun c .args .q .target; bound = begun c .args .bound })
     (begun c .args .first) (c .rows-within .result)
 looked-at c =
