@@ -7,4 +7,5 @@ pub mod Returns
 pub mod InFile
 pub mod Start
 pub mod Answer
+pub mod Pinned
 pub mod Settled

@@ -9,4 +9,5 @@ pub mod Writing
 pub mod Aboard
 pub mod Headed
 pub mod Turn
+pub mod Pinned
 pub mod Settled
