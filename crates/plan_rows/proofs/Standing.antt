@@ -68,7 +68,7 @@ same-plan f s q =
     ∙ before-same (decode f s) (timetableIn s (sailingsOf f (trailerOf f s))) (same-rows f s) (same-tables f s) q
     (earliest (timetableIn s (sailingsOf f (trailerOf f s))) q)
 
-longest-small : (shares : List ℕ) (most : ℕ) → length shares ≤ suc most → longest shares ≤ most
+pub longest-small : (shares : List ℕ) (most : ℕ) → length shares ≤ suc most → longest shares ≤ most
 longest-small [] most h = omega arith
 longest-small (p ∷ shares) most h = omega arith
 

@@ -15,7 +15,6 @@ use Rattle.timetable.specs.Verdict.{fine}
 use Rattle.timetable.specs.Classes.{whole, sum}
 use Rattle.file_layout.specs.Format.{versionOne}
 use Rattle.file_layout.specs.Decode.{decode, trailerOf}
-use Rattle.file_layout.specs.Check.{rangesOf}
 use Rattle.query.specs.declared.Query.{Query}
 use Rattle.plans.specs.Rides.{Ride, IsRide, latest}
 use Rattle.plans.specs.Worth.{Valued, valued, ridesOf, landWorth, arrivalWorth, changeWorth, ticks}
@@ -26,6 +25,7 @@ use Rattle.plans.proofs.Made.{plan-made}
 use Rattle.plans.proofs.PlanRides.{plan-first}
 use Rattle.demands.specs.Demanded.{Demanded}
 use Rattle.demands.proofs.Demanded.{plan-demanded}
+use Rattle.plan_rows.proofs.Standing.{longest-small}
 use Rattle.plan_scan.proofs.Worths.{arrival-most, change-most}
 use Rattle.planner.specs.declared.Room.{Room}
 use Rattle.planner.specs.Admission.{admission}
@@ -51,7 +51,6 @@ valued-most target minute (r ∷ rides) each v m =
 module _ (file : List ℕ) (q : Query) (work other : Room) (call : admission versionOne file q work other ≡ fine) where
   -- the last minute of version 1 and its longest delay
   ride-lands : (r : Ride) → IsRide (decode versionOne file) r → latest r ≤ versionOne .lastminute + versionOne .delay
-  unfolding rangesOf
   ride-lands r is =
       let sound = is-sound file q work other call in
       let inside : r .leave < trailerOf versionOne file .rows = omega (arith, is .inside, sound .rows-count) in
@@ -59,7 +58,9 @@ module _ (file : List ℕ) (q : Query) (work other : Room) (call : admission ver
       let shares = sound .row-shares (r .leave) inside in
       let there = rowOf (decode versionOne file .rows) (r .leave) in
       let table = sharesOf (decode versionOne file .tables) (there .class) in
-      let lands : there .arrival + longest table ≤ versionOne .lastminute + versionOne .delay = omega (arith, row .arrival, shares .few-shares) in
+      let lands : there .arrival + longest table ≤ versionOne .lastminute + versionOne .delay =
+      omega (arith, row .arrival, longest-small table (versionOne .delay) (shares .few-shares))
+      in
       subst (λ (x : Ride). latest x ≤ versionOne .lastminute + versionOne .delay) (sym (is .as-timed)) lands
 
   -- what the printed times and the desk's bytes are asked to hold
