@@ -3,7 +3,7 @@
 
 usage: make.py FILES WORDS
 
-FILES gets the number of pairs, then each pair's two files, each as its length (numbers are u16, little-endian) and its bytes.
+FILES gets each pair's two files, each as its length (u32, little-endian) and its bytes.
 WORDS gets for each pair its place and the words, which are written beside it by hand.
 """
 import struct
@@ -122,13 +122,12 @@ def cases():
 
 def main():
     files, told = b"", ""
-    pairs = list(cases())
-    for place, (sailings, query, words) in enumerate(pairs):
+    for place, (sailings, query, words) in enumerate(cases()):
         for data in (sailings, query):
-            files += struct.pack("<H", len(data)) + data
+            files += struct.pack("<I", len(data)) + data
         told += f"-- {place}\n{words}"
     with open(sys.argv[1], "wb") as out:
-        out.write(struct.pack("<H", len(pairs)) + files)
+        out.write(files)
     with open(sys.argv[2], "w") as out:
         out.write(told)
 

@@ -3,6 +3,7 @@ ghost use mathlib.Core.Path.{_≡_};
 ghost use Prim.Native.Nat.{_-_, _<_};
 ghost use lib.ListN.{length};
 ghost use Rattle.file_layout.specs.Small.{SmallTrailer, SmallRow};
+ghost use Rattle.explain_faults.specs.Broken.{rowIn};
 use file_layout::Trailer;
 use file_layout::VERSION_ONE;
 use timetable::Row;
@@ -49,12 +50,11 @@ pub fn trailer_in(file: &[u8]) -> Trailer
 
 // The row of that number, the rows starting at `start`.
 pub fn row_in(file: &[u8], start: usize, place: usize) -> Row
-    ensures { λ r. ⌜ SmallRow r ⌝ }
+    ensures { λ r. ⌜ (r ≡ rowIn 12 (now (file .entry)) start place) × SmallRow r ⌝ }
 {
     if start < file.len() {
-        let rows = &file[start..];
-        if place < rows.len() / VERSION_ONE.width {
-            return file_layout::row_at(rows, VERSION_ONE.width * place);
+        if place < (file.len() - start) / VERSION_ONE.width {
+            return file_layout::row_at(file, start + VERSION_ONE.width * place);
         }
     }
     Row {

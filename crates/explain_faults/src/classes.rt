@@ -105,8 +105,12 @@ fn print_block_fault(block: &[u8]) {
         say(b", not 4096.\n");
         return;
     }
-    say_number(b": the last share, that of ", delay);
-    say(b" minutes, is 0.\n");
+    if number_at(block, 2 + 2 * delay) == 0 {
+        say_number(b": the last share, that of ", delay);
+        say(b" minutes, is 0.\n");
+        return;
+    }
+    say(b" keeps the rules of a class.\n");
 }
 
 // The sum of the first `count` shares of a block.

@@ -1,14 +1,10 @@
-// For the office: why the check or planning refuses, and what to look at, in a sentence or two.
+// For the office: why the check refuses, and what to look at, in a sentence or two.
 mod broken;
 mod classes;
-mod guide;
-mod journey;
 mod rows;
 mod sizes;
 
-pub use guide::print_plan;
-pub use journey::print_no_journey;
-pub use journey::print_query_fault;
+pub use broken::row_in;
 
 // The reason for a refusal of the check, by its number and place.
 pub fn print_file_fault(file: &[u8], number: usize, place: usize) {

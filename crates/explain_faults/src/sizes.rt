@@ -3,6 +3,11 @@ use explain_words::say;
 use explain_words::say_number;
 use file_layout::Trailer;
 use file_layout::VERSION_ONE;
+use timetable::FEWEST_CLASSES;
+use timetable::FEWEST_STOPS;
+use timetable::MOST_CLASSES;
+use timetable::MOST_ROWS;
+use timetable::MOST_STOPS;
 
 // The first number that is out of its range.
 pub fn print_size_fault(length: usize, trailer: Trailer) {
@@ -39,19 +44,37 @@ pub fn print_size_fault(length: usize, trailer: Trailer) {
 
 // The first of S, n and K that is out of its range.
 fn print_count_fault(trailer: Trailer) {
-    if trailer.stops < 2 {
-        say_range(b"number of stops", trailer.stops, 2, 200);
+    if trailer.stops < FEWEST_STOPS {
+        say_range(b"number of stops", trailer.stops, FEWEST_STOPS, MOST_STOPS);
         return;
     }
-    if 200 < trailer.stops {
-        say_range(b"number of stops", trailer.stops, 2, 200);
+    if MOST_STOPS < trailer.stops {
+        say_range(b"number of stops", trailer.stops, FEWEST_STOPS, MOST_STOPS);
         return;
     }
-    if 2000 < trailer.rows {
-        say_range(b"number of rows", trailer.rows, 0, 2000);
+    if MOST_ROWS < trailer.rows {
+        say_range(b"number of rows", trailer.rows, 0, MOST_ROWS);
         return;
     }
-    say_range(b"number of classes", trailer.classes, 1, 16);
+    if trailer.classes < FEWEST_CLASSES {
+        say_range(
+            b"number of classes",
+            trailer.classes,
+            FEWEST_CLASSES,
+            MOST_CLASSES,
+        );
+        return;
+    }
+    if MOST_CLASSES < trailer.classes {
+        say_range(
+            b"number of classes",
+            trailer.classes,
+            FEWEST_CLASSES,
+            MOST_CLASSES,
+        );
+        return;
+    }
+    say(b"Length, version and the numbers of stops, rows and classes are in their ranges.\n");
 }
 
 fn say_range(name: &[u8], found: usize, least: usize, most: usize) {

@@ -1,41 +1,10 @@
 // Stored cases of the sheet (tests/run_sheets/make.py packs them): prints the sheet of each.
-ghost use Prim.Native.Nat.{_≤_};
-ghost use lib.ListN.{length};
 use libc::STDOUT_FILENO;
+use rooms::SAILINGS;
+use rooms::sailings_room;
 use sheet_text::SHEET_ROOM;
 use sheet_text::Sheeted;
-
-// Longer than the longest sound file, so that one byte too many is seen.
-const ROOM: usize = 28000;
-
-fn room() -> [u8; ROOM] {
-    [0u8; ROOM]
-}
-
-fn sheet_room() -> [u8; SHEET_ROOM] {
-    [0u8; SHEET_ROOM]
-}
-
-// The length of the next part, little-endian; ROOM where there is none.
-fn next_length(fd: i32) -> usize {
-    let mut bytes = [0u8; 4];
-    if io::read_full(fd, &mut bytes) < 4 {
-        return ROOM;
-    }
-    numbers::u16_at(&bytes, 0)
-}
-
-// The next part's length, its bytes read into `part`; all of the room where there is none.
-fn read_next(fd: i32, part: &mut [u8]) -> usize
-    ensures { λ r. ⌜ r ≤ length (now (part .entry)) ⌝ }
-{
-    let length = next_length(fd);
-    if part.len() <= length {
-        return part.len();
-    }
-    io::read_full(fd, &mut part[..length]);
-    length
-}
+use sheet_text::sheet_room;
 
 fn print_sheet(place: usize, sailings: &[u8], query: &[u8]) {
     io::write_all(STDOUT_FILENO, b"case ");
@@ -45,20 +14,21 @@ fn print_sheet(place: usize, sailings: &[u8], query: &[u8]) {
     let sheeted = sheet_text::sheet(sailings, query, &mut out);
     if let Sheeted::Text { end } = sheeted {
         if end <= SHEET_ROOM {
-            io::write_all(STDOUT_FILENO, &out[..end]);
+            let shown = io::count(end as isize, &out);
+            io::write_all(STDOUT_FILENO, &out[..shown]);
         }
     }
 }
 
 // Prints the sheet of the next case; false where there is none.
 fn print_next(fd: i32, place: usize) -> bool {
-    let mut sailings = room();
-    let mut query = room();
-    let long = read_next(fd, &mut sailings);
-    if long == ROOM {
+    let mut sailings = sailings_room();
+    let mut query = sailings_room();
+    let long = packed::read_next(fd, &mut sailings);
+    if long == SAILINGS {
         return false;
     }
-    let short = read_next(fd, &mut query);
+    let short = packed::read_next(fd, &mut query);
     print_sheet(place, &sailings[..long], &query[..short]);
     true
 }

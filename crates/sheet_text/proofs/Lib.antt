@@ -1,7 +1,6 @@
 -- What writing the sheet's texts one behind the other comes to.
 pub mod Times
 pub mod Lines
-pub mod PlanLines
 pub mod Asked
 pub mod Sheets
 pub mod Pinned

@@ -6,17 +6,19 @@ use Rattle.timetable.specs.Rows.{ownRule, departureRule, lastOfTrip, follows, t
 use Rattle.timetable.specs.Classes.{sum, sharesRule}
 use Rattle.numbers.specs.Numbers.{u16At, u32At}
 use Rattle.file_layout.specs.Decode.{decode, trailerOf, trailerAt, trailerStart, rowsFrom, rowAt, tablesFrom, tableAt, sharesFrom, blockEnd, tablesEnd}
-use Rattle.file_layout.specs.Check.{checked, checkedAs, fileVerdict, sectionsVerdict, lengthRule, trailerRule, classVerdict, classesVerdict, joined, sectionsJoin, rangesOf, answered}
+use Rattle.file_layout.specs.Check.{fileVerdict, sectionsVerdict, lengthRule, trailerRule, classVerdict, classesVerdict, joined, sectionsJoin}
+use Rattle.file_layout.specs.Format.{versionOne}
+use Rattle.query.specs.Query.{journeyRule, codeRule, queryRule, queryIn}
 use Rattle.plans.specs.Worth.{weigh, firstOpen, worthOr, caught, arrivalWorth, changeWorth}
 use Rattle.plans.specs.Chosen.{whenSafe, offInTicks, worthOf, offInMinutes, nextOf, getOff, stayOn, least, firstAt, leads, others, choose, bestOf, scan, scanned}
 use Rattle.plans.specs.Plan.{earliest, chosenFor, inWindow, wanted, upTo, windowsOf, extract, ridesFrom, latestOf, planWithin, planBefore, planned}
 use Rattle.plans.specs.Examples.{Case, Hold}
 use Rattle.file_encoding.proofs.CaseW.{caseW}
-use Rattle.planner.specs.Outcome.{journeyRule, codeRule}
+use Rattle.planner.specs.Admission.{admission, callVerdict, enough}
 use Rattle.clock.specs.Clock.{dayOf, dayStart, sinceMidnight, hourOf, minuteOfHour, roundedUp}
 use Rattle.text.specs.Decimal.{digitsOnto, decimal, numberText}
 use Rattle.clock.specs.Text.{faceText, timeText}
-use Rattle.sheet_text.specs.Sheet.{refusedText, callText, lineText, rideText, ridesText, firstText, planText, queryOf, plannedText, askedText, soundText, checkedText, sheetText}
+use Rattle.sheet_text.specs.Sheet.{refusedText, callText, lineText, rideText, ridesText, firstText, planText, plannedText, askedText, sheetText}
 
 -- case W's query: 0 2 590 0
 abbrev queryW : List ℕ
@@ -33,19 +35,19 @@ linesW =
 
 abbrev printedCases : List Case
 printedCases =
-    record { answered = sheetText caseW queryW; expected = linesW }
+    record { answered = sheetText versionOne caseW queryW; expected = linesW }
     -- from a stop to itself: 6
-    ∷ record { answered = sheetText caseW (0 ∷ 0 ∷ 0 ∷ 0 ∷ 78 ∷ 2 ∷ 0 ∷ 0 ∷ []); expected = refusedText 6 }
+    ∷ record { answered = sheetText versionOne caseW (0 ∷ 0 ∷ 0 ∷ 0 ∷ 78 ∷ 2 ∷ 0 ∷ 0 ∷ []); expected = refusedText 6 }
     -- a query of seven bytes: 6
-    ∷ record { answered = sheetText caseW (0 ∷ 0 ∷ 2 ∷ 0 ∷ 78 ∷ 2 ∷ 0 ∷ []); expected = refusedText 6 }
+    ∷ record { answered = sheetText versionOne caseW (0 ∷ 0 ∷ 2 ∷ 0 ∷ 78 ∷ 2 ∷ 0 ∷ []); expected = refusedText 6 }
     -- no files: 1
-    ∷ record { answered = sheetText [] []; expected = refusedText 1 }
+    ∷ record { answered = sheetText versionOne [] []; expected = refusedText 1 }
     -- T 601: 8
-    ∷ record { answered = sheetText caseW (0 ∷ 0 ∷ 2 ∷ 0 ∷ 89 ∷ 2 ∷ 0 ∷ 0 ∷ []); expected = refusedText 8 }
+    ∷ record { answered = sheetText versionOne caseW (0 ∷ 0 ∷ 2 ∷ 0 ∷ 89 ∷ 2 ∷ 0 ∷ 0 ∷ []); expected = refusedText 8 }
     ∷ []
 
 pub cases-print : Hold printedCases
-unfolding sheetText checkedText soundText askedText plannedText planText firstText ridesText rideText lineText callText refusedText numberText queryOf journeyRule codeRule timeText faceText decimal digitsOnto dayOf dayStart sinceMidnight hourOf minuteOfHour roundedUp u16At u32At checked checkedAs fileVerdict lengthRule classVerdict classesVerdict joined sectionsJoin answered decode trailerAt rowsFrom rowAt tablesFrom tableAt sharesFrom blockEnd tablesEnd ownRule departureRule lastOfTrip follows tripRule rowVerdict rowsVerdict sum sharesRule planned planBefore earliest weigh firstOpen worthOr caught arrivalWorth changeWorth whenSafe offInTicks worthOf offInMinutes nextOf getOff stayOn least firstAt leads others choose bestOf scan scanned chosenFor inWindow wanted upTo windowsOf extract ridesFrom latestOf planWithin sectionsVerdict trailerRule trailerOf trailerStart
+unfolding sheetText askedText plannedText planText firstText ridesText rideText lineText callText refusedText numberText queryIn queryRule journeyRule codeRule admission callVerdict enough timeText faceText decimal digitsOnto dayOf dayStart sinceMidnight hourOf minuteOfHour roundedUp u16At u32At fileVerdict sectionsVerdict lengthRule trailerRule classVerdict classesVerdict joined sectionsJoin decode trailerOf trailerAt trailerStart rowsFrom rowAt tablesFrom tableAt sharesFrom blockEnd tablesEnd ownRule departureRule lastOfTrip follows tripRule rowVerdict rowsVerdict sum sharesRule planned planBefore earliest weigh firstOpen worthOr caught arrivalWorth changeWorth whenSafe offInTicks worthOf offInMinutes nextOf getOff stayOn least firstAt leads others choose bestOf scan scanned chosenFor inWindow wanted upTo windowsOf extract ridesFrom latestOf planWithin
 cases-print = (refl, (refl, (refl, (refl, (refl, tt)))))
 
 -- `refused 4`

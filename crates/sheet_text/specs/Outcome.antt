@@ -1,9 +1,10 @@
--- What the sheet's call answers and what the lent bytes hold afterwards, for every file, query and slice.
+-- What the sheet's call answers and what the lent bytes hold afterwards, for every version, file, query and slice.
 use Prim.Native.Nat.{ℕ}
 use mathlib.Core.Bool.{cond}
 use mathlib.Core.List.{List}
 use lib.Dec.{leb}
 use lib.ListN.{length}
+use Rattle.file_layout.specs.declared.Format.{Format}
 use Rattle.numbers.specs.Over.{over}
 use Rattle.sheet_text.specs.declared.Sheeted.{Sheeted}
 use Rattle.sheet_text.specs.declared.Sheeted.the-variants.{Text, NoRoom}
@@ -20,6 +21,6 @@ unfoldable pub written : List ℕ → List ℕ → SheetOutcome
 written text out = record { answer = Text (length text); out = over text out }
 
 -- too little room changes nothing
-unfoldable pub sheetOutcome : (sailings query out : List ℕ) → SheetOutcome
-sheetOutcome sailings query out =
-    cond (leb sheetRoom (length out)) (written (sheetText sailings query) out) (record { answer = NoRoom; out = out })
+unfoldable pub sheetOutcome : Format → (sailings query out : List ℕ) → SheetOutcome
+sheetOutcome f sailings query out =
+    cond (leb sheetRoom (length out)) (written (sheetText f sailings query) out) (record { answer = NoRoom; out = out })

@@ -1,21 +1,16 @@
 -- Document 01, "The sheet": the text that is printed for a file of sailings and a query, as a list of ASCII codes.
 use Prim.Native.Nat.{ℕ}
-use mathlib.Core.Bool.{cond, _&&_}
 use mathlib.Core.List.{List, [], _∷_, _++_}
 use mathlib.Core.Option.{Option, none, some}
-use lib.Dec.{eqb}
 use lib.ListN.{length}
-use Rattle.timetable.specs.Timetable.{Timetable}
-use Rattle.file_layout.specs.declared.Checked.{Checked}
-use Rattle.file_layout.specs.declared.Checked.the-variants.{Sound, Refused}
-use Rattle.file_layout.specs.Check.{checked}
+use Rattle.timetable.specs.Verdict.{byVerdict}
+use Rattle.file_layout.specs.declared.Format.{Format}
 use Rattle.file_layout.specs.Decode.{decode}
-use Rattle.file_layout.specs.Format.{versionOne}
-use Rattle.numbers.specs.Numbers.{u16At}
 use Rattle.query.specs.declared.Query.{Query}
+use Rattle.query.specs.Query.{queryIn}
 use Rattle.plans.specs.Worth.{Valued}
 use Rattle.plans.specs.Plan.{Plan, planned}
-use Rattle.planner.specs.Outcome.{journeyRule, codeRule}
+use Rattle.planner.specs.Admission.{noRoom, admission}
 use Rattle.text.specs.Decimal.{numberText}
 use Rattle.clock.specs.Clock.{roundedUp}
 use Rattle.clock.specs.Text.{blank, timeText}
@@ -65,26 +60,15 @@ firstText rides expected last =
 unfoldable pub planText : Plan → List ℕ
 planText p = firstText (length (p .rides)) (p .expected) (p .last) ++ ridesText (p .rides)
 
--- source, target, T, q as u16
-unfoldable pub queryOf : List ℕ → Query
-queryOf query = record { source = u16At query 0; target = u16At query 2; minute = u16At query 4; code = u16At query 6 }
-
 -- A planning refusal prints alike
 unfoldable pub plannedText : Option Plan → List ℕ
 plannedText none = refusedText 8
 plannedText (some p) = planText p
 
-unfoldable pub askedText : Timetable → Query → List ℕ
-askedText t q = cond (journeyRule versionOne (t .stops) q && codeRule q) (plannedText (planned t q)) (refusedText 6)
+-- any refusal prints its number: 1 to 6 in their order, as all the room there need be is lent; then the plan or 8
+unfoldable pub askedText : Format → List ℕ → Query → List ℕ
+askedText f sailings q =
+    byVerdict (λ number place. refusedText number) (plannedText (planned (decode f sailings) q)) (admission f sailings q noRoom noRoom)
 
--- `query` not of 8 bytes is 6 in its usual place
-unfoldable pub soundText : Timetable → List ℕ → List ℕ
-soundText t query = cond (eqb (length query) 8) (askedText t (queryOf query)) (refusedText 6)
-
--- A checked file goes on to planning; any other answer prints its number at once
-unfoldable pub checkedText : List ℕ → List ℕ → Checked → List ℕ
-checkedText sailings query (Sound stops rows classes) = soundText (decode versionOne sailings) query
-checkedText sailings query (Refused number place) = refusedText number
-
-unfoldable pub sheetText : List ℕ → List ℕ → List ℕ
-sheetText sailings query = checkedText sailings query (checked sailings)
+unfoldable pub sheetText : Format → (sailings query : List ℕ) → List ℕ
+sheetText f sailings query = askedText f sailings (queryIn query)

@@ -1,33 +1,40 @@
 // Document 01, "The sheet": the text for a file of sailings and a query, written into lent bytes.
-ghost use mathlib.Core.List.{_++_};
 ghost use mathlib.Core.Path.{_≡_};
 ghost use Prim.Native.Nat.{_+_, _*_, _≤_, _<_};
-ghost use lib.ListN.{length};
+ghost use lib.ListN.{length, take};
 ghost use Rattle.timetable.specs.Timetable.{rowOf};
-ghost use Rattle.timetable.specs.Verdict.{fine};
-ghost use Rattle.file_layout.specs.Check.{answerOf, fileVerdict};
+ghost use Rattle.file_layout.specs.declared.Checked.the-variants.{Sound};
+ghost use Rattle.file_layout.specs.Check.{answerOf, checkedAs};
 ghost use Rattle.file_layout.specs.Decode.{decode, trailerOf};
 ghost use Rattle.file_layout.specs.Format.{versionOne};
 ghost use Rattle.file_layout.specs.Small.{SmallRow};
 ghost use Rattle.file_layout.specs.Sound.{SoundFile};
 ghost use Rattle.clock.specs.Text.{timeText, widest};
-ghost use Rattle.sheet_text.specs.Sheet.{askedText, callText, expectedText, firstText, lineText, queryOf, refusedText};
+ghost use Rattle.sheet_text.specs.Sheet.{askedText, callText, expectedText, firstText, lineText, refusedText, ridesText};
 ghost use Rattle.text.specs.Put.{Put, numberWidth};
+ghost use Rattle.rooms.specs.Rooms.{zeros};
 ghost use Rattle.sheet_text.specs.Room.{firstWidth, lineWidth, sheetRoom};
-ghost use Rattle.sheet_text.specs.Lines.{RidesIn, linesIn};
+ghost use Rattle.plan_rows.specs.Sections.{Plannable};
+ghost use Rattle.plan_slice.specs.Slice.{RidesFit, ridesIn};
 ghost use Rattle.sheet_text.specs.Outcome.{sheetOutcome};
 use clock::Minute;
-use file_check::check;
+use file_check::check_as;
 use file_layout::Checked;
+use file_layout::Format;
+use file_layout::Trailer;
 use file_layout::VERSION_ONE;
 use file_layout::row_at;
-use file_layout::trailer_at;
 use numbers::cell;
 use numbers::number;
-use numbers::u16_at;
+use plan_slice::board_of;
+use plan_slice::leave_of;
+use plan_slice::worth_of;
 use plan_whole::Planned;
-use planner::plan;
+use planner::plan_checked;
 use query::Query;
+use query::query_in;
+use rooms::plan_room;
+use rooms::work_room;
 use text::put_byte;
 use text::put_number;
 use text::put_text;
@@ -41,6 +48,12 @@ pub enum Sheeted {
 
 // Enough for a first line and 2,000 rides.
 pub const SHEET_ROOM: usize = 174056;
+
+pub fn sheet_room() -> [u8; SHEET_ROOM]
+    ensures { λ r. ⌜ (r ≡ zeros sheetRoom) × (length r ≡ sheetRoom) ⌝ }
+{
+    [0u8; SHEET_ROOM]
+}
 
 fn put_time(out: &mut [u8], at: usize, time: Minute) -> usize
     requires { ⌜ at + widest ≤ length (now out) ⌝ }
@@ -112,64 +125,39 @@ fn put_first(out: &mut [u8], rides: usize, expected: u32, latest: u32) -> usize
     put_byte(out, next, b'\n')
 }
 
-// Row number `i` of a sound file.
-fn row_of(sailings: &[u8], i: usize) -> Row
-    requires { ⌜ SoundFile versionOne (now sailings) × (i < trailerOf versionOne (now sailings) .rows) ⌝ }
-    ensures { λ r. ⌜ (r ≡ rowOf (decode versionOne (now (sailings .entry)) .rows) i) × SmallRow r ⌝ }
+// Row number `i` of a sound file, which has this trailer.
+fn row_of(sailings: &[u8], f: Format, trailer: Trailer, i: usize) -> Row
+    requires { ⌜ SoundFile f (now sailings) × (trailer ≡ trailerOf f (now sailings)) × (i < trailer .rows) ⌝ }
+    ensures { λ r. ⌜ (r ≡ rowOf (decode f (now (sailings .entry)) .rows) i) × SmallRow r ⌝ }
 {
-    let head = trailer_at(sailings, sailings.len() - VERSION_ONE.trailer);
-    row_at(sailings, head.rowstart + VERSION_ONE.width * i)
+    row_at(sailings, trailer.rowstart + f.width * i)
 }
 
-// A line a ride, from `at` on.
-fn put_rides(sailings: &[u8], plan: &[u32], rides: usize, out: &mut [u8], at: usize) -> usize
-    requires { ⌜ SoundFile versionOne (now sailings) × RidesIn (trailerOf versionOne (now sailings) .rows) (now plan) rides ⌝ }
+// A line a ride of the plan slice, from `at` on.
+fn put_rides(
+    sailings: &[u8],
+    f: Format,
+    trailer: Trailer,
+    plan: &[u32],
+    rides: usize,
+    out: &mut [u8],
+    at: usize,
+) -> usize
+    requires { ⌜ SoundFile f (now sailings) × (trailer ≡ trailerOf f (now sailings)) × RidesFit (trailer .rows) (now plan) rides ⌝ }
     requires { ⌜ at + rides * lineWidth ≤ length (now out) ⌝ }
     ensures { λ r. ⌜ Put (now (out .entry)) at
-        (linesIn (decode versionOne (now (sailings .entry)) .rows) (now (plan .entry)) 0 rides)
+        (ridesText (ridesIn (decode f (now (sailings .entry))) (take (3 * rides) (now (plan .entry)))))
         (now (out .exit)) r × (r ≤ length (now (out .entry))) ⌝ }
 {
     let mut next = at;
     let mut i = 0;
     while i < rides {
-        let board = row_of(sailings, number(plan[3 * i]));
-        let leave = row_of(sailings, number(plan[3 * i + 1]));
-        next = put_line(out, next, board, leave, plan[3 * i + 2]);
+        let board = row_of(sailings, f, trailer, number(board_of(plan, i)));
+        let leave = row_of(sailings, f, trailer, number(leave_of(plan, i)));
+        next = put_line(out, next, board, leave, worth_of(plan, i));
         i += 1;
     }
     next
-}
-
-// The plan in a slice of three numbers a ride.
-fn put_plan(
-    sailings: &[u8],
-    plan: &[u32],
-    rides: usize,
-    expected: u32,
-    latest: u32,
-    out: &mut [u8],
-) -> usize
-    requires { ⌜ SoundFile versionOne (now sailings) × RidesIn (trailerOf versionOne (now sailings) .rows) (now plan) rides ⌝ }
-    requires { ⌜ firstWidth + rides * lineWidth ≤ length (now out) ⌝ }
-    ensures { λ r. ⌜ Put (now (out .entry)) 0
-        (firstText rides expected latest ++ linesIn (decode versionOne (now (sailings .entry)) .rows) (now (plan .entry)) 0 rides)
-        (now (out .exit)) r × (r ≤ length (now (out .entry))) ⌝ }
-{
-    let next = put_first(out, rides, expected, latest);
-    put_rides(sailings, plan, rides, out, next)
-}
-
-// The query's four numbers.
-fn query_in(query: &[u8]) -> Query
-    requires { ⌜ length (now query) ≡ 8 ⌝ }
-    ensures { λ r. ⌜ r ≡ queryOf (now (query .entry)) ⌝ }
-{
-    Query {
-        source: cell(u16_at(query, 0)),
-        target: cell(u16_at(query, 2)),
-        minute: cell(u16_at(query, 4)),
-        code: cell(u16_at(query, 6)),
-    }
 }
 
 // The number of a refusal; a sound file has none.
@@ -177,35 +165,19 @@ fn refusal_of(checked: Checked) -> usize
     ensures { λ r. ⌜ r ≡ answerOf checked .number ⌝ }
 {
     match checked {
-        Checked::Sound {
-            stops: _,
-            rows: _,
-            classes: _,
-        } => 0,
+        Checked::Sound { trailer: _ } => 0,
         Checked::Refused { number, place: _ } => number,
     }
 }
 
-// Work for the most rows that there can be, 4n + 2,500 numbers.
-fn work_cells() -> [u32; 10500] {
-    [0u32; 10500]
-}
-
-// A plan of the most rides that there can be, 3n numbers.
-fn plan_cells() -> [u32; 6000] {
-    [0u32; 6000]
-}
-
 // The sheet of a sound file and a query: a plan or a planning refusal.
-fn put_planned(sailings: &[u8], q: Query, out: &mut [u8]) -> usize
-    requires { ⌜ (fileVerdict versionOne (now sailings) ≡ fine) × (sheetRoom ≤ length (now out)) ⌝ }
-    ensures { λ r. ⌜ Put (now (out .entry)) 0
-        (askedText (decode versionOne (now (sailings .entry))) q)
-        (now (out .exit)) r × (r ≤ length (now (out .entry))) ⌝ }
+fn put_planned(sailings: &[u8], f: Format, trailer: Trailer, q: Query, out: &mut [u8]) -> usize
+    requires { ⌜ Plannable f × (checkedAs f (now sailings) ≡ Sound trailer) × (sheetRoom ≤ length (now out)) ⌝ }
+    ensures { λ r. ⌜ Put (now (out .entry)) 0 (askedText f (now (sailings .entry)) q) (now (out .exit)) r × (r ≤ length (now (out .entry))) ⌝ }
 {
-    let mut work = work_cells();
-    let mut rides = plan_cells();
-    let planned = plan(sailings, q, &mut work, &mut rides);
+    let mut work = work_room();
+    let mut rides = plan_room();
+    let planned = plan_checked(sailings, f, trailer, q, &mut work, &mut rides);
     match planned {
         Planned::Refused {
             number: refusal,
@@ -216,33 +188,36 @@ fn put_planned(sailings: &[u8], q: Query, out: &mut [u8]) -> usize
             expected,
             latest,
             bound: _,
-        } => put_plan(sailings, &rides, number(count), expected, latest, out),
+        } => {
+            let count = number(count);
+            let next = put_first(out, count, expected, latest);
+            put_rides(sailings, f, trailer, &rides, count, out, next)
+        }
     }
 }
 
 // The sheet of a file of sailings and a query, from the first byte of `out` on; bytes beyond it stay.
-// A checked file goes on to planning; any other answer prints its number at once.
 pub fn sheet(sailings: &[u8], query: &[u8], out: &mut [u8]) -> Sheeted
-    ensures { λ r. ⌜ (r ≡ sheetOutcome (now (sailings .entry)) (now (query .entry)) (now (out .entry)) .answer)
-        × (now (out .exit) ≡ sheetOutcome (now (sailings .entry)) (now (query .entry)) (now (out .entry)) .out) ⌝ }
+    ensures { λ r. ⌜ (r ≡ sheetOutcome versionOne (now (sailings .entry)) (now (query .entry)) (now (out .entry)) .answer)
+        × (now (out .exit) ≡ sheetOutcome versionOne (now (sailings .entry)) (now (query .entry)) (now (out .entry)) .out) ⌝ }
+{
+    sheet_as(sailings, VERSION_ONE, query, out)
+}
+
+// The sheet of a file of a version: a checked file goes on to planning; any other answer prints its number at once.
+fn sheet_as(sailings: &[u8], f: Format, query: &[u8], out: &mut [u8]) -> Sheeted
+    requires { ⌜ Plannable f ⌝ }
+    ensures { λ r. ⌜ (r ≡ sheetOutcome f (now (sailings .entry)) (now (query .entry)) (now (out .entry)) .answer)
+        × (now (out .exit) ≡ sheetOutcome f (now (sailings .entry)) (now (query .entry)) (now (out .entry)) .out) ⌝ }
 {
     if out.len() < SHEET_ROOM {
         return Sheeted::NoRoom;
     }
-    let checked = check(sailings);
-    let Checked::Sound {
-        stops: _,
-        rows: _,
-        classes: _,
-    } = checked
-    else {
+    let checked = check_as(sailings, f);
+    let Checked::Sound { trailer } = checked else {
         let end = put_refused(out, refusal_of(checked));
         return Sheeted::Text { end };
     };
-    if query.len() != 8 {
-        let end = put_refused(out, 6);
-        return Sheeted::Text { end };
-    }
-    let end = put_planned(sailings, query_in(query), out);
+    let end = put_planned(sailings, f, trailer, query_in(query), out);
     Sheeted::Text { end }
 }

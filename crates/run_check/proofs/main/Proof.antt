@@ -28,8 +28,8 @@ returns c = search needs
 loop-holds : tie.Need-loop-holds Inv-loop μ-loop
 loop-holds c = search needs
 
-print-one-requires : tie.Need-print-one-requires Inv-loop μ-loop
-print-one-requires c κs = search needs
+print-next-requires : tie.Need-print-next-requires Inv-loop μ-loop
+print-next-requires c κs = search needs
 
 returns-2 : tie.Need-returns-2 Inv-loop μ-loop
 returns-2 c = search needs
@@ -58,7 +58,7 @@ main-spec =
     fail-requires
     returns
     loop-holds
-    print-one-requires
+    print-next-requires
     returns-2
     add-place
     loop-less

@@ -1,14 +1,14 @@
--- `run_explain::main` is safe and ends: as many pairs as the file says. Assumes nothing.
+-- `run_explain::main` is safe and ends: no more than a thousand pairs. Assumes nothing.
 use Prim.Native.Nat.{_≤_, _-_}
 use borrow.Author.Needs.{needs}
 use Rattle.run_explain.proofs.main.Statement.{statement}
 use Rattle.run_explain.proofs.main.Tie as tie
 
 abbrev Inv-loop : tie.InvT-loop
-Inv-loop fd count place₀ place = place ≤ count
+Inv-loop fd place₀ place = place ≤ 1000
 
 abbrev μ-loop : tie.MeasureT-loop
-μ-loop fd count place₀ place = count - place
+μ-loop fd place₀ place = 1000 - place
 
 slice-aggregate-open-read : tie.Need-slice-aggregate-open-read Inv-loop μ-loop
 slice-aggregate-open-read c = search needs
@@ -16,14 +16,23 @@ slice-aggregate-open-read c = search needs
 open-read-requires : tie.Need-open-read-requires Inv-loop μ-loop
 open-read-requires c κs = search needs
 
-next-number-requires : tie.Need-next-number-requires Inv-loop μ-loop
-next-number-requires c κs = search needs
+slice-aggregate-fail : tie.Need-slice-aggregate-fail Inv-loop μ-loop
+slice-aggregate-fail c = search needs
+
+fail-requires : tie.Need-fail-requires Inv-loop μ-loop
+fail-requires c κs = search needs
+
+returns : tie.Need-returns Inv-loop μ-loop
+returns c = search needs
 
 loop-holds : tie.Need-loop-holds Inv-loop μ-loop
 loop-holds c = search needs
 
 explain-next-requires : tie.Need-explain-next-requires Inv-loop μ-loop
 explain-next-requires c κs = search needs
+
+returns-2 : tie.Need-returns-2 Inv-loop μ-loop
+returns-2 c = search needs
 
 add-place : tie.Need-add-place Inv-loop μ-loop
 add-place c = search needs
@@ -34,8 +43,8 @@ loop-less c = search needs
 loop-again : tie.Need-loop-again Inv-loop μ-loop
 loop-again c = search needs
 
-returns : tie.Need-returns Inv-loop μ-loop
-returns c = search needs
+returns-3 : tie.Need-returns-3 Inv-loop μ-loop
+returns-3 c = search needs
 
 pub main-spec : {M : Type 1} → statement M
 main-spec =
@@ -45,10 +54,13 @@ main-spec =
     μ-loop
     slice-aggregate-open-read
     open-read-requires
-    next-number-requires
+    slice-aggregate-fail
+    fail-requires
+    returns
     loop-holds
     explain-next-requires
+    returns-2
     add-place
     loop-less
     loop-again
-    returns)
+    returns-3)

@@ -1,0 +1,2 @@
+-- What a reading of a broken file settles.
+pub mod Settled

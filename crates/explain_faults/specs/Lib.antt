@@ -1,0 +1,3 @@
+-- What is told of a broken file.
+pub mod OwnFault
+pub mod Broken

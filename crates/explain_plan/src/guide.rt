@@ -1,0 +1,91 @@
+// A plan in words that a clerk can follow.
+ghost use Rattle.file_layout.specs.Small.{SmallRow};
+use explain_faults::row_in;
+use explain_words::say;
+use explain_words::say_number;
+use explain_words::say_time;
+use file_layout::Trailer;
+use numbers::number;
+use plan_slice::board_of;
+use plan_slice::leave_of;
+use timetable::Row;
+
+// A ride by the rows where it boards and where it leaves.
+struct Ride {
+    board: Row,
+    leave: Row,
+}
+
+// The first ride of a plan, then for each stop what to take there.
+pub fn print_plan(file: &[u8], trailer: Trailer, plan: &[u32], rides: usize) {
+    let first = ride_in(file, trailer.rowstart, plan, 0);
+    say_number(b"From stop ", first.board.board);
+    print_ride(first);
+    say(b".\n");
+    print_landings(file, trailer.rowstart, plan, rides, trailer.stops);
+}
+
+// Ride number `place` of the plan.
+fn ride_in(file: &[u8], start: usize, plan: &[u32], place: usize) -> Ride
+    ensures { λ r. ⌜ SmallRow (r .board) × SmallRow (r .leave) ⌝ }
+{
+    if place < plan.len() / 3 {
+        let board = row_in(file, start, number(board_of(plan, place)));
+        let leave = row_in(file, start, number(leave_of(plan, place)));
+        return Ride { board, leave };
+    }
+    let none = row_in(file, start, 0);
+    Ride {
+        board: none,
+        leave: none,
+    }
+}
+
+// Stop by stop, the rides that a passenger who lands there can take.
+fn print_landings(file: &[u8], start: usize, plan: &[u32], rides: usize, stops: usize) {
+    let mut stop = 0;
+    while stop < stops {
+        print_landing(file, start, plan, rides, stop);
+        stop += 1;
+    }
+}
+
+// The rides behind the first that board at `stop`, each for those who land by its minute.
+fn print_landing(file: &[u8], start: usize, plan: &[u32], rides: usize, stop: usize) {
+    let mut found = false;
+    let mut place = 1;
+    while place < rides {
+        let ride = ride_in(file, start, plan, place);
+        place += 1;
+        if ride.board.board == stop {
+            print_choice(stop, found, ride);
+            found = true;
+        }
+    }
+    if found {
+        say(b".\n");
+    }
+}
+
+// A ride to take at a stop, the first that is named there or a further one.
+fn print_choice(stop: usize, further: bool, ride: Ride)
+    requires { ⌜ SmallRow (ride .board) × SmallRow (ride .leave) ⌝ }
+{
+    if further {
+        say(b";");
+    } else {
+        say_number(b"Landing at stop ", stop);
+    }
+    say_time(b" by ", ride.board.departure);
+    say(b",");
+    print_ride(ride);
+}
+
+fn print_ride(ride: Ride)
+    requires { ⌜ SmallRow (ride .board) × SmallRow (ride .leave) ⌝ }
+{
+    say_time(b" take the ", ride.board.departure);
+    say_number(b" (trip ", ride.board.trip);
+    say_number(b") to stop ", ride.leave.land);
+    say_time(b", due at ", ride.leave.arrival);
+}

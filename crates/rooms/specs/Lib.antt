@@ -1,0 +1,2 @@
+-- How many numbers and bytes are lent.
+pub mod Rooms
