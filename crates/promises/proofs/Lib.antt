@@ -3,3 +3,7 @@ pub mod Admitted
 pub mod PlanCall
 pub mod ArrivalCall
 pub mod Minutes
+pub mod HostReads
+pub mod DeskCall
+pub mod ShutOut
+pub mod SheetCall

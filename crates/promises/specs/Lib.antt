@@ -1,0 +1,2 @@
+-- What a planner must do to meet the contract.
+pub mod Planner
