@@ -111,7 +111,8 @@ module _ (f : Format) (file : List ℕ) (trailer : Trailer) (q : Query) (work pl
       let h = trailerOf f file in
       same-admission f file q (workRoom (length work)) (planRoom (length plan)) noRoom noRoom
       (λ checked.
-      both (room-enough (workRoom (length work)) h (omega (arith, holds .rows-few))) (room-enough (planRoom (length plan)) h (omega (arith, holds .rows-few)))
+      both (room-enough (workRoom (length work)) h (omega (arith, holds .rows-few)))
+      (room-enough (planRoom (length plan)) h (omega (arith, holds .rows-few)))
       ∙ sym (both (room-enough noRoom h (omega arith)) (room-enough noRoom h (omega arith))))
 
   abbrev given : Verdict

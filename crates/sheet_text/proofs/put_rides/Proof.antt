@@ -18,7 +18,8 @@ use Rattle.sheet_text.proofs.put_rides.Tie as tie
 abbrev Inv-loop : tie.InvT-loop
 Inv-loop sailings f trailer plan rides out₀ at next₀ i₀ out next i =
     Left out₀ at (ridesText (ridesIn (decode f sailings) (take (3 * rides) plan))) out next
-    (ridesText (drop i (ridesIn (decode f sailings) (take (3 * rides) plan)))) × (length out ≡ length out₀) × (next ≤ at + i * lineWidth) × (i ≤ rides)
+    (ridesText (drop i (ridesIn (decode f sailings) (take (3 * rides) plan)))) × (length out ≡ length out₀) × (next ≤ at + i * lineWidth)
+    × (i ≤ rides)
 
 abbrev μ-loop : tie.MeasureT-loop
 μ-loop sailings f trailer plan rides out₀ at next₀ i₀ out next i = rides - i
@@ -42,7 +43,8 @@ row-of-requires : tie.Need-row-of-requires Inv-loop μ-loop
 row-of-requires c κs =
     let start = c .before .before .before .before .before .before .before in
     let turn = c .before .before .before in
-    (start .pre .0 .0, start .pre .0 .1, omega (arith, c .number .ensures .0, c .before .board-of .ensures, start .pre .0 .2 .boards (turn .loop .i) (omega arith)))
+    let there = start .pre .0 .2 .boards (turn .loop .i) (omega arith) in
+    (start .pre .0 .0, start .pre .0 .1, omega (arith, c .number .ensures .0, c .before .board-of .ensures, there))
 
 leave-of-requires : tie.Need-leave-of-requires Inv-loop μ-loop
 leave-of-requires c κs = omega (arith, c .before .before .before .before .before .before .before .before .pre .0 .2 .room)
@@ -54,22 +56,27 @@ row-of-requires-2 : tie.Need-row-of-requires-2 Inv-loop μ-loop
 row-of-requires-2 c κs =
     let start = c .before .before .before .before .before .before .before .before .before .before in
     let turn = c .before .before .before .before .before .before in
-    (start .pre .0 .0, start .pre .0 .1, omega (arith, c .number2 .ensures .0, c .before .leave-of .ensures, start .pre .0 .2 .leaves (turn .loop .i) (omega arith)))
+    let there = start .pre .0 .2 .leaves (turn .loop .i) (omega arith) in
+    (start .pre .0 .0, start .pre .0 .1, omega (arith, c .number2 .ensures .0, c .before .leave-of .ensures, there))
 
 worth-of-requires : tie.Need-worth-of-requires Inv-loop μ-loop
-worth-of-requires c κs = omega (arith, c .before .before .before .before .before .before .before .before .before .before .before .before .pre .0 .2 .room)
+worth-of-requires c κs =
+    let turn = c .before .before .before .before .before .before .before .before in
+    omega (arith, turn .before .before .before .before .pre .0 .2 .room)
 
 put-line-requires : tie.Need-put-line-requires Inv-loop μ-loop
 put-line-requires c κs =
     let turn = c .before .before .before .before .before .before .before .before .before in
     let leave = c .before .before in (
-      omega (arith, turn .loop .inv .1, turn .loop .inv .2, c .before .before .before .before .before .before .before .before .before .before .before .before .before .pre .1),
+      omega (arith, turn .loop .inv .1, turn .loop .inv .2, turn .before .before .before .before .pre .1),
       leave .before .before .before .row-of .ensures .1 .departure,
       leave .row-of2 .ensures .1 .arrival,
     )
 
 add-i : tie.Need-add-i Inv-loop μ-loop
-add-i c = omega (arith, c .before .before .before .before .before .before .before .before .before .before .before .loop-test .taken, c .before .before .before .before .before .before .before .before .before .before .before .before .before .before .before .before .fits .rides)
+add-i c =
+    let more = c .before .before .before .before .before .before .before .before .before .before .before in
+    omega (arith, more .loop-test .taken, more .before .before .before .before .before .fits .rides)
 
 loop-less : tie.Need-loop-less Inv-loop μ-loop
 loop-less c = search needs
@@ -85,9 +92,11 @@ loop-again c =
     let start = turn .before .before .before .before in
     let a = start .args in
     let t : Timetable = decode (a .f) (a .sailings .now) in
-    let same = line-read t (a .plan .now) (turn .loop .i) (board .row-of .ensures .0) (board .before .number .ensures .0 ∙ board .before .before .board-of .ensures)
+    let same = line-read t (a .plan .now) (turn .loop .i) (board .row-of .ensures .0)
+    (board .before .number .ensures .0 ∙ board .before .before .board-of .ensures)
     (leave .row-of2 .ensures .0) (leave .before .number2 .ensures .0 ∙ leave .before .before .leave-of .ensures) (worth .worth-of .ensures) in (
-      lines-on t (a .plan .now) (a .rides) (start .pre .0 .2 .room) (turn .loop .i) (more .loop-test .taken) (turn .loop .inv .0) same (put .put-line .ensures .0),
+      lines-on t (a .plan .now) (a .rides) (start .pre .0 .2 .room) (turn .loop .i) (more .loop-test .taken) (turn .loop .inv .0) same
+          (put .put-line .ensures .0),
       put-length (put .put-line .ensures .0) ∙ turn .loop .inv .1,
       omega (arith, put .put-line .ensures .1, turn .loop .inv .2),
       omega (arith, more .loop-test .taken),
