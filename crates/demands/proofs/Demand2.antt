@@ -11,7 +11,7 @@ use Rattle.timetable.specs.Timetable.{Timetable, rowOf}
 use Rattle.plans.specs.declared.Goal.{Goal}
 use Rattle.plans.specs.Sound.{Timely}
 use Rattle.query.specs.declared.Query.{Query}
-use Rattle.plans.specs.Rides.{Ride, IsRide, latest, opens, boards}
+use Rattle.plans.specs.Rides.{Ride, IsRide, landsBy, opens, boards}
 use Rattle.plans.specs.Journeys.{goalOf, Onward, Begins, Journey, IsEarliest, boundOf, within, CodeStands}
 use Rattle.plans.specs.Worth.{Valued, ridesOf, valued, firstOpen, landWorth}
 use Rattle.plans.specs.Plan.{Plan, planned, earliest, chosenFor}
@@ -115,7 +115,7 @@ module _ (t : Timetable) (timely : Timely t) (q : Query) where
 
     -- its latest minute is the largest a + M of its rides
     pub latest-minute :
-        ((v : Valued) → List·Memᴰ v (p .rides) → latest (v .ride) ≤ p .last) × ((v : Valued) × List·Memᴰ v (p .rides) × (latest (v .ride) ≡ p .last))
+        ((v : Valued) → List·Memᴰ v (p .rides) → landsBy (v .ride) ≤ p .latest) × ((v : Valued) × List·Memᴰ v (p .rides) × (landsBy (v .ride) ≡ p .latest))
     latest-minute = plan-last t timely q p (plan-made t q p is-plan)
 
     -- no safe plan within the same bound has a smaller expected arrival

@@ -69,7 +69,7 @@ module _ {t : Timetable} (timely : Timely t) (q : Query) where
 
   module _ (p : Plan) (is-planned : planned t q ≡ some p) where
     -- the plan carries its passengers by its latest minute, with its expected ticks
-    pub plan-carries : Carries q (ridesOf (p .rides)) (p .last) (p .expected)
+    pub plan-carries : Carries q (ridesOf (p .rides)) (p .latest) (p .expected)
     plan-carries =
         let made = plan-made t q p is-planned in
         subst (λ (last : ℕ). Carries q (ridesOf (p .rides)) last (p .expected)) (sym (made .ends))

@@ -10,7 +10,7 @@ use Rattle.demands.proofs.Demand2 as demand2
 use Rattle.demands.proofs.Demand3 as demand3
 
 pub plan-demanded : (t : Timetable) → Timely t → (q : Query) (p : Plan) → planned t q ≡ some p
-    → Demanded t q (p .rides) (p .expected) (p .last) (p .bound)
+    → Demanded t q (p .rides) (p .expected) (p .latest) (p .bound)
 plan-demanded t timely q p is =
     record {
       bounded = demand2.bounded t timely q p is;

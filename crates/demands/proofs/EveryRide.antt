@@ -15,7 +15,7 @@ use Rattle.laws.proofs.Tests.{ifb, either}
 use Rattle.laws.proofs.Options.{same-thing}
 use Rattle.laws.proofs.Members.{head-or-later}
 use Rattle.timetable.specs.Timetable.{longest}
-use Rattle.plans.specs.Rides.{Ride, latest, boards}
+use Rattle.plans.specs.Rides.{Ride, landsBy, boards}
 use Rattle.plans.specs.Worth.{Valued, firstOpen, ridesOf}
 use Rattle.plans.specs.Plan.{Window, inWindow, wanted, upTo, windowsOf, extract}
 use Rattle.demands.specs.Walk.{Sailed, Delayed, delay-first}
@@ -49,16 +49,16 @@ up-to-is stop minute (some v) there = (v, refl, List·Memᴰ·eq-of-singleton th
 pub record Opened (target : ℕ) (r : Ride) (behind : List Valued) (w : Window) : Type 0 where
   pub away : r .to ≢ target
   pub safe : Valued
-  pub is-first : firstOpen behind (r .to) (latest r) ≡ some safe
+  pub is-first : firstOpen behind (r .to) (landsBy r) ≡ some safe
   pub is : w ≡ record { stop = r .to; minute = r .arrives; until = safe .ride .departs }
 
 pub window-opened : (target : ℕ) (r : Ride) (behind : List Valued) {w : Window} → List·Memᴰ w (windowsOf target r behind) → Opened target r behind w
 unfolding windowsOf
 window-opened target r behind {w} there =
-    ifb (λ b. eqb (r .to) target ≡ b → List·Memᴰ w (cond b [] (upTo (r .to) (r .arrives) (firstOpen behind (r .to) (latest r))))
+    ifb (λ b. eqb (r .to) target ≡ b → List·Memᴰ w (cond b [] (upTo (r .to) (r .arrives) (firstOpen behind (r .to) (landsBy r))))
     → Opened target r behind w)
     (eqb (r .to) target) (λ _ _ none-there. absurd (List·Memᴰ·not-nil none-there))
-    (λ e _ in-it. let found = up-to-is (r .to) (r .arrives) (firstOpen behind (r .to) (latest r)) in-it in
+    (λ e _ in-it. let found = up-to-is (r .to) (r .arrives) (firstOpen behind (r .to) (landsBy r)) in-it in
     record { away = eqb-false (r .to) target e; safe = found .0; is-first = found .1; is = found .2 }) refl there
 
 -- no ride that can be boarded departs before the first
@@ -92,9 +92,9 @@ record Landing (u r : Ride) (sailed : List Sailed) : Type 0 where
 -- one who would meet r from a minute meets it by landing then, or at a + M if that is sooner and nothing departs between
 landing :
     (u : Ride) {r : Ride} {sailed : List Sailed} {minute : ℕ} → 0 < length (u .shares) → u .arrives ≤ minute
-    → ((s : Sailed) → List·Memᴰ s sailed → boards (s .ride) (u .to) (latest u) ≡ true → minute ≤ s .ride .departs)
+    → ((s : Sailed) → List·Memᴰ s sailed → boards (s .ride) (u .to) (landsBy u) ≡ true → minute ≤ s .ride .departs)
     → Meets r sailed (u .to) minute → Landing u r sailed
-landing u {r} {sailed} {minute} some-share from none-between meets = pick (decLe minute (latest u))
+landing u {r} {sailed} {minute} some-share from none-between meets = pick (decLe minute (landsBy u))
   where
     in-range : (a m n : ℕ) → 0 < n → m ≤ a + pred n → a ≤ m → m - a < n
     in-range a m n positive before from = omega arith
@@ -102,7 +102,7 @@ landing u {r} {sailed} {minute} some-share from none-between meets = pick (decLe
     last-share : (n : ℕ) → 0 < n → pred n < n
     last-share n positive = omega arith
 
-    pick : Dec (minute ≤ latest u) → Landing u r sailed
+    pick : Dec (minute ≤ landsBy u) → Landing u r sailed
     pick (yes before) =
         record {
           delay = minute - u .arrives;
@@ -114,9 +114,9 @@ landing u {r} {sailed} {minute} some-share from none-between meets = pick (decLe
           delay = longest (u .shares);
           below = last-share (length (u .shares)) some-share;
           meets =
-              meets-sooner (latest u) (omega (arith, after))
+              meets-sooner (landsBy u) (omega (arith, after))
               (λ s there opens.
-              can-board (s .ride) (u .to) minute (boards-stop (s .ride) (u .to) (latest u) opens) (none-between s there opens))
+              can-board (s .ride) (u .to) minute (boards-stop (s .ride) (u .to) (landsBy u) opens) (none-between s there opens))
               meets;
         }
 
@@ -177,14 +177,14 @@ module _ {ws : List Window} {u : Valued} {behind taken : List Valued} (w : Windo
       }
     where
       none-between :
-          (s : Sailed) → List·Memᴰ s (e .sailed) → boards (s .ride) (u .ride .to) (latest (u .ride)) ≡ true
+          (s : Sailed) → List·Memᴰ s (e .sailed) → boards (s .ride) (u .ride .to) (landsBy (u .ride)) ≡ true
           → e .first .ride .departs ≤ s .ride .departs
       none-between s there opens =
           omega (
             arith,
             window-until (e .window) (e .first .ride) (e .in-window),
             ap (λ x. x .until) (opened .is),
-            taken-after behind taken ordered part (u .ride .to) (latest (u .ride)) (opened .is-first) (e .delayed) s there opens,
+            taken-after behind taken ordered part (u .ride .to) (landsBy (u .ride)) (opened .is-first) (e .delayed) s there opens,
           )
 
       landed : Landing (u .ride) r (e .sailed)

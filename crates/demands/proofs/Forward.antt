@@ -9,7 +9,7 @@ use lib.Dec.{T}
 use lib.ListN.{length}
 use Rattle.laws.proofs.Tests.{T-true, true-T}
 use Rattle.timetable.specs.Classes.{sum, whole}
-use Rattle.plans.specs.Rides.{Ride, latest, boards}
+use Rattle.plans.specs.Rides.{Ride, landsBy, boards}
 use Rattle.plans.proofs.Open.{boards-earlier}
 
 -- one ride, and the rides behind it
@@ -32,7 +32,7 @@ pub data Served (target : ℕ) (rides : List Ride) (stop minute : ℕ) : Type 0 
 pub data Forward (target : ℕ) : List Ride → Type 0 where
   none : Forward target []
   one :
-      {r : Ride} {behind : List Ride} → Timed target r behind → Served target behind (r .to) (latest r) → Forward target behind
+      {r : Ride} {behind : List Ride} → Timed target r behind → Served target behind (r .to) (landsBy r) → Forward target behind
       → Forward target (r ∷ behind)
 
 pub forward-timed : {target : ℕ} {rides : List Ride} → Forward target rides → AllTimed target rides
@@ -56,13 +56,13 @@ served-behind {r = r} {stop = stop} {minute = minute} shut (onward next (List·M
 served-behind shut (onward next (List·Memᴰ·tail among) opens) = onward next among opens
 
 -- a landing within the ride's delays is no later than a + M
-pub landing-latest : (r : Ride) (minute : ℕ) → r .arrives ≤ minute → minute < r .arrives + length (r .shares) → minute ≤ latest r
+pub landing-latest : (r : Ride) (minute : ℕ) → r .arrives ≤ minute → minute < r .arrives + length (r .shares) → minute ≤ landsBy r
 landing-latest r minute = up-to (r .arrives) minute (length (r .shares))
   where
     up-to : (a m n : ℕ) → a ≤ m → m < a + n → m ≤ a + pred n
     up-to a m n from below = omega arith
 
-pub delay-latest : (r : Ride) (v : ℕ) → v < length (r .shares) → r .arrives + v ≤ latest r
+pub delay-latest : (r : Ride) (v : ℕ) → v < length (r .shares) → r .arrives + v ≤ landsBy r
 delay-latest r v within = landing-latest r (r .arrives + v) (omega arith) (omega arith)
 
 pub rides-forward : {target : ℕ} {rides : List Ride} → AllTimed target rides → (r : Ride) → List·Memᴰ r rides → r .departs < r .arrives

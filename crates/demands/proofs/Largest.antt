@@ -8,7 +8,7 @@ use lib.Dec.{leb}
 use borrow.Author.Tests.{leb-true, leb-false}
 use Rattle.laws.proofs.Tests.{ifb}
 use Rattle.laws.proofs.Members.{head-or-later}
-use Rattle.plans.specs.Rides.{latest}
+use Rattle.plans.specs.Rides.{landsBy}
 use Rattle.plans.specs.Worth.{Valued}
 use Rattle.plans.specs.Plan.{latestOf}
 use Rattle.demands.specs.Walk.{largest}
@@ -42,14 +42,14 @@ module _ {A : Type 0} (f : A → ℕ) where
       Most = (most : A) × List·Memᴰ most (y ∷ z ∷ xs) × (f most ≡ largest (map f (y ∷ z ∷ xs)))
 
 -- the latest minute of a list of rides is the largest a + M of its rides
-latest-largest : (vs : List Valued) → latestOf vs ≡ largest (map (λ (v : Valued). latest (v .ride)) vs)
+latest-largest : (vs : List Valued) → latestOf vs ≡ largest (map (λ (v : Valued). landsBy (v .ride)) vs)
 unfolding latestOf largest
 latest-largest [] = refl
-latest-largest (v ∷ vs) = ap (max (latest (v .ride))) (latest-largest vs)
+latest-largest (v ∷ vs) = ap (max (landsBy (v .ride))) (latest-largest vs)
 
-pub lands-by : (vs : List Valued) (v : Valued) → List·Memᴰ v vs → latest (v .ride) ≤ latestOf vs
-lands-by vs v m = subst (λ k. latest (v .ride) ≤ k) (sym (latest-largest vs)) (none-larger (λ (u : Valued). latest (u .ride)) vs v m)
+pub lands-by : (vs : List Valued) (v : Valued) → List·Memᴰ v vs → landsBy (v .ride) ≤ latestOf vs
+lands-by vs v m = subst (λ k. landsBy (v .ride) ≤ k) (sym (latest-largest vs)) (none-larger (λ (u : Valued). landsBy (u .ride)) vs v m)
 
-pub lands-last : (vs : List Valued) (v : Valued) → List·Memᴰ v vs → (last : Valued) × List·Memᴰ last vs × (latest (last .ride) ≡ latestOf vs)
+pub lands-last : (vs : List Valued) (v : Valued) → List·Memᴰ v vs → (last : Valued) × List·Memᴰ last vs × (landsBy (last .ride) ≡ latestOf vs)
 lands-last vs v m =
-    let found = one-largest (λ (u : Valued). latest (u .ride)) vs v m in (found .0, found .1, found .2 ∙ sym (latest-largest vs))
+    let found = one-largest (λ (u : Valued). landsBy (u .ride)) vs v m in (found .0, found .1, found .2 ∙ sym (latest-largest vs))

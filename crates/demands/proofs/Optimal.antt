@@ -15,7 +15,7 @@ use Rattle.timetable.specs.Timetable.{Timetable}
 use Rattle.plans.specs.declared.Goal.{Goal}
 use Rattle.plans.specs.Sound.{Timely}
 use Rattle.query.specs.declared.Query.{Query}
-use Rattle.plans.specs.Rides.{Ride, IsRide, latest, boards}
+use Rattle.plans.specs.Rides.{Ride, IsRide, landsBy, boards}
 use Rattle.plans.specs.Journeys.{goalOf, within}
 use Rattle.plans.specs.Worth.{Valued, firstOpen, caught, worthOr, valued, landWorth, arrivalWorth, changeWorth}
 use Rattle.plans.specs.Chosen.{Aim, inTicks, worthOf}
@@ -64,11 +64,11 @@ module _ (t : Timetable) (timely : Timely t) where
     change-bounds :
         (r : Ride) (rides : List Ride) → IsRide t r → r .to ≢ goal .target → ((x : Ride) → List·Memᴰ x rides → IsRide t x)
         → ((v : Valued) → List·Memᴰ v (valued (goal .target) rides) → AtMost (bestInTicks t goal (v .ride .board)) (v .worth))
-        → (next : Ride) → List·Memᴰ next rides → boards next (r .to) (latest r) ≡ true
+        → (next : Ride) → List·Memᴰ next rides → boards next (r .to) (landsBy r) ≡ true
         → AtMost (bestInTicks t goal (r .board)) (changeWorth r (valued (goal .target) rides))
     change-bounds r rides is away are bounds next m b =
         found-at-most (AtMost (bestAt aim t (r .board)) (changeWorth r behind))
-        (let found = open-at (latest r) (le-refl (latest r)) in seen (latest r) (let z : r .arrives ≤ latest r = omega arith in z) (found .0)
+        (let found = open-at (landsBy r) (le-refl (landsBy r)) in seen (landsBy r) (let z : r .arrives ≤ landsBy r = omega arith in z) (found .0)
         (found .1))
         (λ u e _. raised (ride-at-most aim t r is (ticks-landed goal) (changeWorth r chosen)
         (ticks-elsewhere goal r chosen away u e))
@@ -87,11 +87,11 @@ module _ (t : Timetable) (timely : Timely t) where
         behind = valued (goal .target) rides
 
         -- who lands finds one to board up to a + M
-        open-at : (k : ℕ) → k ≤ latest r → (v : Valued) × (firstOpen behind (r .to) k ≡ some v)
+        open-at : (k : ℕ) → k ≤ landsBy r → (v : Valued) × (firstOpen behind (r .to) k ≡ some v)
         open-at k early =
             let n = ride-valued (goal .target) rides m in
             finds behind (r .to) k (n .1)
-            (subst (λ (x : Ride). boards x (r .to) k ≡ true) (sym (n .2)) (boards-earlier next (r .to) (latest r) k early b))
+            (subst (λ (x : Ride). boards x (r .to) k ≡ true) (sym (n .2)) (boards-earlier next (r .to) (landsBy r) k early b))
 
         -- and a chosen row that is worth no more
         seen : (k : ℕ) → r .arrives ≤ k → (v : Valued) → firstOpen behind (r .to) k ≡ some v → AtMost (firstOpen chosen (r .to) k) (v .worth)
@@ -105,8 +105,8 @@ module _ (t : Timetable) (timely : Timely t) where
             (r .to) k (v .worth) opens away (bounds v there)
 
     link-bounds :
-        (r : Ride) (rides : List Ride) → IsRide t r → within (goal .bound) (latest r) ≡ true
-        → (r .to ≢ goal .target → (next : Ride) × List·Memᴰ next rides × (boards next (r .to) (latest r) ≡ true))
+        (r : Ride) (rides : List Ride) → IsRide t r → within (goal .bound) (landsBy r) ≡ true
+        → (r .to ≢ goal .target → (next : Ride) × List·Memᴰ next rides × (boards next (r .to) (landsBy r) ≡ true))
         → ((x : Ride) → List·Memᴰ x rides → IsRide t x)
         → ((v : Valued) → List·Memᴰ v (valued (goal .target) rides) → AtMost (bestInTicks t goal (v .ride .board)) (v .worth))
         → AtMost (bestInTicks t goal (r .board)) (landWorth (goal .target) r (valued (goal .target) rides))
@@ -125,20 +125,20 @@ module _ (t : Timetable) (timely : Timely t) where
 
     -- each ride of a plan that goes forward: its boarding row is worth no more
     pub forward-bounds :
-        {rides : List Ride} → Forward (goal .target) rides → ((r : Ride) → List·Memᴰ r rides → IsRide t r × (within (goal .bound) (latest r) ≡ true))
+        {rides : List Ride} → Forward (goal .target) rides → ((r : Ride) → List·Memᴰ r rides → IsRide t r × (within (goal .bound) (landsBy r) ≡ true))
         → (v : Valued) → List·Memᴰ v (valued (goal .target) rides) → AtMost (bestInTicks t goal (v .ride .board)) (v .worth)
     unfolding valued
     forward-bounds Forward.none are v m = absurd (List·Memᴰ·not-nil m)
     forward-bounds (Forward.one {r} {behind = rides} timed goes-on rest) are v m =
         let here = are r (List·Memᴰ·head refl) in
-        let further : (x : Ride) → List·Memᴰ x rides → IsRide t x × (within (goal .bound) (latest x) ≡ true) = λ x n. are x (List·Memᴰ·tail n) in
+        let further : (x : Ride) → List·Memᴰ x rides → IsRide t x × (within (goal .bound) (landsBy x) ≡ true) = λ x n. are x (List·Memᴰ·tail n) in
         head-or-later (AtMost (bestInTicks t goal (v .ride .board)) (v .worth)) m
         (λ e. subst (λ (x : Valued). AtMost (bestInTicks t goal (x .ride .board)) (x .worth)) (sym e)
         (link-bounds r rides (here .0) (here .1) (boarded-next goes-on) (λ x n. further x n .0) (forward-bounds rest further)))
         (λ n. forward-bounds rest further v n)
       where
-        boarded-next : Served (goal .target) rides (r .to) (latest r) → r .to ≢ goal .target
-            → (next : Ride) × List·Memᴰ next rides × (boards next (r .to) (latest r) ≡ true)
+        boarded-next : Served (goal .target) rides (r .to) (landsBy r) → r .to ≢ goal .target
+            → (next : Ride) × List·Memᴰ next rides × (boards next (r .to) (landsBy r) ≡ true)
         boarded-next (over there) away = absurd (away there)
         boarded-next (onward next among opens) away = (next, among, T-true opens)
 

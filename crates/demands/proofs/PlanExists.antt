@@ -16,7 +16,7 @@ use Rattle.timetable.specs.Timetable.{Timetable}
 use Rattle.plans.specs.declared.Goal.{Goal}
 use Rattle.plans.specs.Sound.{Timely}
 use Rattle.query.specs.declared.Query.{Query}
-use Rattle.plans.specs.Rides.{Ride, IsRide, latest, boards}
+use Rattle.plans.specs.Rides.{Ride, IsRide, landsBy, boards}
 use Rattle.plans.specs.Journeys.{goalOf, Onward, leaves, changes, Journey, boundOf, within, CodeStands}
 use Rattle.plans.specs.Worth.{Valued, firstOpen, arrivalWorth, changeWorth}
 use Rattle.plans.specs.Chosen.{inTicks}
@@ -49,11 +49,11 @@ within-bound q e after (inr quarters) = or-right (eqb (boundOf q e) 0) (leb e (b
 module _ (t : Timetable) (timely : Timely t) where
   -- the boarding row of a ride has a worth, if what is boarded after it has one
   change-exists :
-      (goal : Goal) (r next : Ride) → IsRide t r → IsRide t next → boards next (r .to) (latest r) ≡ true → within (goal .bound) (latest r) ≡ true
+      (goal : Goal) (r next : Ride) → IsRide t r → IsRide t next → boards next (r .to) (landsBy r) ≡ true → within (goal .bound) (landsBy r) ≡ true
       → (w : ℕ) × AtMost (bestInTicks t goal (next .board)) w → (w : ℕ) × AtMost (bestInTicks t goal (r .board)) w
   change-exists goal r next is is' caught b further =
       let aim = inTicks goal in
-      let late : latest r ≤ next .departs = boards-minute next (r .to) (latest r) caught in
+      let late : landsBy r ≤ next .departs = boards-minute next (r .to) (landsBy r) caught in
       ifb (λ c. eqb (r .to) (goal .target) ≡ c → Some) (eqb (r .to) (goal .target))
       (λ q _. (
         arrivalWorth r,
@@ -63,7 +63,7 @@ module _ (t : Timetable) (timely : Timely t) where
       (λ q _. found-at-most Some
       (ride-first t timely aim (suc (r .leave)) next is'
       (boards-behind t timely r next is is' (let z : r .arrives ≤ next .departs = omega arith in z))
-      (r .to) (latest r) (further .0) caught (eqb-false (r .to) (goal .target) q) (further .1))
+      (r .to) (landsBy r) (further .0) caught (eqb-false (r .to) (goal .target) q) (further .1))
       (λ u e _. (
         changeWorth r (chosenFrom aim t (suc (r .leave))),
         ride-at-most aim t r is (ticks-landed goal) _
@@ -83,9 +83,9 @@ module _ (t : Timetable) (timely : Timely t) where
         (ticks-at-target goal r _ e b),
   )
   ticks-exist goal (changes {r} {next} {end} is caught on) b =
-      let late : latest r ≤ next .departs = boards-minute next (r .to) (latest r) (T-true caught) in
+      let late : landsBy r ≤ next .departs = boards-minute next (r .to) (landsBy r) (T-true caught) in
       change-exists goal r next is (onward-ride t (goal .target) on) (T-true caught)
-      (within-earlier (goal .bound) (latest r) end (let z : latest r ≤ end = omega (arith, onward-after t (goal .target) timely on) in z) b)
+      (within-earlier (goal .bound) (landsBy r) end (let z : landsBy r ≤ end = omega (arith, onward-after t (goal .target) timely on) in z) b)
       (ticks-exist goal on b)
 
   -- a journey within the bound finds a first chosen row

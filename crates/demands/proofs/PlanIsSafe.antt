@@ -11,7 +11,7 @@ use Rattle.laws.proofs.Members.{head-or-later, mapped, mapped-from}
 use Rattle.timetable.specs.Timetable.{Timetable}
 use Rattle.plans.specs.Sound.{Timely}
 use Rattle.query.specs.declared.Query.{Query}
-use Rattle.plans.specs.Rides.{Ride, IsRide, latest, boards}
+use Rattle.plans.specs.Rides.{Ride, IsRide, landsBy, boards}
 use Rattle.plans.specs.Journeys.{goalOf, within}
 use Rattle.plans.specs.Worth.{Valued, ridesOf, firstOpen, valued}
 use Rattle.plans.specs.Chosen.{worthOf}
@@ -36,19 +36,19 @@ ordered-rising (ahead {v} {vs} before o) =
 -- after each ride not ending at the target, one boards at its landing stop at or after a + M
 own-goes-on :
     (target : ℕ) {vs : List Valued} → OwnWorth target vs → (v : Valued) → List·Memᴰ v vs → v .ride .to ≢ target
-    → (next : Valued) × List·Memᴰ next vs × (boards (next .ride) (v .ride .to) (latest (v .ride)) ≡ true)
+    → (next : Valued) × List·Memᴰ next vs × (boards (next .ride) (v .ride .to) (landsBy (v .ride)) ≡ true)
 own-goes-on target own.nobody v m away = absurd (List·Memᴰ·not-nil m)
 own-goes-on target (own.ahead {v = u} {vs = us} moves worth on rest) v m away =
     head-or-later Next m
     (λ q. let found = on (λ e. away (ap (λ (x : Valued). x .ride .to) q ∙ e)) in (
       found .0,
       List·Memᴰ·tail (found-member us _ _ (found .1)),
-      subst (λ (x : Valued). boards (found .0 .ride) (x .ride .to) (latest (x .ride)) ≡ true) (sym q) (found-boards us _ _ (found .1)),
+      subst (λ (x : Valued). boards (found .0 .ride) (x .ride .to) (landsBy (x .ride)) ≡ true) (sym q) (found-boards us _ _ (found .1)),
     ))
     (λ n. let found = own-goes-on target rest v n away in (found .0, List·Memᴰ·tail (found .1), found .2))
   where
     Next : Type 0
-    Next = (next : Valued) × List·Memᴰ next (u ∷ us) × (boards (next .ride) (v .ride .to) (latest (v .ride)) ≡ true)
+    Next = (next : Valued) × List·Memᴰ next (u ∷ us) × (boards (next .ride) (v .ride .to) (landsBy (v .ride)) ≡ true)
 
 module _ (t : Timetable) (timely : Timely t) (q : Query) (p : Plan) (made : Made t q p) where
   pub plan-rising : ByBoardingRow (ridesOf (p .rides))
@@ -67,10 +67,10 @@ module _ (t : Timetable) (timely : Timely t) (q : Query) (p : Plan) (made : Made
 
   -- its latest minute is the largest a + M of its rides
   pub plan-last :
-      ((v : Valued) → List·Memᴰ v (p .rides) → latest (v .ride) ≤ p .last) × ((v : Valued) × List·Memᴰ v (p .rides) × (latest (v .ride) ≡ p .last))
+      ((v : Valued) → List·Memᴰ v (p .rides) → landsBy (v .ride) ≤ p .latest) × ((v : Valued) × List·Memᴰ v (p .rides) × (landsBy (v .ride) ≡ p .latest))
   plan-last =
       let last = lands-last (p .rides) (made .first) (found-member (p .rides) (q .source) (q .minute) (plan-first t timely q p made)) in
-      (λ v m. subst (λ k. latest (v .ride) ≤ k) (sym (made .ends)) (lands-by (p .rides) v m), (last .0, last .1, last .2 ∙ sym (made .ends)))
+      (λ v m. subst (λ k. landsBy (v .ride) ≤ k) (sym (made .ends)) (lands-by (p .rides) v m), (last .0, last .1, last .2 ∙ sym (made .ends)))
 
   -- a ride of the plan is that of one of its chosen rows
   plan-ride : {r : Ride} → List·Memᴰ r (ridesOf (p .rides)) → (v : Valued) × List·Memᴰ v (p .rides) × (r ≡ v .ride)
@@ -99,7 +99,7 @@ module _ (t : Timetable) (timely : Timely t) (q : Query) (p : Plan) (made : Made
             (ap (λ (x : Ride). x .departs) (sym (f .2)) ∙ then ∙ ap (λ (x : Ride). x .departs) (g .2))) ∙ sym (g .2);
         each-within =
             λ r m. let f = plan-ride m in
-            true-T (subst (λ (x : Ride). within (p .bound) (latest x) ≡ true) (sym (f .2))
+            true-T (subst (λ (x : Ride). within (p .bound) (landsBy x) ≡ true) (sym (f .2))
             (for-within t timely (goalOf q (p .bound)) (f .0) (plan-member t timely q p made (f .0) (f .1))));
         begins = (
           made .first .ride,
@@ -111,6 +111,6 @@ module _ (t : Timetable) (timely : Timely t) (q : Query) (p : Plan) (made : Made
             let next = own-goes-on (q .target) (plan-own t timely q p made) (f .0) (f .1) (λ e. away (ap (λ (x : Ride). x .to) (f .2) ∙ e)) in (
               next .0 .ride,
               mapped (λ (v : Valued). v .ride) (next .1),
-              true-T (subst (λ (x : Ride). boards (next .0 .ride) (x .to) (latest x) ≡ true) (sym (f .2)) (next .2)),
+              true-T (subst (λ (x : Ride). boards (next .0 .ride) (x .to) (landsBy x) ≡ true) (sym (f .2)) (next .2)),
             );
       }

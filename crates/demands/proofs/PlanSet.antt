@@ -14,7 +14,7 @@ use Rattle.timetable.specs.Timetable.{Timetable}
 use Rattle.plans.specs.Journeys.{goalOf}
 use Rattle.plans.specs.Sound.{Timely}
 use Rattle.query.specs.declared.Query.{Query}
-use Rattle.plans.specs.Rides.{latest, boards}
+use Rattle.plans.specs.Rides.{landsBy, boards}
 use Rattle.plans.specs.Worth.{Valued, firstOpen}
 use Rattle.plans.specs.Plan.{Window, inWindow, wanted, upTo, windowsOf, extract, ridesFrom, Plan, chosenFor}
 use Rattle.demands.specs.Words.{InPlan}
@@ -47,7 +47,7 @@ module _ (q : Query) (whole : List Valued) where
       let further : Ends vs = λ u n s k late.
       sym (first-further v vs s k (too-late (v .ride) s k (let z : v .ride .departs < k = omega (arith, before u n .minutes) in z)))
       ∙ ends u (List·Memᴰ·tail n) s k late in
-      let gone : v .ride .departs < latest (v .ride) = omega (arith, moves v (List·Memᴰ·head refl) .forward) in
+      let gone : v .ride .departs < landsBy (v .ride) = omega (arith, moves v (List·Memᴰ·head refl) .forward) in
       let go = extract-in-plan vs o (λ y n. moves y (List·Memᴰ·tail n)) (λ y n. sub y (List·Memᴰ·tail n)) further in
       on-taking (q .target) (InPlan q whole x) ws v vs
       (λ wants h. let w = wanted-in ws (v .ride) wants in
@@ -56,7 +56,7 @@ module _ (q : Query) (whole : List Valued) where
       (λ n. go (windowsOf (q .target) (v .ride) vs ++ ws)
       (λ y k u among e. ⊎-elim (λ own. let opened = window-opened (q .target) (v .ride) vs own in
       words.next here (opened .away)
-      (sym (ends v (List·Memᴰ·head refl) (v .ride .to) (latest (v .ride)) gone) ∙ first-further v vs _ _ (too-late (v .ride) _ _ gone)
+      (sym (ends v (List·Memᴰ·head refl) (v .ride .to) (landsBy (v .ride)) gone) ∙ first-further v vs _ _ (too-late (v .ride) _ _ gone)
       ∙ opened .is-first) k
       (true-T (subst (λ (w : Window). boards (y .ride) (w .stop) (w .minute) ≡ true) (opened .is) (window-boards u (y .ride) e)))
       (subst (λ (w : Window). y .ride .departs ≤ w .until) (opened .is) (window-until u (y .ride) e)))
@@ -66,7 +66,7 @@ module _ (q : Query) (whole : List Valued) where
 -- for each ride that is taken out, so are those that its window wants
 window-taken :
     (target : ℕ) (vs : List Valued) → Ordered vs → ((x : Valued) → List·Memᴰ x vs → Moves (x .ride)) → (ws : List Window) (u x safe : Valued)
-    → List·Memᴰ u (extract target ws vs) → u .ride .to ≢ target → firstOpen vs (u .ride .to) (latest (u .ride)) ≡ some safe → List·Memᴰ x vs
+    → List·Memᴰ u (extract target ws vs) → u .ride .to ≢ target → firstOpen vs (u .ride .to) (landsBy (u .ride)) ≡ some safe → List·Memᴰ x vs
     → boards (x .ride) (u .ride .to) (u .ride .arrives) ≡ true → x .ride .departs ≤ safe .ride .departs → List·Memᴰ x (extract target ws vs)
 unfolding extract
 window-taken target [] o moves ws u x safe m away e k b h = absurd (List·Memᴰ·not-nil m)
@@ -78,8 +78,8 @@ window-taken target (v ∷ vs) (ahead before o) moves ws u x safe m away e k b h
     head-or-later (List·Memᴰ x vs) k
     (λ q. absurd (let same : x .ride .departs ≡ v .ride .departs = ap (λ (y : Valued). y .ride .departs) q in let z : ⊥ = omega arith in z))
     (λ n. n) in
-    let skip : v .ride .departs ≤ u .ride .departs → firstOpen vs (u .ride .to) (latest (u .ride)) ≡ some safe = λ no-later.
-    sym (first-further v vs (u .ride .to) (latest (u .ride)) (too-late (v .ride) (u .ride .to) (latest (u .ride)) (omega arith))) ∙ e in
+    let skip : v .ride .departs ≤ u .ride .departs → firstOpen vs (u .ride .to) (landsBy (u .ride)) ≡ some safe = λ no-later.
+    sym (first-further v vs (u .ride .to) (landsBy (u .ride)) (too-late (v .ride) (u .ride .to) (landsBy (u .ride)) (omega arith))) ∙ e in
     let further : (us : List Window) → List·Memᴰ u (extract target us vs) → List·Memᴰ x (extract target us vs) = λ us n.
     let no-later : v .ride .departs ≤ u .ride .departs = before u (extract-member target vs us n) .minutes in
     window-taken target vs o (λ y l. moves y (List·Memᴰ·tail l)) us u x safe n away (skip no-later) (behind no-later) b h in

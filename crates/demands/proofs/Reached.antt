@@ -10,7 +10,7 @@ use native.Mathlib.Omega.{arith}
 use lib.Dec.{eqb}
 use lib.ListN.{length}
 use Rattle.laws.proofs.Tests.{ifb, T-true}
-use Rattle.plans.specs.Rides.{Ride, boards, latest}
+use Rattle.plans.specs.Rides.{Ride, boards, landsBy}
 use Rattle.demands.specs.Walk.{Sailed, Standing, firstSailed, landed, step, steps}
 use Rattle.demands.proofs.Forward.{Served, over, onward, Forward, served-sooner, served-behind, delay-latest}
 use Rattle.demands.proofs.Course.{ridesSailed, course, found-sailed, steps-keep}
@@ -40,7 +40,7 @@ course-reaches target (s ∷ sailed) (Forward.one timed goes-on rest) ranged at 
 -- wherever one lands in the plan, one is served
 pub steps-served :
     (target : ℕ) (sailed : List Sailed) → InRange sailed
-    → ((r : Ride) → List·Memᴰ r (ridesSailed sailed) → Served target (ridesSailed sailed) (r .to) (latest r)) → (k : ℕ) (at : Standing)
+    → ((r : Ride) → List·Memᴰ r (ridesSailed sailed) → Served target (ridesSailed sailed) (r .to) (landsBy r)) → (k : ℕ) (at : Standing)
     → Served target (ridesSailed sailed) (at .stop) (at .minute)
     → Served target (ridesSailed sailed) (steps target sailed k at .stop) (steps target sailed k at .minute)
 unfolding landed
@@ -78,7 +78,7 @@ served-finds sailed stop minute (onward next among opens) elsewhere = find saile
 
 -- nobody lands later than the latest minute
 pub steps-in-time :
-    (target last : ℕ) (sailed : List Sailed) → InRange sailed → ((r : Ride) → List·Memᴰ r (ridesSailed sailed) → latest r ≤ last)
+    (target last : ℕ) (sailed : List Sailed) → InRange sailed → ((r : Ride) → List·Memᴰ r (ridesSailed sailed) → landsBy r ≤ last)
     → (k : ℕ) (at : Standing) → at .minute ≤ last → steps target sailed k at .minute ≤ last
 unfolding landed
 steps-in-time target last sailed ranged by-last = steps-keep (λ at. at .minute ≤ last) target sailed lands

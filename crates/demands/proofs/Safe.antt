@@ -10,7 +10,7 @@ use lib.Dec.{T, eqb}
 use Rattle.laws.proofs.Tests.{ifb, T-true}
 use Rattle.timetable.specs.Timetable.{Timetable}
 use Rattle.query.specs.declared.Query.{Query}
-use Rattle.plans.specs.Rides.{Ride, IsRide, latest, boards}
+use Rattle.plans.specs.Rides.{Ride, IsRide, landsBy, boards}
 use Rattle.demands.specs.SafePlan.{SafePlan, ByBoardingRow, before-all, sorted}
 use Rattle.plans.specs.Sound.{Timely}
 use Rattle.demands.proofs.Forward.{Timed, AllTimed, Served, over, onward, Forward, forward-timed}
@@ -30,13 +30,13 @@ module _ {t : Timetable} (timely : Timely t) where
 
 module _ {t : Timetable} (q : Query) (bound : ℕ) (all : List Ride) (safe : SafePlan t q bound all) where
   -- from each ride's latest landing one is served by the plan
-  pub plan-serves : (r : Ride) → List·Memᴰ r all → Served (q .target) all (r .to) (latest r)
+  pub plan-serves : (r : Ride) → List·Memᴰ r all → Served (q .target) all (r .to) (landsBy r)
   plan-serves r among =
-      ifb (λ b. eqb (r .to) (q .target) ≡ b → Served (q .target) all (r .to) (latest r)) (eqb (r .to) (q .target))
+      ifb (λ b. eqb (r .to) (q .target) ≡ b → Served (q .target) all (r .to) (landsBy r)) (eqb (r .to) (q .target))
       (λ ends _. over (eqb-true (r .to) (q .target) ends))
       (λ elsewhere _. next (safe .goes-on r among (eqb-false (r .to) (q .target) elsewhere))) refl
     where
-      next : (next : Ride) × List·Memᴰ next all × T (boards next (r .to) (latest r)) → Served (q .target) all (r .to) (latest r)
+      next : (next : Ride) × List·Memᴰ next all × T (boards next (r .to) (landsBy r)) → Served (q .target) all (r .to) (landsBy r)
       next found = onward (found .0) (found .1) (found .2)
 
 module _ {t : Timetable} (timely : Timely t) (q : Query) (bound : ℕ) (all : List Ride) (safe : SafePlan t q bound all) where
@@ -79,11 +79,11 @@ module _ {t : Timetable} (timely : Timely t) (q : Query) (bound : ℕ) (all : Li
           pick (inl same) = absurd (let z : ⊥ = omega (arith, ap (λ x. x .departs) same) in z)
           pick (inr there) = there
 
-      serves : Served (q .target) all (r .to) (latest r) → Served (q .target) rides (r .to) (latest r)
+      serves : Served (q .target) all (r .to) (landsBy r) → Served (q .target) rides (r .to) (landsBy r)
       serves (over there) = over there
       serves (onward next among opens) =
           onward next
-          (behind next among (omega (arith, boards-minute next (r .to) (latest r) (T-true opens), departs-before t timely r is))) opens
+          (behind next among (omega (arith, boards-minute next (r .to) (landsBy r) (T-true opens), departs-before t timely r is))) opens
 
       keeps : (u later : Ride) → List·Memᴰ u rides → List·Memᴰ later all → u .departs < later .departs → List·Memᴰ later rides
       keeps u later u-among among after = behind later among (omega (arith, in-order u u-among))

@@ -13,7 +13,7 @@ use Rattle.laws.proofs.Options.{absent, same-thing}
 use Rattle.timetable.specs.Timetable.{Timetable}
 use Rattle.timetable.specs.Classes.{whole}
 use Rattle.query.specs.declared.Query.{Query}
-use Rattle.plans.specs.Rides.{Ride, latest}
+use Rattle.plans.specs.Rides.{Ride, landsBy}
 use Rattle.plans.specs.Worth.{ticks, Valued, valued, firstOpen, caught, worthOr}
 use Rattle.plans.specs.Chosen.{worthOf}
 use Rattle.plans.specs.Plan.{latestOf}
@@ -58,9 +58,9 @@ module _ {t : Timetable} (q : Query) (bound : ℕ) (rides : List Ride) (safe : S
       (subst (λ (x : List Ride). Served (q .target) x (q .source) (q .minute)) (sym (delayed-rides delayed)) begins-served))
       elsewhere
     where
-      serves : (r : Ride) → List·Memᴰ r (ridesSailed sailed) → Served (q .target) (ridesSailed sailed) (r .to) (latest r)
+      serves : (r : Ride) → List·Memᴰ r (ridesSailed sailed) → Served (q .target) (ridesSailed sailed) (r .to) (landsBy r)
       serves =
-          subst (λ (x : List Ride). (r : Ride) → List·Memᴰ r x → Served (q .target) x (r .to) (latest r)) (sym (delayed-rides delayed))
+          subst (λ (x : List Ride). (r : Ride) → List·Memᴰ r x → Served (q .target) x (r .to) (landsBy r)) (sym (delayed-rides delayed))
           (plan-serves q bound rides safe)
 
 module _ {t : Timetable} (timely : Timely t) (q : Query) (bound : ℕ) (rides : List Ride) (safe : SafePlan t q bound rides)
@@ -89,10 +89,10 @@ module _ {t : Timetable} (timely : Timely t) (q : Query) (bound : ℕ) (rides : 
       steps-in-time (q .target) (latestOf vs) sailed (delayed-range delayed)
       (λ r among. by-last r (subst (List·Memᴰ r) (delayed-rides delayed) among)) (length sailed) (start q) before
     where
-      by-last : (r : Ride) → List·Memᴰ r rides → latest r ≤ latestOf vs
+      by-last : (r : Ride) → List·Memᴰ r rides → landsBy r ≤ latestOf vs
       by-last r among =
           let found = Memᴰ·of-map (λ v. v .ride) vs (subst (List·Memᴰ r) (sym same) among) in
-          subst (λ (x : Ride). latest x ≤ latestOf vs) (found .2) (lands-by vs (found .0) (found .1))
+          subst (λ (x : Ride). landsBy x ≤ latestOf vs) (found .2) (lands-by vs (found .0) (found .1))
 
       before : q .minute ≤ latestOf vs
       before =

@@ -6,7 +6,7 @@ use mathlib.Core.Option.{some}
 use mathlib.Core.Path.{_≡_}
 use Rattle.timetable.specs.Timetable.{Timetable}
 use Rattle.query.specs.declared.Query.{Query}
-use Rattle.plans.specs.Rides.{Ride, latest}
+use Rattle.plans.specs.Rides.{Ride, landsBy}
 use Rattle.plans.specs.Journeys.{IsEarliest, boundOf, goalOf}
 use Rattle.plans.specs.Worth.{Valued, valued, ridesOf}
 use Rattle.plans.specs.Plan.{chosenFor}
@@ -26,7 +26,7 @@ pub record Demanded (t : Timetable) (q : Query) (rides : List Valued) (expected 
   pub its-rides : (v : Valued) → List·Memᴰ v rides ↔ InPlan q (chosenFor t (goalOf q bound)) v
   -- the latest minute is the largest a + M of its rides
   pub latest-minute :
-      ((v : Valued) → List·Memᴰ v rides → latest (v .ride) ≤ last) × ((v : Valued) × List·Memᴰ v rides × (latest (v .ride) ≡ last))
+      ((v : Valued) → List·Memᴰ v rides → landsBy (v .ride) ≤ last) × ((v : Valued) × List·Memᴰ v rides × (landsBy (v .ride) ≡ last))
   -- the expected arrival is its own, and no other safe plan within the same bound has a smaller one
   pub expects : expectedOf q (ridesOf rides) ≡ some expected
   pub minimum : (others : List Ride) → SafePlan t q bound others → (x : ℕ) → expectedOf q others ≡ some x → expected ≤ x

@@ -8,7 +8,7 @@ use mathlib.Core.Path.{_≡_}
 use lib.Dec.{T, eqb, ltb}
 use Rattle.timetable.specs.Timetable.{Timetable}
 use Rattle.query.specs.declared.Query.{Query}
-use Rattle.plans.specs.Rides.{Ride, IsRide, latest, boards}
+use Rattle.plans.specs.Rides.{Ride, IsRide, landsBy, boards}
 use Rattle.plans.specs.Journeys.{within}
 use Rattle.plans.specs.Worth.{Valued, valued, firstOpen}
 use Rattle.plans.specs.Chosen.{worthOf}
@@ -21,12 +21,12 @@ pub record SafePlan (t : Timetable) (q : Query) (bound : ℕ) (rides : List Ride
   -- no two board at one stop in one minute
   pub no-two : (r r' : Ride) → List·Memᴰ r rides → List·Memᴰ r' rides → r .from ≡ r' .from → r .departs ≡ r' .departs → r ≡ r'
   -- each has a + M within the bound
-  pub each-within : (r : Ride) → List·Memᴰ r rides → T (within bound (latest r))
+  pub each-within : (r : Ride) → List·Memᴰ r rides → T (within bound (landsBy r))
   -- one boards at the source at or after T
   pub begins : (r : Ride) × List·Memᴰ r rides × T (boards r (q .source) (q .minute))
   -- after each ride not ending at the target, one boards at its landing stop at or after a + M
   pub goes-on :
-      (r : Ride) → List·Memᴰ r rides → r .to ≢ q .target → (next : Ride) × List·Memᴰ next rides × T (boards next (r .to) (latest r))
+      (r : Ride) → List·Memᴰ r rides → r .to ≢ q .target → (next : Ride) × List·Memᴰ next rides × T (boards next (r .to) (landsBy r))
 
 -- by boarding row rising
 pub data ByBoardingRow : List Ride → Type 0 where

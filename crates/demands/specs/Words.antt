@@ -9,7 +9,7 @@ use lib.ListN.{getD}
 use Rattle.timetable.specs.Timetable.{Timetable, rowOf}
 use Rattle.query.specs.declared.Query.{Query}
 use Rattle.plans.specs.declared.Goal.{Goal}
-use Rattle.plans.specs.Rides.{latest, boards}
+use Rattle.plans.specs.Rides.{landsBy, boards}
 use Rattle.plans.specs.Worth.{Valued, firstOpen}
 use Rattle.plans.specs.Chosen.{inTicks, scanned, worthOf}
 
@@ -39,6 +39,6 @@ pub record Chosen (t : Timetable) (goal : Goal) (i : ℕ) : Type 0 where
 pub data InPlan (q : Query) (chosen : List Valued) : Valued → Type 0 where
   first : {v : Valued} → firstOpen chosen (q .source) (q .minute) ≡ some v → InPlan q chosen v
   next :
-      {u v safe : Valued} → InPlan q chosen u → u .ride .to ≢ q .target → firstOpen chosen (u .ride .to) (latest (u .ride)) ≡ some safe
+      {u v safe : Valued} → InPlan q chosen u → u .ride .to ≢ q .target → firstOpen chosen (u .ride .to) (landsBy (u .ride)) ≡ some safe
       → List·Memᴰ v chosen → T (boards (v .ride) (u .ride .to) (u .ride .arrives)) → v .ride .departs ≤ safe .ride .departs
       → InPlan q chosen v

@@ -15,21 +15,21 @@ pub fn print_size_fault(length: usize, trailer: Trailer) {
         say(b"The file sailings is missing or empty.\n");
         return;
     }
-    if length < VERSION_ONE.shortest {
+    if length < VERSION_ONE.fewestbytes {
         say_range(
             b"file length",
             length,
-            VERSION_ONE.shortest,
-            VERSION_ONE.longest,
+            VERSION_ONE.fewestbytes,
+            VERSION_ONE.mostbytes,
         );
         return;
     }
-    if VERSION_ONE.longest < length {
+    if VERSION_ONE.mostbytes < length {
         say_range(
             b"file length",
             length,
-            VERSION_ONE.shortest,
-            VERSION_ONE.longest,
+            VERSION_ONE.fewestbytes,
+            VERSION_ONE.mostbytes,
         );
         return;
     }

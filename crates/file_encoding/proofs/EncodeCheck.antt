@@ -75,8 +75,8 @@ unfolding lengthRule
 length-fine f t r =
     let size = length-encode f t in
     both
-    (le-leb (f .shortest) (length (encode f t)) (omega (arith, r .not-short)))
-    (le-leb (length (encode f t)) (f .longest) (omega (arith, r .not-long)))
+    (le-leb (f .fewestbytes) (length (encode f t)) (omega (arith, r .not-short)))
+    (le-leb (length (encode f t)) (f .mostbytes) (omega (arith, r .not-long)))
 
 ranges-fine : (f : Format) (t : Timetable) → WithinLimits f t → trailerRule f (trailerFor f t) ≡ true
 unfolding trailerRule trailerFor

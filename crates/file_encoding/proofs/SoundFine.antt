@@ -25,7 +25,7 @@ use Rattle.file_layout.specs.Sound.{blockAt, ClassSound, InRange, Joins, Traile
 length-rule-kept : (f : Format) (s : List ℕ) (h : Trailer) → InRange f s h → lengthRule f s ≡ true
 unfolding lengthRule
 length-rule-kept f s h range =
-    both (le-leb (f .shortest) (length s) (range .not-short)) (le-leb (length s) (f .longest) (range .not-long))
+    both (le-leb (f .fewestbytes) (length s) (range .not-short)) (le-leb (length s) (f .mostbytes) (range .not-long))
 
 trailer-rule-kept : (f : Format) (s : List ℕ) (h : Trailer) → InRange f s h → trailerRule f h ≡ true
 unfolding trailerRule

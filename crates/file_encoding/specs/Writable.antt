@@ -57,8 +57,8 @@ trailerFor f t =
 
 -- what the check asks of a timetable apart from its rows: 1, and 3 for each class
 pub record WithinLimits (f : Format) (t : Timetable) : Type 0 where
-  pub not-short : f .shortest ≤ fileSize t
-  pub not-long : fileSize t ≤ f .longest
+  pub not-short : f .fewestbytes ≤ fileSize t
+  pub not-long : fileSize t ≤ f .mostbytes
   pub enough-stops : fewestStops ≤ t .stops
   pub few-stops : t .stops ≤ mostStops
   pub few-rows : length (t .rows) ≤ mostRows

@@ -22,7 +22,7 @@ use Rattle.file_layout.proofs.Blocks.{classes-give, table-of-block, tab
 range-gives : (f : Format) (s : List ℕ) (h : Trailer) → lengthRule f s ≡ true → trailerRule f h ≡ true → InRange f s h
 unfolding lengthRule trailerRule
 range-gives f s h l e =
-    let not-short = leb (f .shortest) (length s) in
+    let not-short = leb (f .fewestbytes) (length s) in
     let version = eqb (h .version) (f .version) in
     let least = version && leb fewestStops (h .stops) in
     let most = least && leb (h .stops) mostStops in
@@ -33,8 +33,8 @@ range-gives f s h l e =
     let e₂ = both-left most (leb (h .rows) mostRows) e₃ in
     let e₁ = both-left least (leb (h .stops) mostStops) e₂ in
     record {
-      not-short = leb-true (f .shortest) (length s) (both-left not-short (leb (length s) (f .longest)) l);
-      not-long = leb-true (length s) (f .longest) (both-right not-short (leb (length s) (f .longest)) l);
+      not-short = leb-true (f .fewestbytes) (length s) (both-left not-short (leb (length s) (f .mostbytes)) l);
+      not-long = leb-true (length s) (f .mostbytes) (both-right not-short (leb (length s) (f .mostbytes)) l);
       version = eqb-true (h .version) (f .version) (both-left version (leb fewestStops (h .stops)) e₁);
       stops-least = leb-true fewestStops (h .stops) (both-right version (leb fewestStops (h .stops)) e₁);
       stops-most = leb-true (h .stops) mostStops (both-right least (leb (h .stops) mostStops) e₂);

@@ -20,7 +20,7 @@ use Rattle.file_layout.specs.Decode.{trailerStart, trailerOf, tableAt, b
 
 -- file length, version, S, n and K are in their ranges, else 1
 unfoldable pub lengthRule : Format → List ℕ → Bool
-lengthRule f s = leb (f .shortest) (length s) && leb (length s) (f .longest)
+lengthRule f s = leb (f .fewestbytes) (length s) && leb (length s) (f .mostbytes)
 
 unfoldable pub trailerRule : Format → Trailer → Bool
 trailerRule f h =

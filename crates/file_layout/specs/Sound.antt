@@ -30,8 +30,8 @@ pub record ClassSound (f : Format) (s : List ℕ) (end at : ℕ) : Type 0 where
 
 -- file length and the trailer's numbers inside their ranges (1)
 pub record InRange (f : Format) (s : List ℕ) (h : Trailer) : Type 0 where
-  pub not-short : f .shortest ≤ length s
-  pub not-long : length s ≤ f .longest
+  pub not-short : f .fewestbytes ≤ length s
+  pub not-long : length s ≤ f .mostbytes
   pub version : h .version ≡ f .version
   pub stops-least : fewestStops ≤ h .stops
   pub stops-most : h .stops ≤ mostStops
@@ -52,7 +52,7 @@ pub record TrailerSound (f : Format) (s : List ℕ) : Type 0 where
       (tablesEnd s (trailerOf f s .tablestart) (trailerOf f s .classes)) (trailerStart f s)
   pub rows-inside : trailerOf f s .rowstart + f .width * trailerOf f s .rows ≤ trailerStart f s
   pub tables-inside : tablesEnd s (trailerOf f s .tablestart) (trailerOf f s .classes) ≤ trailerStart f s
-  pub trailer-last : f .trailer ≤ f .shortest → trailerStart f s + f .trailer ≡ length s
+  pub trailer-last : f .trailer ≤ f .fewestbytes → trailerStart f s + f .trailer ≡ length s
   pub class-sound : (k : ℕ) → k < trailerOf f s .classes → ClassSound f s (trailerStart f s) (blockAt s (trailerOf f s .tablestart) k)
   pub tables-count : length (decode f s .tables) ≡ trailerOf f s .classes
   pub table-read : (k : ℕ) → k < trailerOf f s .classes

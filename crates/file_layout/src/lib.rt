@@ -14,8 +14,8 @@ pub struct Format {
     pub version: usize,
     pub width: usize,
     pub trailer: usize,
-    pub shortest: usize,
-    pub longest: usize,
+    pub fewestbytes: usize,
+    pub mostbytes: usize,
     pub lastminute: usize,
     pub delay: usize,
 }
@@ -25,8 +25,8 @@ pub const VERSION_ONE: Format = Format {
     version: 1,
     width: 12,
     trailer: 16,
-    shortest: 20,
-    longest: 27920,
+    fewestbytes: 20,
+    mostbytes: 27920,
     lastminute: 10079,
     delay: 120,
 };

@@ -20,9 +20,9 @@ use Rattle.file_sections.specs.Blocks.{blocksRead}
 use Rattle.file_sections.proofs.ClassBlocks.{ends-by, faults-by}
 
 -- a file whose length is in its range holds the shortest
-pub long-enough : (f : Format) (s : List ℕ) → lengthRule f s ≡ true → f .shortest ≤ length s
+pub long-enough : (f : Format) (s : List ℕ) → lengthRule f s ≡ true → f .fewestbytes ≤ length s
 unfolding lengthRule
-long-enough f s fits = leb-true _ _ (both-left _ (leb (length s) (f .longest)) fits)
+long-enough f s fits = leb-true _ _ (both-left _ (leb (length s) (f .mostbytes)) fits)
 
 pub length-breaks : (f : Format) (s : List ℕ) → lengthRule f s ≡ false → sectionsRead f s ≡ Broken 1 0
 unfolding sectionsRead sectionsVerdict

@@ -79,12 +79,12 @@ pub fn read_sections(file: &[u8], f: Format) -> Sections
 
 // The file length is in its range.
 fn length_in_range(f: Format, size: usize) -> bool
-    ensures { λ r. ⌜ r ≡ (leb (f .shortest) size && leb size (f .longest)) ⌝ }
+    ensures { λ r. ⌜ r ≡ (leb (f .fewestbytes) size && leb size (f .mostbytes)) ⌝ }
 {
-    if size < f.shortest {
+    if size < f.fewestbytes {
         return false;
     }
-    size <= f.longest
+    size <= f.mostbytes
 }
 
 // Version, S, n and K are in their ranges.

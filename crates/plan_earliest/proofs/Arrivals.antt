@@ -5,7 +5,7 @@ use mathlib.Core.Path.{_≡_, refl, sym, subst}
 use Rattle.laws.proofs.Tests.{T-true, true-T}
 use Rattle.timetable.specs.Timetable.{Timetable}
 use Rattle.query.specs.declared.Query.{Query}
-use Rattle.plans.specs.Rides.{Ride, latest}
+use Rattle.plans.specs.Rides.{Ride, landsBy}
 use Rattle.plans.specs.Journeys.{Onward, leaves, changes, Journey}
 use Rattle.plans.proofs.Open.{boards-stop, boards-minute, can-board}
 use Rattle.plan_earliest.specs.Reached.{Reached, sets-out, rides}
@@ -16,10 +16,10 @@ module _ (t : Timetable) (q : Query) where
 
   -- who can board the first ride of what is left of a journey gets to its end
   onward-reached : {r : Ride} {m end : ℕ} → There (r .from) m → m ≤ r .departs → Onward t (q .target) r end → There (q .target) end
-  onward-reached here since (leaves {r} is e) = subst (λ s. There s (latest r)) e (rides here since is)
+  onward-reached here since (leaves {r} is e) = subst (λ s. There s (landsBy r)) e (rides here since is)
   onward-reached here since (changes {r} {next} is b on) =
-      onward-reached (subst (λ s. There s (latest r)) (sym (boards-stop next (r .to) (latest r) (T-true b))) (rides here since is))
-      (boards-minute next (r .to) (latest r) (T-true b)) on
+      onward-reached (subst (λ s. There s (landsBy r)) (sym (boards-stop next (r .to) (landsBy r) (T-true b))) (rides here since is))
+      (boards-minute next (r .to) (landsBy r) (T-true b)) on
 
   pub journey-reached : {end : ℕ} → Journey t q end → Reached t (q .source) (q .minute) (q .target) end
   journey-reached j =
@@ -34,7 +34,7 @@ module _ (t : Timetable) (q : Query) where
       record { first = r; in-time = true-T (can-board r (q .source) (q .minute) there late); onward = on }
   reached-onward (rides {r = earlier} here since is) r there late on =
       reached-onward here earlier refl since
-      (changes {next = r} is (true-T (can-board r (earlier .to) (latest earlier) there late)) on)
+      (changes {next = r} is (true-T (can-board r (earlier .to) (landsBy earlier) there late)) on)
 
   pub reached-journey : q .source ≢ q .target → {s m : ℕ} → Reached t (q .source) (q .minute) s m → s ≡ q .target → Journey t q m
   reached-journey apart sets-out e = absurd (apart e)

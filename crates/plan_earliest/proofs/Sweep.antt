@@ -8,7 +8,7 @@ use mathlib.Core.Path.{_≡_, refl, sym, ap, subst, _∙_}
 use lib.ListN.{length}
 use Rattle.timetable.specs.Timetable.{Timetable, sharesOf, longest, rowOf}
 use Rattle.timetable.specs.declared.Row.{Row}
-use Rattle.plans.specs.Rides.{Ride, rideOf, IsRide, latest}
+use Rattle.plans.specs.Rides.{Ride, rideOf, IsRide, landsBy}
 use Rattle.plans.specs.Sound.{Timely}
 use Rattle.plans.proofs.RideMinutes.{leaves-before, departs-before}
 use Rattle.plan_rows.specs.Reading.{RowFits}
@@ -38,13 +38,13 @@ module _ (t : Timetable) (ship : Seaworthy t) (source minute : ℕ) where
   reached-since (rides {r} {m} here since is) =
       let a : minute ≤ m = reached-since here in
       let b : r .departs < r .arrives = departs-before t (ship .timely) r is in
-      let z : minute ≤ latest r = omega arith in z
+      let z : minute ≤ landsBy r = omega arith in z
 
   -- every minute is one of 16 bits
   pub reached-below : minute < 65536 → {s m : ℕ} → Reached t source minute s m → m < 65536
   reached-below small sets-out = small
   reached-below small (rides {r} here since is) =
-      subst (λ (x : Ride). latest x < 65536) (sym (is .as-timed)) (ship .fits (r .leave) (is .inside) .lands)
+      subst (λ (x : Ride). landsBy x < 65536) (sym (is .as-timed)) (ship .fits (r .leave) (is .inside) .lands)
 
   -- a ride that one can board, by its boarding row
   pub ride-boardable :
@@ -64,7 +64,7 @@ module _ (t : Timetable) (ship : Seaworthy t) (source minute : ℕ) where
     row-fits = ship .fits i inside
 
     -- a ride that ends before row i departs leaves at a row before it
-    leaves-ahead : (r : Ride) → IsRide t r → latest r ≤ row .departure → r .leave < i
+    leaves-ahead : (r : Ride) → IsRide t r → landsBy r ≤ row .departure → r .leave < i
     leaves-ahead r is early =
         lt-of-not-le (λ h. let no' : ⊥ = omega (arith, ship .timely .rising i (r .leave) h (is .inside), leaves-before t (ship .timely) r is) in no')
 
@@ -122,7 +122,7 @@ module _ (t : Timetable) (ship : Seaworthy t) (source minute : ℕ) where
       -- a ride that leaves at row i
       leaves-here :
           (r : Ride) → IsRide t r → r .leave ≡ i → (m : ℕ) → Reached t source minute (r .from) m → m ≤ r .departs
-          → ready after (r .to) ≤ latest r
+          → ready after (r .to) ≤ landsBy r
       leaves-here r is e m here since =
           let ahead : r .board < suc i = omega (arith, is .onward) in
           let u : Underway t source minute (suc i) (row .trip) = record {
@@ -131,14 +131,14 @@ module _ (t : Timetable) (ship : Seaworthy t) (source minute : ℕ) where
             same-trip = is .one-trip ∙ ap (λ j. rowOf (t .rows) j .trip) e;
             boardable = ride-boardable r is m here since;
           } in
-          subst (λ (x : Ride). ready after (x .to) ≤ latest x) (sym (is .as-timed ∙ ap (λ j. rideOf t (r .board) j) e))
+          subst (λ (x : Ride). ready after (x .to) ≤ landsBy x) (sym (is .as-timed ∙ ap (λ j. rideOf t (r .board) j) e))
           (step .lands (λ z. not-underway-more (row .trip) (row-fits .trip) z u))
 
       no-earlier-more :
           (r : Ride) → IsRide t r → r .leave < suc i → (m : ℕ) → Reached t source minute (r .from) m → m ≤ r .departs
-          → ready after (r .to) ≤ latest r
+          → ready after (r .to) ≤ landsBy r
       no-earlier-more r is h m here since =
-          below-suc (ready after (r .to) ≤ latest r) (r .leave) i h
+          below-suc (ready after (r .to) ≤ landsBy r) (r .leave) i h
           (λ k. le-trans (step .no-later (r .to)) (sw .no-earlier r is k m here since)) (λ e. leaves-here r is e m here since)
 
       pub sweeps : Swept t source minute (suc i) after

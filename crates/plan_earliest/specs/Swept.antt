@@ -5,7 +5,7 @@ use mathlib.Core.Logic.{_⊎_}
 use mathlib.Core.Path.{_≡_}
 use Rattle.timetable.specs.Timetable.{Timetable, rowOf}
 use Rattle.timetable.specs.Limits.{mostStops, mostTrips}
-use Rattle.plans.specs.Rides.{Ride, IsRide, latest}
+use Rattle.plans.specs.Rides.{Ride, IsRide, landsBy}
 use Rattle.plan_cells.specs.Cells.{missing}
 use Rattle.plan_earliest.specs.Reached.{Reached}
 use Rattle.plan_earliest.specs.Cells.{aboard, ready}
@@ -34,7 +34,7 @@ pub record Swept (t : Timetable) (source minute i : ℕ) (work : List ℕ) : Typ
   -- no ride that leaves at a row below i lands earlier than told
   pub no-earlier :
       (r : Ride) → IsRide t r → r .leave < i → (m : ℕ) → Reached t source minute (r .from) m → m ≤ r .departs
-      → ready work (r .to) ≤ latest r
+      → ready work (r .to) ≤ landsBy r
   pub underway : (trip : ℕ) → trip < mostTrips → (aboard work trip ≡ 0 → ⊥) → Underway t source minute i trip
   pub not-underway : (trip : ℕ) → trip < mostTrips → aboard work trip ≡ 0 → Underway t source minute i trip → ⊥
 

@@ -7,7 +7,7 @@ use native.Mathlib.Nat.{add-zero}
 use native.Mathlib.Omega.{arith}
 use lib.ListN.{length, getD}
 use Rattle.timetable.specs.Timetable.{sharesOf, longest, rowOf}
-use Rattle.plans.specs.Rides.{latest}
+use Rattle.plans.specs.Rides.{landsBy}
 use Rattle.plans.specs.Worth.{Valued}
 use Rattle.plan_cells.specs.Cells.{pairCells}
 use Rattle.plan_rows.specs.declared.Sailings.{Sailings}
@@ -26,8 +26,8 @@ pub record Aboard (file : List ℕ) (s : Sailings) (tables work : List ℕ) (i :
   pub class : rowOf (rowsIn file s) (v .ride .leave) .class < 16
   pub lands :
       rowOf (rowsIn file s) (v .ride .leave) .arrival + getD tables (256 * rowOf (rowsIn file s) (v .ride .leave) .class + 0) 0
-      ≡ latest (v .ride)
-  pub minute : latest (v .ride) < 65536
+      ≡ landsBy (v .ride)
+  pub minute : landsBy (v .ride) < 65536
 
 module _ {file : List ℕ} {s : Sailings} {tables work : List ℕ} (stand : FileReadable file s) (blocks : TablesHeld tables (tablesIn file s)) (goal : Goal)
     (first end : ℕ) (ahead : first ≤ end) (inside : end ≤ s .rows) (held : ScanHeld work (s .rows) first end (scanIn file s goal first end)) where
@@ -41,7 +41,7 @@ module _ {file : List ℕ} {s : Sailings} {tables work : List ℕ} (stand : File
       subst (λ j. PairHolds work j (some v)) here
       (subst (λ (o : Option Valued). PairHolds work (v .ride .board) o) (k .best)
       (held .pair-holds (v .ride .board) (k .from-first) (k .before-end))) in
-      let lands : row .arrival + getD tables (256 * row .class + 0) 0 ≡ latest (v .ride) =
+      let lands : row .arrival + getD tables (256 * row .class + 0) 0 ≡ landsBy (v .ride) =
       ap₂ (λ a b. a + b) (sym (k .arrives))
       (ap (λ j. getD tables j 0) (add-zero (256 * row .class))
       ∙ blocks .held (row .class) (let z : row .class < length (tablesIn file s) = omega (arith, stand .tables-count, fits .class) in z) .longest-held

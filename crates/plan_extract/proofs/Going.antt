@@ -10,7 +10,7 @@ use borrow.Author.Tests.{eqb-true, eqb-false}
 use lib.Dec.{eqb}
 use Rattle.laws.proofs.Tests.{ifb}
 use Rattle.laws.proofs.Members.{head-or-later}
-use Rattle.plans.specs.Rides.{latest}
+use Rattle.plans.specs.Rides.{landsBy}
 use Rattle.plans.specs.Worth.{Valued, firstOpen}
 use Rattle.plans.specs.Plan.{Window, wanted, windowsOf, extract}
 use Rattle.plans.proofs.Extracted.{on-taking}
@@ -33,7 +33,7 @@ pub record Taken (target : ℕ) (whole chosen : List Valued) (ws : List Window) 
   pub behind : List Valued
   pub going : Going target whole chosen (windowsOf target (v .ride) behind ++ ws) (past ++ v ∷ []) (suc i)
   pub moves : Moves (v .ride)
-  pub safe : v .ride .to ≢ target → (u : Valued) × (firstOpen behind (v .ride .to) (latest (v .ride)) ≡ some u)
+  pub safe : v .ride .to ≢ target → (u : Valued) × (firstOpen behind (v .ride .to) (landsBy (v .ride)) ≡ some u)
   pub ordered : Ordered behind
   pub among : (u : Valued) → List·Memᴰ u behind → List·Memᴰ u chosen
   pub left : (u : Valued) → List·Memᴰ u chosen → i < u .ride .board → List·Memᴰ u behind

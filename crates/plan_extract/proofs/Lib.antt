@@ -7,7 +7,7 @@ pub mod Windows
 pub mod Wanting
 pub mod Writing
 pub mod Aboard
-pub mod Headed
+pub mod Alone
 pub mod Turn
 pub mod Pinned
 pub mod Settled

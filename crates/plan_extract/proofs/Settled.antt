@@ -19,13 +19,13 @@ same-answer one other rides latest = ap₂ (λ a b. record { rides = a; latest =
 pub write-plan-settled :
     (κs : Lfts 4) (arguments : Dens κs kinds.ps) (one other : resT kinds.r κs .Denot) (ending another : AtExit (endedOf 4 kinds.ps kinds.r) κs)
     → reads.Pre κs arguments → reads.Post κs arguments one ending → reads.Post κs arguments other another
-    → (one ≡ other) × (now (ending .1 .1 .1 .1 .1 .1 .1 .1 .0) ≡ now (another .1 .1 .1 .1 .1 .1 .1 .1 .0))
-    × (length (now (ending .1 .1 .1 .1 .1 .1 .1 .0)) ≡ length (now (another .1 .1 .1 .1 .1 .1 .1 .0)))
+    → (one ≡ other) × (now (ending .1 .1 .1 .1 .1 .1 .1 .0) ≡ now (another .1 .1 .1 .1 .1 .1 .1 .0))
+    × (length (now (ending .1 .1 .1 .1 .1 .1 .0)) ≡ length (now (another .1 .1 .1 .1 .1 .1 .0)))
     × ((i : ℕ) → used (arguments .1 .0 .rows) ≤ i
-    → getD (now (ending .1 .1 .1 .1 .1 .1 .1 .0)) i 0 ≡ getD (now (another .1 .1 .1 .1 .1 .1 .1 .0)) i 0)
+    → getD (now (ending .1 .1 .1 .1 .1 .1 .0)) i 0 ≡ getD (now (another .1 .1 .1 .1 .1 .1 .0)) i 0)
 write-plan-settled κs arguments one other ending another asked first second =
-    let a = first .0 (asked .7) in
-    let b = second .0 (asked .7) in (
+    let a = first .0 (asked .5) in
+    let b = second .0 (asked .5) in (
       same-answer one other (a .1 ∙ sym (b .1)) (a .2 ∙ sym (b .2)),
       a .0 ∙ sym (b .0),
       first .1 .same-length ∙ sym (second .1 .same-length),

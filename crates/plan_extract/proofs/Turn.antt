@@ -7,7 +7,7 @@ use native.Mathlib.Omega.{arith}
 use lib.ListN.{length, getD}
 use Rattle.timetable.specs.Timetable.{rowOf}
 use Rattle.timetable.specs.declared.Row.{Row}
-use Rattle.plans.specs.Rides.{latest}
+use Rattle.plans.specs.Rides.{landsBy}
 use Rattle.plans.specs.Worth.{Valued}
 use Rattle.plans.proofs.Order.{Ordered}
 use Rattle.plan_cells.specs.Cells.{tripCells, stopCells, pairCells, used}
@@ -17,7 +17,7 @@ use Rattle.plan_rows.specs.Reading.{rowsIn, tablesIn, FileReadable, TablesHeld}
 use Rattle.plans.specs.declared.Goal.{Goal}
 use Rattle.plan_scan.specs.Scanned.{scanIn, ScanHeld}
 use Rattle.plan_slice.specs.Slice.{withRide}
-use Rattle.plan_extract.specs.Extracted.{FirstRide, planFrom}
+use Rattle.plan_extract.specs.Extracted.{PlanAhead, ridesAhead}
 use Rattle.plan_extract.specs.Marks.{Catching, AllPassed}
 use Rattle.plan_extract.proofs.Kept.{kept-held}
 use Rattle.plan_extract.proofs.Timed.{ordered, known}
@@ -25,49 +25,48 @@ use Rattle.plan_extract.proofs.Aboard.{Aboard, aboard}
 use Rattle.plan_extract.proofs.Wanting.{catching}
 use Rattle.plan_extract.proofs.Writing.{Writing, marked-ride, lands, writing-arrived, writing-changed}
 
--- the pass at row i, whatever first ride boards at row `head`
-abbrev pub AtRow : (file : List ℕ) (s : Sailings) (goal : Goal) (first head end : ℕ) (plan₀ work plan : List ℕ) (rides last i : ℕ) → Type 0
-AtRow file s goal first head end plan₀ work plan rides last i =
-    (f : FirstRide (scanIn file s goal first end .chosen) head)
-    → Writing (goal .target) (s .rows) (planFrom (goal .target) f) (scanIn file s goal first end .chosen) plan₀ work plan rides last i
+-- the pass at row i, of the plan ahead
+abbrev pub AtRow :
+    {file : List ℕ} {s : Sailings} {goal : Goal} {boarding end : ℕ} {work₀ : List ℕ} → PlanAhead file s goal boarding end work₀
+    → (plan₀ work plan : List ℕ) (rides last i : ℕ) → Type 0
+AtRow {file} {s} {goal} {end = end} p plan₀ work plan rides last i =
+    Writing (goal .target) (s .rows) (ridesAhead p) (scanIn file s goal (p .first) end .chosen) plan₀ work plan rides last i
 
 -- what is known there, if the row is marked
-pub record Turn (file : List ℕ) (s : Sailings) (tables : List ℕ) (goal : Goal) (first head end : ℕ) (work₀ plan₀ work plan : List ℕ)
-    (rides last i : ℕ) : Type 0 where
+pub record Turn (file : List ℕ) (s : Sailings) (tables : List ℕ) (goal : Goal) (boarding end : ℕ) (work₀ : List ℕ)
+    (p : PlanAhead file s goal boarding end work₀) (plan₀ work plan : List ℕ) (rides last i : ℕ) : Type 0 where
   pub stand : FileReadable file s
   pub blocks : TablesHeld tables (tablesIn file s)
-  pub ahead : first ≤ end
   pub inside : end ≤ s .rows
   pub cells : used (s .rows) ≤ length work₀
   pub room : 3 * s .rows ≤ length plan₀
-  pub held : ScanHeld work₀ (s .rows) first end (scanIn file s goal first end)
-  pub begun : FirstRide (scanIn file s goal first end .chosen) head
   pub below : i < end
   pub few : rides ≤ i
   pub kept : SameOutside tripCells stopCells work₀ work
-  pub at-row : AtRow file s goal first head end plan₀ work plan rides last i
+  pub at-row : AtRow p plan₀ work plan rides last i
   pub mark : getD work i 0 ≡ 1
 
-module _ {file : List ℕ} {s : Sailings} {tables : List ℕ} {goal : Goal} {first head end : ℕ} {work₀ plan₀ work plan : List ℕ} {rides last i : ℕ}
-    (t : Turn file s tables goal first head end work₀ plan₀ work plan rides last i) where
+module _ {file : List ℕ} {s : Sailings} {tables : List ℕ} {goal : Goal} {boarding end : ℕ} {work₀ : List ℕ}
+    {p : PlanAhead file s goal boarding end work₀} {plan₀ work plan : List ℕ} {rides last i : ℕ}
+    (t : Turn file s tables goal boarding end work₀ p plan₀ work plan rides last i) where
   abbrev chosen : List Valued
-  chosen = scanIn file s goal first end .chosen
+  chosen = scanIn file s goal (p .first) end .chosen
 
   within-rows : i < s .rows
   within-rows = omega (arith, t .below, t .inside)
 
-  held-still : ScanHeld work (s .rows) first end (scanIn file s goal first end)
-  held-still = kept-held (t .kept) (t .held)
+  held-still : ScanHeld work (s .rows) (p .first) end (scanIn file s goal (p .first) end)
+  held-still = kept-held (t .kept) (p .held)
 
   in-order : Ordered chosen
-  in-order = ordered file s (t .stand) end (t .inside) goal first (t .ahead)
+  in-order = ordered file s (t .stand) end (t .inside) goal (p .first) (p .ordered)
 
   -- the row's ride
   found : (v : Valued) × List·Memᴰ v chosen × (v .ride .board ≡ i)
-  found = marked-ride (t .at-row (t .begun)) within-rows (t .mark)
+  found = marked-ride (t .at-row) within-rows (t .mark)
 
   on-board : Aboard file s tables work i (found .0)
-  on-board = aboard (t .stand) (t .blocks) goal first end (t .ahead) (t .inside) held-still (found .0) (found .1) i (found .2)
+  on-board = aboard (t .stand) (t .blocks) goal (p .first) end (p .ordered) (t .inside) held-still (found .0) (found .1) i (found .2)
 
   -- the row where it leaves, by the number that its cell holds
   module _ (leave : ℕ) (left : leave ≡ getD work (pairCells + 2 * i + 1) 0) where
@@ -89,7 +88,7 @@ module _ {file : List ℕ} {s : Sailings} {tables : List ℕ} {goal : Goal} {fir
 
       -- when it lands at the latest
       module _ (delay : ℕ) (longest-is : delay ≡ getD tables (256 * row .class + 0) 0) where
-        landing-is : row .arrival + delay ≡ latest (found .0 .ride)
+        landing-is : row .arrival + delay ≡ landsBy (found .0 .ride)
         landing-is =
             ap (λ k. row .arrival + k) longest-is
             ∙ ap (λ (r : Row). r .arrival + getD tables (256 * r .class + 0) 0) is-row ∙ on-board .lands
@@ -102,14 +101,14 @@ module _ {file : List ℕ} {s : Sailings} {tables : List ℕ} {goal : Goal} {fir
         met away =
             let v = found .0 in
             let stop = on-board .stop in
-            let safe = lands (t .at-row (t .begun)) in-order v (found .1) (found .2) within-rows (t .mark) (λ e. away (sym to-is ∙ e)) in
+            let safe = lands (t .at-row) in-order v (found .1) (found .2) within-rows (t .mark) (λ e. away (sym to-is ∙ e)) in
             subst (λ k. Catching work (row .land) (row .arrival) k) (sym landing-is)
-            (subst (λ k. Catching work (row .land) k (latest (v .ride))) arrives-is
-            (subst (λ k. Catching work k (v .ride .arrives) (latest (v .ride))) to-is
+            (subst (λ k. Catching work (row .land) k (landsBy (v .ride))) arrives-is
+            (subst (λ k. Catching work k (v .ride .arrives) (landsBy (v .ride))) to-is
             (catching (safe .1) work (held-still .stack-holds (v .ride .to) stop) (held-still .climbing (v .ride .to) stop) (s .rows) stop
             (omega (arith, t .kept .same-length, t .cells))
             (omega (arith, t .kept .same-length, t .cells, held-still .stack-inside (v .ride .to) stop)) (t .stand .few-rows)
-            (λ u m. omega (arith, known file s (t .stand) end (t .inside) goal first (t .ahead) u m .before-end, t .inside)))))
+            (λ u m. omega (arith, known file s (t .stand) end (t .inside) goal (p .first) (p .ordered) u m .before-end, t .inside)))))
 
         -- the plan slice with its three numbers, and the latest minute so far
         module _ (plan' : List ℕ) (laid : plan' ≡ withRide plan rides i (getD work (pairCells + 2 * i + 1) 0) (getD work (pairCells + 2 * i) 0))
@@ -122,19 +121,19 @@ module _ {file : List ℕ} {s : Sailings} {tables : List ℕ} {goal : Goal} {fir
           room-left : 3 * suc rides ≤ length plan₀
           room-left = omega (arith, t .few, t .below, t .inside, t .room)
 
-          pub arrived : row .land ≡ goal .target → AtRow file s goal first head end plan₀ work plan' (rides + 1) last' (i + 1)
-          arrived there f =
-              writing-arrived (t .at-row f) in-order (found .0) (found .1) (found .2) within-rows (t .mark) room-left plan' ride-laid last'
+          pub arrived : row .land ≡ goal .target → AtRow p plan₀ work plan' (rides + 1) last' (i + 1)
+          arrived there =
+              writing-arrived (t .at-row) in-order (found .0) (found .1) (found .2) within-rows (t .mark) room-left plan' ride-laid last'
               (later ∙ ap (max last) landing-is) (to-is ∙ there)
 
           pub changed : row .land ≢ goal .target → (new : List ℕ) → AllPassed work new (row .land) (row .arrival) (row .arrival + delay)
-              → AtRow file s goal first head end plan₀ new plan' (rides + 1) last' (i + 1)
-          changed away new passed f =
+              → AtRow p plan₀ new plan' (rides + 1) last' (i + 1)
+          changed away new passed =
               let v = found .0 in
               let stop = on-board .stop in
-              writing-changed (t .at-row f) in-order v (found .1) (found .2) within-rows (t .mark) room-left plan' ride-laid last'
+              writing-changed (t .at-row) in-order v (found .1) (found .2) within-rows (t .mark) room-left plan' ride-laid last'
               (later ∙ ap (max last) landing-is) (λ e. away (sym to-is ∙ e)) (held-still .stack-holds (v .ride .to) stop)
               (held-still .climbing (v .ride .to) stop) new
-              (subst (λ k. AllPassed work new k (v .ride .arrives) (latest (v .ride))) (sym to-is)
-              (subst (λ k. AllPassed work new (row .land) k (latest (v .ride))) (sym arrives-is)
+              (subst (λ k. AllPassed work new k (v .ride .arrives) (landsBy (v .ride))) (sym to-is)
+              (subst (λ k. AllPassed work new (row .land) k (landsBy (v .ride))) (sym arrives-is)
               (subst (λ k. AllPassed work new (row .land) (row .arrival) k) landing-is passed)))

@@ -13,7 +13,7 @@ use lib.Dec.{leb}
 use lib.ListN.{length, getD}
 use Rattle.laws.proofs.Alternatives.{or-left, or-right}
 use Rattle.laws.proofs.Tests.{ifb, either}
-use Rattle.plans.specs.Rides.{latest}
+use Rattle.plans.specs.Rides.{landsBy}
 use Rattle.plans.specs.Worth.{Valued, firstOpen}
 use Rattle.plans.specs.Plan.{Window, inWindow, wanted, windowsOf}
 use Rattle.plans.proofs.Open.{boards-stop, boards-minute, can-board, found-member, found-boards}
@@ -48,27 +48,27 @@ pub record Lands (chosen behind : List Valued) (v safe : Valued) : Type 0 where
   pub behind-ordered : Ordered behind
   pub among : (u : Valued) → List·Memᴰ u behind → List·Memᴰ u chosen
   pub left : (u : Valued) → List·Memᴰ u chosen → v .ride .board < u .ride .board → List·Memᴰ u behind
-  pub first : firstOpen behind (v .ride .to) (latest (v .ride)) ≡ some safe
+  pub first : firstOpen behind (v .ride .to) (landsBy (v .ride)) ≡ some safe
 
 -- the first safe ride departs first of all chosen rides that are safe
 module _ {chosen behind : List Valued} {v safe : Valued} (l : Lands chosen behind v safe) where
   safe-member : List·Memᴰ safe chosen
-  safe-member = l .among safe (found-member behind (v .ride .to) (latest (v .ride)) (l .first))
+  safe-member = l .among safe (found-member behind (v .ride .to) (landsBy (v .ride)) (l .first))
 
   safe-from : safe .ride .from ≡ v .ride .to
-  safe-from = boards-stop (safe .ride) (v .ride .to) (latest (v .ride)) (found-boards behind (v .ride .to) (latest (v .ride)) (l .first))
+  safe-from = boards-stop (safe .ride) (v .ride .to) (landsBy (v .ride)) (found-boards behind (v .ride .to) (landsBy (v .ride)) (l .first))
 
-  safe-late : latest (v .ride) ≤ safe .ride .departs
-  safe-late = boards-minute (safe .ride) (v .ride .to) (latest (v .ride)) (found-boards behind (v .ride .to) (latest (v .ride)) (l .first))
+  safe-late : landsBy (v .ride) ≤ safe .ride .departs
+  safe-late = boards-minute (safe .ride) (v .ride .to) (landsBy (v .ride)) (found-boards behind (v .ride .to) (landsBy (v .ride)) (l .first))
 
-  safe-least : (u : Valued) → List·Memᴰ u chosen → u .ride .from ≡ v .ride .to → latest (v .ride) ≤ u .ride .departs
+  safe-least : (u : Valued) → List·Memᴰ u chosen → u .ride .from ≡ v .ride .to → landsBy (v .ride) ≤ u .ride .departs
       → safe .ride .departs ≤ u .ride .departs
   safe-least u m from late =
       members-apart chosen (l .ordered) v u (l .member) m
       (λ same. absurd (let z : ⊥ = omega (arith, ap (λ (x : Valued). x .ride .departs) same, l .moves .forward) in z))
       (λ before.
-      let boarded = can-board (u .ride) (v .ride .to) (latest (v .ride)) from late in
-      let found = first-before behind (l .behind-ordered) (v .ride .to) (latest (v .ride)) u (l .left u m (before .rows)) boarded in
+      let boarded = can-board (u .ride) (v .ride .to) (landsBy (v .ride)) from late in
+      let found = first-before behind (l .behind-ordered) (v .ride .to) (landsBy (v .ride)) u (l .left u m (before .rows)) boarded in
       let same : safe ≡ found .0 = same-thing (sym (l .first) ∙ found .1) in
       subst (λ (x : Valued). x .ride .departs ≤ u .ride .departs) (sym same) (no-later (found .0) u (found .2)))
       (λ after. absurd (let z : ⊥ = omega (arith, after .minutes, l .moves .forward) in z))
@@ -97,14 +97,14 @@ module _ {chosen behind : List Valued} {v safe : Valued} (l : Lands chosen behin
         (λ higher. omega (arith, fall (safe-place .0) k higher below, safe-place .1 .departs)) (eq-or-lt-of-le above)
 
     -- an entry caught is not below the safe one
-    caught-above : (k : ℕ) → Caught work start size (v .ride .arrives) (latest (v .ride)) k → safe-place .0 ≤ k
+    caught-above : (k : ℕ) → Caught work start size (v .ride .arrives) (landsBy (v .ride)) k → safe-place .0 ≤ k
     caught-above k c =
         ifb (λ _. safe-place .0 ≤ k) (leb (safe-place .0) k) (leb-true (safe-place .0) k)
         (λ e. absurd (let needed = c .needed (safe-place .0) (leb-false (safe-place .0) k e) (safe-place .1 .inside) in
         let z : ⊥ = omega (arith, safe-place .1 .departs, safe-late) in z))
 
     -- the entries caught are the rides in the window
-    caught-wanted : (k : ℕ) → Caught work start size (v .ride .arrives) (latest (v .ride)) k
+    caught-wanted : (k : ℕ) → Caught work start size (v .ride .arrives) (landsBy (v .ride)) k
         → (u : Valued) × Stands work (v .ride .to) chosen k u × (inWindow (window (v .ride) safe) (u .ride) ≡ true)
     caught-wanted k c =
         let found = entry-ride work (v .ride .to) chosen holds climbing v k (c .inside) in
@@ -114,7 +114,7 @@ module _ {chosen behind : List Valued} {v safe : Valued} (l : Lands chosen behin
         (u, found .1, in-window (window (v .ride) safe) (u .ride) (can-board (u .ride) (v .ride .to) (v .ride .arrives) (found .1 .from) late) until)
 
     wanted-caught : (u : Valued) → List·Memᴰ u chosen → inWindow (window (v .ride) safe) (u .ride) ≡ true
-        → (k : ℕ) × Caught work start size (v .ride .arrives) (latest (v .ride)) k × (entryRow work start k ≡ u .ride .board)
+        → (k : ℕ) × Caught work start size (v .ride .arrives) (landsBy (v .ride)) k × (entryRow work start k ≡ u .ride .board)
     wanted-caught u m e =
         let boarded = window-boards (window (v .ride) safe) (u .ride) e in
         let until : u .ride .departs ≤ safe .ride .departs = window-until (window (v .ride) safe) (u .ride) e in
@@ -128,7 +128,7 @@ module _ {chosen behind : List Valued} {v safe : Valued} (l : Lands chosen behin
                 λ q above below.
                 lt-of-not-le (λ open'.
                 let other = entry-ride work (v .ride .to) chosen holds climbing v q below in
-                let after : latest (v .ride) ≤ other .0 .ride .departs = omega (arith, other .1 .departs) in
+                let after : landsBy (v .ride) ≤ other .0 .ride .departs = omega (arith, other .1 .departs) in
                 let least = safe-least (other .0) (other .1 .member) (other .1 .from) after in
                 let z : ⊥ = omega (arith, fall (found .0) q above below, found .1 .departs, other .1 .departs) in z);
           },
@@ -143,10 +143,10 @@ module _ {chosen behind : List Valued} {v safe : Valued} (l : Lands chosen behin
 
     -- the stack of the landing stop, as catching asks for it
     pub catching : (n : ℕ) → v .ride .to < 200 → 2400 ≤ length work → start + 2 * size ≤ length work → n ≤ 2000
-        → ((u : Valued) → List·Memᴰ u chosen → u .ride .board < n) → Catching work (v .ride .to) (v .ride .arrives) (latest (v .ride))
+        → ((u : Valued) → List·Memᴰ u chosen → u .ride .board < n) → Catching work (v .ride .to) (v .ride .arrives) (landsBy (v .ride))
     catching n stop cells room few rows =
         let lowest = bottom-last (safe-place .0) (safe-place .1 .inside) in
-        let last : latest (v .ride) ≤ entryDeparture work start 0 = omega (arith, safe-place .1 .departs, safe-late) in
+        let last : landsBy (v .ride) ≤ entryDeparture work start 0 = omega (arith, safe-place .1 .departs, safe-late) in
         record {
           stop = stop;
           cells = cells;
@@ -160,13 +160,13 @@ module _ {chosen behind : List Valued} {v safe : Valued} (l : Lands chosen behin
           rows =
               λ k h. let found = entry-ride work (v .ride .to) chosen holds climbing v k h in
               (let z : entryRow work start k < 2000 = omega (arith, found .1 .row, rows (found .0) (found .1 .member)) in z);
-          late = (let z : v .ride .arrives ≤ latest (v .ride) = omega arith in z);
+          late = (let z : v .ride .arrives ≤ landsBy (v .ride) = omega arith in z);
           safe = last;
         }
 
     -- once all entries caught are marked, the marks are those of one window more
     pub marking-on : (target n : ℕ) (ws : List Window) (new : List ℕ) → v .ride .to ≢ target → Marking work n chosen ws
-        → AllPassed work new (v .ride .to) (v .ride .arrives) (latest (v .ride))
+        → AllPassed work new (v .ride .to) (v .ride .arrives) (landsBy (v .ride))
         → Marking new n chosen (windowsOf target (v .ride) behind ++ ws)
     unfolding wanted
     marking-on target n ws new away m p =

@@ -9,7 +9,7 @@ use native.Mathlib.Omega.{arith}
 use lib.ListN.{length, getD}
 use Rattle.laws.proofs.Options.{same-thing}
 use Rattle.laws.proofs.Tests.{ifb, either}
-use Rattle.plans.specs.Rides.{Ride, latest, boards}
+use Rattle.plans.specs.Rides.{Ride, landsBy, boards}
 use Rattle.plans.specs.Worth.{Valued}
 use Rattle.plans.specs.Plan.{Window, inWindow, wanted, upTo, windowsOf, latestOf}
 use Rattle.plans.proofs.Extracted.{up-to-wants, window-boards, window-until}
@@ -21,12 +21,12 @@ use Rattle.plan_slice.specs.Slice.{written, withRide}
 use Rattle.plan_slice.proofs.Written.{length-over, length-more, over-none, over-more}
 use Rattle.plan_extract.specs.Extracted.{FirstRide, planFrom}
 use Rattle.numbers.specs.Over.{over}
-use Rattle.plan_extract.specs.Marks.{HeadAlone, AllPassed}
+use Rattle.plan_extract.specs.Marks.{MarkedAlone, AllPassed}
 use Rattle.plan_extract.proofs.Going.{Going, Taken, going-start, going-pass, going-take, going-end}
 use Rattle.plan_extract.proofs.Windows.{none-more}
 use Rattle.plan_extract.proofs.Wanting.{Marking, Lands, unmarked, marking-on}
 
-latest-more : (past : List Valued) (v : Valued) → latestOf (past ++ v ∷ []) ≡ max (latestOf past) (latest (v .ride))
+latest-more : (past : List Valued) (v : Valued) → latestOf (past ++ v ∷ []) ≡ max (latestOf past) (landsBy (v .ride))
 unfolding latestOf
 latest-more [] v = omega arith
 latest-more (u ∷ past) v = let rest = latest-more past v in omega arith
@@ -48,7 +48,7 @@ pub record Writing (target n : ℕ) (whole chosen : List Valued) (plan₀ work p
   pub rides-is : rides ≡ length past
   pub last-is : last ≡ latestOf past
 
-module _ (chosen : List Valued) (ordered : Ordered chosen) {head : ℕ} (f : FirstRide chosen head) where
+module _ (chosen : List Valued) (ordered : Ordered chosen) {boarding : ℕ} (f : FirstRide chosen boarding) where
   abbrev start : List Window
   start = upTo (f .stop) (f .minute) (some (f .ride))
 
@@ -79,8 +79,8 @@ module _ (chosen : List Valued) (ordered : Ordered chosen) {head : ℕ} (f : Fir
       ⊎-elim (λ q. sym (same ∙ q))
       (λ b. absurd (let z : ⊥ = omega (arith, ap (λ (x : Valued). x .ride .departs) same, b .apart from) in z)) (found .2)
 
-  module _ (target n : ℕ) (own-worth : OwnWorth target chosen) (plan work : List ℕ) (alone : HeadAlone work n head) where
-    going-to : (k : ℕ) → k ≤ head → Going target (planFrom target f) chosen start [] k
+  module _ (target n : ℕ) (own-worth : OwnWorth target chosen) (plan work : List ℕ) (alone : MarkedAlone work n boarding) where
+    going-to : (k : ℕ) → k ≤ boarding → Going target (planFrom target f) chosen start [] k
     going-to zero h = going-start target (planFrom target f) chosen start ordered own-worth refl
     going-to (suc k) h =
         going-pass target (planFrom target f) chosen (going-to k (omega arith))
@@ -89,13 +89,13 @@ module _ (chosen : List Valued) (ordered : Ordered chosen) {head : ℕ} (f : Fir
         (λ _ _. refl) refl)
 
     -- nothing is written yet, and the first ride alone is wanted
-    pub writing-start : Writing target n (planFrom target f) chosen plan work plan 0 0 head
+    pub writing-start : Writing target n (planFrom target f) chosen plan work plan 0 0 boarding
     unfolding latestOf
     writing-start =
         record {
           windows = start;
           past = [];
-          going = going-to head (omega arith);
+          going = going-to boarding (omega arith);
           marking =
               record {
                 marked = λ v m e.
@@ -168,7 +168,7 @@ module _ {target n : ℕ} {whole chosen : List Valued} {plan₀ work plan : List
         )
 
     module _ (room : 3 * suc rides ≤ length plan₀) (plan' : List ℕ) (laid : plan' ≡ withRide plan rides (v .ride .board) (v .ride .leave) (v .worth))
-        (last' : ℕ) (later : last' ≡ max last (latest (v .ride))) where
+        (last' : ℕ) (later : last' ≡ max last (landsBy (v .ride))) where
       writing-with : (new : List ℕ) → Marking new n chosen (windowsOf target (v .ride) (taken .behind) ++ w .windows)
           → Writing target n whole chosen plan₀ new plan' (rides + 1) last' (i + 1)
       writing-with new marks =
@@ -185,7 +185,7 @@ module _ {target n : ℕ} {whole chosen : List Valued} {plan₀ work plan : List
                 ∙ over-more (w .past) v plan₀ rides (w .rides-is)
                 (let z : 3 * suc (length (w .past)) ≤ length plan₀ = omega (arith, w .rides-is) in z);
             rides-is = ap (λ k. k + 1) (w .rides-is) ∙ sym (length-more (w .past) v);
-            last-is = later ∙ ap (λ k. max k (latest (v .ride))) (w .last-is) ∙ sym (latest-more (w .past) v);
+            last-is = later ∙ ap (λ k. max k (landsBy (v .ride))) (w .last-is) ∙ sym (latest-more (w .past) v);
           }
 
       -- it ends at the target, and leads no further
@@ -196,7 +196,7 @@ module _ {target n : ℕ} {whole chosen : List Valued} {plan₀ work plan : List
 
       -- it lands elsewhere, and those that can be caught there are marked
       pub writing-changed : (away : v .ride .to ≢ target) → StackHolds work (v .ride .to) chosen → Climbing (v .ride .to) chosen → (new : List ℕ)
-          → AllPassed work new (v .ride .to) (v .ride .arrives) (latest (v .ride))
+          → AllPassed work new (v .ride .to) (v .ride .arrives) (landsBy (v .ride))
           → Writing target n whole chosen plan₀ new plan' (rides + 1) last' (i + 1)
       writing-changed away holds climbing new passed =
           writing-with new (marking-on (lands away .1) work holds climbing target n (w .windows) new away (w .marking) passed)

@@ -34,7 +34,7 @@ pub record Passed (old new : List ℕ) (start size arrival landing place : ℕ) 
 abbrev pub AllPassed : (old new : List ℕ) (land arrival landing : ℕ) → Type 0
 AllPassed old new land arrival landing = Passed old new (stackStart old land) (stackSize old land) arrival landing 0
 
--- row `head` alone of n rows is marked
-pub record HeadAlone (work : List ℕ) (n head : ℕ) : Type 0 where
-  pub marked : getD work head 0 ≡ 1
-  pub only : (i : ℕ) → i < n → getD work i 0 ≡ 1 → i ≡ head
+-- row `boarding` alone of n rows is marked
+pub record MarkedAlone (work : List ℕ) (n boarding : ℕ) : Type 0 where
+  pub marked : getD work boarding 0 ≡ 1
+  pub only : (i : ℕ) → i < n → getD work i 0 ≡ 1 → i ≡ boarding

@@ -6,11 +6,10 @@ ghost use Rattle.plans.specs.Plan.{latestOf};
 ghost use Rattle.plan_cells.specs.Cells.{tripCells, used, pairCells};
 ghost use Rattle.plan_cells.specs.Outside.{SameOutside};
 ghost use Rattle.plan_rows.specs.Reading.{tablesIn, FileReadable, TablesHeld};
-ghost use Rattle.plan_scan.specs.Scanned.{scanIn, ScanHeld};
-ghost use Rattle.plan_extract.specs.Extracted.{FirstRide, planFrom};
+ghost use Rattle.plan_extract.specs.Extracted.{PlanAhead, ridesAhead};
 ghost use Rattle.plan_slice.specs.Slice.{written, withRide};
 ghost use Rattle.numbers.specs.Over.{over};
-ghost use Rattle.plan_extract.specs.Marks.{Catching, AllPassed, HeadAlone};
+ghost use Rattle.plan_extract.specs.Marks.{Catching, AllPassed, MarkedAlone};
 use numbers::cell;
 use numbers::number;
 use plan_cells::PAIR_CELLS;
@@ -34,30 +33,28 @@ pub struct Written {
     pub latest: u32,
 }
 
-// The rides of the plan whose first row is `head`, by boarding row rising, into the plan slice.
+// The rides of the plan whose first row is `boarding`, by boarding row rising, into the plan slice.
 pub fn write_plan(
     file: &[u8],
     s: Sailings,
     tables: &[u32],
     goal: Goal,
-    first: usize,
-    head: usize,
+    boarding: usize,
     end: usize,
     work: &mut [u32],
     plan: &mut [u32],
 ) -> Written
-    requires { ⌜ FileReadable (now file) s × TablesHeld (now tables) (tablesIn (now file) s) × (first ≤ end) × (end ≤ s .rows)
+    requires { ⌜ FileReadable (now file) s × TablesHeld (now tables) (tablesIn (now file) s) × (end ≤ s .rows)
         × (used (s .rows) ≤ length (now work)) × (3 * s .rows ≤ length (now plan))
-        × ScanHeld (now work) (s .rows) first end (scanIn (now file) s goal first end)
-        × FirstRide (scanIn (now file) s goal first end .chosen) head ⌝ }
-    ensures { λ r. ⌜ ((f : FirstRide (scanIn (now (file .entry)) s goal first end .chosen) head)
-        → (now (plan .exit) ≡ over (written (planFrom (goal .target) f)) (now (plan .entry)))
-        × (r .rides ≡ length (planFrom (goal .target) f)) × (r .latest ≡ latestOf (planFrom (goal .target) f)))
+        × PlanAhead (now file) s goal boarding end (now work) ⌝ }
+    ensures { λ r. ⌜ ((p : PlanAhead (now (file .entry)) s goal boarding end (now (work .entry)))
+        → (now (plan .exit) ≡ over (written (ridesAhead p)) (now (plan .entry)))
+        × (r .rides ≡ length (ridesAhead p)) × (r .latest ≡ latestOf (ridesAhead p)))
         × SameOutside tripCells (used (s .rows)) (now (work .entry)) (now (work .exit)) ⌝ }
 {
     fill(work, TRIP_CELLS, s.rows, 0);
-    work[TRIP_CELLS + head] = 1;
-    write_wanted(file, s, tables, goal, first, head, end, work, plan)
+    work[TRIP_CELLS + boarding] = 1;
+    write_wanted(file, s, tables, goal, boarding, end, work, plan)
 }
 
 // The rides of the marked rows; each marks the rows that it may be changed to, all of them further on.
@@ -66,24 +63,22 @@ fn write_wanted(
     s: Sailings,
     tables: &[u32],
     goal: Goal,
-    first: usize,
-    head: usize,
+    boarding: usize,
     end: usize,
     work: &mut [u32],
     plan: &mut [u32],
 ) -> Written
-    requires { ⌜ FileReadable (now file) s × TablesHeld (now tables) (tablesIn (now file) s) × (first ≤ end) × (end ≤ s .rows)
+    requires { ⌜ FileReadable (now file) s × TablesHeld (now tables) (tablesIn (now file) s) × (end ≤ s .rows)
         × (used (s .rows) ≤ length (now work)) × (3 * s .rows ≤ length (now plan))
-        × ScanHeld (now work) (s .rows) first end (scanIn (now file) s goal first end)
-        × FirstRide (scanIn (now file) s goal first end .chosen) head × HeadAlone (now work) (s .rows) head ⌝ }
-    ensures { λ r. ⌜ ((f : FirstRide (scanIn (now (file .entry)) s goal first end .chosen) head)
-        → (now (plan .exit) ≡ over (written (planFrom (goal .target) f)) (now (plan .entry)))
-        × (r .rides ≡ length (planFrom (goal .target) f)) × (r .latest ≡ latestOf (planFrom (goal .target) f)))
+        × PlanAhead (now file) s goal boarding end (now work) × MarkedAlone (now work) (s .rows) boarding ⌝ }
+    ensures { λ r. ⌜ ((p : PlanAhead (now (file .entry)) s goal boarding end (now (work .entry)))
+        → (now (plan .exit) ≡ over (written (ridesAhead p)) (now (plan .entry)))
+        × (r .rides ≡ length (ridesAhead p)) × (r .latest ≡ latestOf (ridesAhead p)))
         × SameOutside tripCells (used (s .rows)) (now (work .entry)) (now (work .exit)) ⌝ }
 {
     let mut rides = 0;
     let mut latest = 0;
-    let mut i = head;
+    let mut i = boarding;
     while i < end {
         let board = i;
         i += 1;

@@ -19,7 +19,7 @@ use Rattle.timetable.specs.Timetable.{Timetable, rowOf, noRow}
 use Rattle.query.specs.declared.Query.{Query}
 use Rattle.plans.specs.declared.Goal.{Goal}
 use Rattle.plans.specs.Sound.{Timely}
-use Rattle.plans.specs.Rides.{latest}
+use Rattle.plans.specs.Rides.{landsBy}
 use Rattle.plans.specs.Journeys.{goalOf, within}
 use Rattle.plans.specs.Worth.{Valued, firstOpen}
 use Rattle.plans.specs.Chosen.{Aim, inTicks, Scan, scan, bestOf, choose, nextOf, least, getOff, stayOn, rowRide}
@@ -116,17 +116,17 @@ module _ (t : Timetable) (timely : Timely t) where
     past-bound : (i : ℕ) → i < length (t .rows) → goal .bound ≤ rowOf (t .rows) i .departure → bestAt (inTicks goal) t i ≡ none
     past-bound i h late =
         present-or-absent (bestAt (inTicks goal) t i ≡ none) (bestAt (inTicks goal) t i) (λ e. e)
-        (λ v e. absurd (too-far v e (either (eqb (goal .bound) 0) (leb (latest (v .ride)) (goal .bound)) (best-within t timely goal i h v e))))
+        (λ v e. absurd (too-far v e (either (eqb (goal .bound) 0) (leb (landsBy (v .ride)) (goal .bound)) (best-within t timely goal i h v e))))
       where
         too-far : (v : Valued) → bestAt (inTicks goal) t i ≡ some v
-            → (eqb (goal .bound) 0 ≡ true) ⊎ (leb (latest (v .ride)) (goal .bound) ≡ true) → ⊥
+            → (eqb (goal .bound) 0 ≡ true) ⊎ (leb (landsBy (v .ride)) (goal .bound) ≡ true) → ⊥
         too-far v e (inl q) = real (eqb-true (goal .bound) 0 q)
         too-far v e (inr q) =
             let before : v .ride .departs < v .ride .arrives =
             departs-before t timely (v .ride) (best-is-ride (inTicks goal) t i h v e)
             in
             let leaves : v .ride .departs ≡ rowOf (t .rows) i .departure = best-boards (inTicks goal) t i h v e .minute in
-            let z : ⊥ = omega (arith, leb-true (latest (v .ride)) (goal .bound) q) in z
+            let z : ⊥ = omega (arith, leb-true (landsBy (v .ride)) (goal .bound) q) in z
 
     pub bound-idle : (end : ℕ) → Cut (t .rows) (goal .bound) end → Idle (inTicks goal) t end
     bound-idle end cut =

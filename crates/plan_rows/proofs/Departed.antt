@@ -8,7 +8,7 @@ use mathlib.Core.Path.{_≡_, refl, sym, ap, ap₂, subst, _∙_}
 use lib.Dec.{leb, eqb}
 use borrow.Author.Tests.{leb-true, leb-false, eqb-true, lt-leb}
 use Rattle.laws.proofs.Tests.{ifb, both-right, cond-true, cond-false}
-use Rattle.plans.specs.Rides.{Ride, latest, boards}
+use Rattle.plans.specs.Rides.{Ride, landsBy, boards}
 use Rattle.plans.specs.Worth.{Valued, firstOpen}
 use Rattle.plans.specs.Chosen.{Aim, others}
 use Rattle.plans.specs.Plan.{Window, inWindow, wanted, upTo, windowsOf, extract}
@@ -81,8 +81,8 @@ late-up-to m stop minute (some v) late = (late, tt)
 late-windows : (m target : ℕ) (r : Ride) (vs : List Valued) → m ≤ r .arrives → Late m (windowsOf target r vs)
 unfolding windowsOf
 late-windows m target r vs late =
-    ifb (λ b. Late m (cond b [] (upTo (r .to) (r .arrives) (firstOpen vs (r .to) (latest r))))) (eqb (r .to) target) (λ _. tt)
-    (λ _. late-up-to m (r .to) (r .arrives) (firstOpen vs (r .to) (latest r)) late)
+    ifb (λ b. Late m (cond b [] (upTo (r .to) (r .arrives) (firstOpen vs (r .to) (landsBy r))))) (eqb (r .to) target) (λ _. tt)
+    (λ _. late-up-to m (r .to) (r .arrives) (firstOpen vs (r .to) (landsBy r)) late)
 
 -- want none that has left
 unwanted : (m : ℕ) (ws : List Window) → Late m ws → (r : Ride) → r .departs < m → wanted ws r ≡ false
@@ -95,7 +95,7 @@ unwanted m (w ∷ ws) l r gone =
 -- so the rides taken are the same
 module _ (m target : ℕ) where
   taken-same : (ws : List Window) (v : Valued) (vs us : List Valued)
-      → firstOpen vs (v .ride .to) (latest (v .ride)) ≡ firstOpen us (v .ride .to) (latest (v .ride))
+      → firstOpen vs (v .ride .to) (landsBy (v .ride)) ≡ firstOpen us (v .ride .to) (landsBy (v .ride))
       → ((ws' : List Window) → Late m ws' → extract target ws' vs ≡ extract target ws' us) → Late m ws → m ≤ v .ride .arrives
       → extract target ws (v ∷ vs) ≡ extract target ws (v ∷ us)
   unfolding extract windowsOf
@@ -113,8 +113,8 @@ module _ (m target : ℕ) where
       ifb (λ b. leb m (v .ride .departs) ≡ b → extract target ws (v ∷ vs) ≡ extract target ws (cond b (v ∷ notLeft m vs) (notLeft m vs)))
       (leb m (v .ride .departs))
       (λ e _. taken-same ws v vs (notLeft m vs)
-      (sym (first-left m vs (v .ride .to) (latest (v .ride))
-      (let z : m ≤ latest (v .ride) = omega (arith, leb-true m (v .ride .departs) e, forward v (List·Memᴰ·head refl)) in z)))
+      (sym (first-left m vs (v .ride .to) (landsBy (v .ride))
+      (let z : m ≤ landsBy (v .ride) = omega (arith, leb-true m (v .ride .departs) e, forward v (List·Memᴰ·head refl)) in z)))
       (λ ws' l. extract-left vs (λ u k. forward u (List·Memᴰ·tail k)) ws' l) late
       (let z : m ≤ v .ride .arrives = omega (arith, leb-true m (v .ride .departs) e, forward v (List·Memᴰ·head refl)) in z))
       (λ e _. passed (leb-false m (v .ride .departs) e) ∙ extract-left vs (λ u k. forward u (List·Memᴰ·tail k)) ws late) refl

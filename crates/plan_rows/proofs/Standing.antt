@@ -47,7 +47,7 @@ within-same one other rows tables q bound (some first) =
     ap₂
     (λ (ts : List (List ℕ)) (rs : List Row).
     let rides = ridesFrom q (scan (inTicks (goalOf q bound)) ts 0 rs .chosen) in
-    some (record { rides = rides; expected = first .worth; last = latestOf rides; bound = bound }))
+    some (record { rides = rides; expected = first .worth; latest = latestOf rides; bound = bound }))
     tables rows
 
 before-same : (one other : Timetable) → one .rows ≡ other .rows → one .tables ≡ other .tables → (q : Query) (o : Option ℕ)

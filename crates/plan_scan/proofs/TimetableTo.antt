@@ -9,7 +9,7 @@ use lib.Seq.{length-take-le, getD-take}
 use Rattle.timetable.specs.Timetable.{Timetable, sharesOf, rowOf, noRow}
 use Rattle.timetable.specs.Classes.{whole, sum}
 use Rattle.timetable.specs.declared.Row.{Row}
-use Rattle.plans.specs.Rides.{Ride, latest}
+use Rattle.plans.specs.Rides.{Ride, landsBy}
 use Rattle.plans.specs.Sound.{Timely}
 use Rattle.plans.specs.Worth.{Valued}
 use Rattle.plans.specs.Chosen.{inTicks, offInTicks, rowRide, choose, nextOf, least, getOff, stayOn}
@@ -111,7 +111,7 @@ module _ (file : List ℕ) (s : Sailings) (goal : Goal) (end : ℕ) (stand : Fil
       }
 
   -- the last minute of 16 bits, in ticks, bounds each worth
-  lands-by : (i : ℕ) → i < end → latest (rowRide (tablesIn file s) i (rowOf (take end (rowsIn file s)) i)) ≤ 65535
+  lands-by : (i : ℕ) → i < end → landsBy (rowRide (tablesIn file s) i (rowOf (take end (rowsIn file s)) i)) ≤ 65535
   lands-by i h = let l = to-fits i h .lands in omega arith
 
   best-most : (i : ℕ) → i < end → (v : Valued) → bestRow file s goal end i ≡ some v → v .worth ≤ 256 * 65535

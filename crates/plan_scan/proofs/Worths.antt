@@ -12,7 +12,7 @@ use Rattle.laws.proofs.Tests.{ifb}
 use Rattle.timetable.specs.Timetable.{longest}
 use Rattle.timetable.specs.Classes.{whole, sum}
 use Rattle.plans.specs.declared.Goal.{Goal}
-use Rattle.plans.specs.Rides.{Ride, latest}
+use Rattle.plans.specs.Rides.{Ride, landsBy}
 use Rattle.plans.specs.Worth.{Valued, ticks, up, weigh, firstOpen, caught, worthOr, arrivalWorth, changeWorth, landWorth}
 use Rattle.plans.specs.Chosen.{offInTicks}
 use Rattle.plans.proofs.Open.{found-member}
@@ -34,7 +34,7 @@ sixteenth x l h = let z : (x + 15) / 16 < 256 * l + 1 = div-lt-iff-lt-mul (let z
 mean : (x b : ℕ) → x ≤ 4096 * b → (x + 4095) / 4096 ≤ b
 mean x b h = let z : (x + 4095) / 4096 < b + 1 = div-lt-iff-lt-mul (let z : 0 < 4096 = omega arith in z) .1 (omega arith) in omega arith
 
-pub arrival-most : (r : Ride) → sum (r .shares) ≡ whole → arrivalWorth r ≤ ticks * latest r
+pub arrival-most : (r : Ride) → sum (r .shares) ≡ whole → arrivalWorth r ≤ ticks * landsBy r
 unfolding arrivalWorth
 arrival-most r whole' =
     let each : weigh (r .shares) 0 (λ v. v) ≤ sum (r .shares) * longest (r .shares) = weigh-most (r .shares) 0 (λ v. v) (longest (r .shares)) (λ m a b. le-pred-of-lt (let z : m < length (r .shares) = omega arith in z)) in
@@ -63,12 +63,12 @@ change-most r behind most whole' each =
 
 -- getting off, where the ride lands by a minute and no ride behind is worth more than that minute
 pub off-most :
-    (goal : Goal) (r : Ride) (behind : List Valued) (minute : ℕ) → sum (r .shares) ≡ whole → latest r ≤ minute
+    (goal : Goal) (r : Ride) (behind : List Valued) (minute : ℕ) → sum (r .shares) ≡ whole → landsBy r ≤ minute
     → ((v : Valued) → List·Memᴰ v behind → v .worth ≤ ticks * minute) → (w : ℕ) → offInTicks goal r behind ≡ some w → w ≤ ticks * minute
 unfolding landWorth
 off-most goal r behind minute whole' lands each w e =
     subst (λ x. x ≤ ticks * minute) (off-worth goal r behind w (off-is goal r behind w e))
     (ifb (λ b. cond b (arrivalWorth r) (changeWorth r behind) ≤ ticks * minute) (eqb (r .to) (goal .target))
-    (λ _. let most : arrivalWorth r ≤ 256 * latest r = arrival-most r whole' in
+    (λ _. let most : arrivalWorth r ≤ 256 * landsBy r = arrival-most r whole' in
     let z : arrivalWorth r ≤ 256 * minute = omega arith in z)
     (λ _. change-most r behind (ticks * minute) whole' each))

@@ -25,7 +25,7 @@ no-plan-answers o r plan e told =
 
 -- a plan by its numbers
 pub plan-answers : (o : Option Plan) (p : Plan) (rides expected latest bound : ℕ) (plan after : List ℕ) → o ≡ some p → rides ≡ length (p .rides)
-    → expected ≡ p .expected → latest ≡ p .last → bound ≡ p .bound → after ≡ over (written (p .rides)) plan
+    → expected ≡ p .expected → latest ≡ p .latest → bound ≡ p .bound → after ≡ over (written (p .rides)) plan
     → Answers o (AsPlan rides expected latest bound) plan after
 unfolding answerFor sliceAfter
 plan-answers o p rides expected latest bound plan after e a b c d w =
@@ -33,7 +33,7 @@ plan-answers o p rides expected latest bound plan after e a b c d w =
     (record {
       answer =
           ap (λ n. AsPlan n expected latest bound) a ∙ ap (λ n. AsPlan (length (p .rides)) n latest bound) b
-          ∙ ap (λ n. AsPlan (length (p .rides)) (p .expected) n bound) c ∙ ap (AsPlan (length (p .rides)) (p .expected) (p .last)) d;
+          ∙ ap (λ n. AsPlan (length (p .rides)) (p .expected) n bound) c ∙ ap (AsPlan (length (p .rides)) (p .expected) (p .latest)) d;
       written = w;
     })
 

@@ -12,7 +12,7 @@ use borrow.Author.Tests.{eq-eqb, ne-eqb}
 use Rattle.laws.proofs.Tests.{ifb, cond-true, cond-false}
 use Rattle.query.specs.declared.Query.{Query}
 use Rattle.plans.specs.Sound.{Timely}
-use Rattle.plans.specs.Rides.{Ride, IsRide, latest}
+use Rattle.plans.specs.Rides.{Ride, IsRide, landsBy}
 use Rattle.plans.specs.Journeys.{Onward, leaves, changes, boundOf}
 use Rattle.plans.specs.Plan.{earliest}
 use Rattle.plans.proofs.EarliestSafe.{earliest-is-least, journey-after}
@@ -21,10 +21,10 @@ use Rattle.plan_rows.specs.Reading.{timetableIn, FileReadable}
 use Rattle.plan_whole.specs.Steps.{Reaches}
 
 module _ (file : List ℕ) (s : Sailings) (stand : FileReadable file s) where
-  ride-lands : (r : Ride) → IsRide (timetableIn file s) r → latest r < 65536
+  ride-lands : (r : Ride) → IsRide (timetableIn file s) r → landsBy r < 65536
   ride-lands r is =
       let inside : r .leave < s .rows = omega (arith, is .inside, stand .rows-count) in
-      subst (λ (x : Ride). latest x < 65536) (sym (is .as-timed)) (stand .row-fits (r .leave) inside .lands)
+      subst (λ (x : Ride). landsBy x < 65536) (sym (is .as-timed)) (stand .row-fits (r .leave) inside .lands)
 
   journey-lands : (target : ℕ) {r : Ride} {end : ℕ} → Onward (timetableIn file s) target r end → end < 65536
   journey-lands target (leaves {r} is e) = ride-lands r is

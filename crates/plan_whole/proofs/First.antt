@@ -103,7 +103,7 @@ module _
       pub first-here : firstOpen (chosen target) (q .source) (q .minute) ≡ some ride
       pub is-plan :
           planIn file s q bound
-          ≡ some (record { rides = rides target ride; expected = ride .worth; last = latestOf (rides target ride); bound = bound })
+          ≡ some (record { rides = rides target ride; expected = ride .worth; latest = latestOf (rides target ride); bound = bound })
       pub few : length (rides target ride) ≤ 2000
 
     abbrev pub Told : ℕ → Type 0
@@ -153,11 +153,11 @@ module _
           (λ k below. absurd (let z : ⊥ = omega arith in z))
 
       first-plan : (v : Valued) → firstOpen (chosen (q .target)) (q .source) (q .minute) ≡ some v → planIn file s q bound
-          ≡ some (record { rides = rides (q .target) v; expected = v .worth; last = latestOf (rides (q .target) v); bound = bound })
+          ≡ some (record { rides = rides (q .target) v; expected = v .worth; latest = latestOf (rides (q .target) v); bound = bound })
       unfolding planWithin ridesFrom
       first-plan v e =
           ap (planWithin t q bound) (seen ∙ e)
-          ∙ ap (λ (vs : List Valued). some (record { rides = vs; expected = v .worth; last = latestOf vs; bound = bound }))
+          ∙ ap (λ (vs : List Valued). some (record { rides = vs; expected = v .worth; latest = latestOf vs; bound = bound }))
           (part-rides t (laid .timely) q bound first end (laid .cut) ordered idle
           ∙ ap (λ (o : Option Valued). extract (q .target) (upTo (q .source) (q .minute) o) (chosen (q .target))) e)
 

@@ -13,7 +13,7 @@ use Rattle.plan_whole.specs.declared.Planned.the-variants.{Plan as AsPla
 -- A plan answer is the ride count, expected ticks, latest minute and the bound; 8 where there is no safe journey
 unfoldable pub answerFor : Option Plan → Planned
 answerFor none = Refused 8 0
-answerFor (some p) = AsPlan (length (p .rides)) (p .expected) (p .last) (p .bound)
+answerFor (some p) = AsPlan (length (p .rides)) (p .expected) (p .latest) (p .bound)
 
 -- the plan slice changes only in its 3 × rides numbers, and not at all on 8
 unfoldable pub sliceAfter : Option Plan → List ℕ → List ℕ

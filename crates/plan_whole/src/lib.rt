@@ -1,6 +1,6 @@
 // Document 01, "Expected arrival in ticks": planning in a sound file with room for it, all steps together.
 ghost use mathlib.Core.Path.{_≡_};
-ghost use Prim.Native.Nat.{_+_, _*_, _≤_, _<_};
+ghost use Prim.Native.Nat.{ℕ, _+_, _*_, _≤_, _<_};
 ghost use lib.ListN.{length};
 ghost use Rattle.file_layout.specs.Decode.{decode};
 ghost use Rattle.plans.specs.Journeys.{boundOf};
@@ -27,6 +27,9 @@ use plan_stacks::stack_of;
 use plan_stacks::top;
 use plans::Goal;
 use query::Query;
+
+// The cells of the class tables: a block for each of 16 classes.
+const TABLE_CELLS: usize = 4096;
 
 // A plan's ride count, expected ticks, latest minute and bound (0 for none), or a refusal.
 pub enum Planned {
@@ -55,7 +58,7 @@ pub fn plan_in_room(
     ensures { λ r. ⌜ Answers (planned (decode f (now (file .entry))) q) r (now (plan .entry)) (now (plan .exit))
         × KeptBehind (used (trailer .rows)) (now (work .entry)) (now (work .exit)) ⌝ }
 {
-    let mut tables = [0u32; 4096];
+    let mut tables = [0u32; TABLE_CELLS];
     let s = sailings_in(f, trailer);
     read_tables(file, s, &mut tables);
     let first = rows_before(file, s, q.minute);
@@ -113,7 +116,7 @@ fn plan_within(
         bound,
     };
     scan_back(file, s, tables, goal, first, end, work);
-    plan_scanned(file, s, tables, q, goal, first, end, work, plan)
+    plan_scanned(file, s, tables, q, goal, end, work, plan)
 }
 
 // The rows that a plan within the bound can board: a row that departs at or after a real bound lands
@@ -135,13 +138,13 @@ fn plan_scanned(
     tables: &[u32],
     q: Query,
     goal: Goal,
-    first: usize,
     end: usize,
     work: &mut [u32],
     plan: &mut [u32],
 ) -> Planned
-    requires { ⌜ PlanningInput (now file) s (now tables) q first × RowsInReach (now file) s q goal first end × (used (s .rows) ≤ length (now work))
-        × (3 * s .rows ≤ length (now plan)) × ScanHeld (now work) (s .rows) first end (scanIn (now file) s goal first end) ⌝ }
+    requires { ⌜ ((first : ℕ) × PlanningInput (now file) s (now tables) q first × RowsInReach (now file) s q goal first end
+        × (used (s .rows) ≤ length (now work)) × (3 * s .rows ≤ length (now plan))
+        × ScanHeld (now work) (s .rows) first end (scanIn (now file) s goal first end)) ⌝ }
     ensures { λ r. ⌜ Answers (planIn (now (file .entry)) s q (goal .bound)) r (now (plan .entry)) (now (plan .exit))
         × KeptBehind (used (s .rows)) (now (work .entry)) (now (work .exit)) ⌝ }
 {
@@ -150,7 +153,7 @@ fn plan_scanned(
         return no_plan(8);
     }
     let ahead = top(work, stack);
-    let written = write_plan(file, s, tables, goal, first, ahead.row, end, work, plan);
+    let written = write_plan(file, s, tables, goal, ahead.row, end, work, plan);
     Planned::Plan {
         rides: cell(written.rides),
         expected: ahead.worth,
@@ -170,7 +173,7 @@ pub fn earliest_in_room(file: &[u8], f: Format, trailer: Trailer, q: Query, work
     requires { ⌜ CallFits f (now file) trailer q × (used (trailer .rows) ≤ length (now work)) ⌝ }
     ensures { λ r. ⌜ (r ≡ cellOf (earliestIn (decode f (now (file .entry))) q)) × KeptBehind pairCells (now (work .entry)) (now (work .exit)) ⌝ }
 {
-    let mut tables = [0u32; 4096];
+    let mut tables = [0u32; TABLE_CELLS];
     let s = sailings_in(f, trailer);
     read_tables(file, s, &mut tables);
     let first = rows_before(file, s, q.minute);

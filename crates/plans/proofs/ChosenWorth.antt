@@ -12,7 +12,7 @@ use Rattle.timetable.specs.Timetable.{Timetable, rowOf}
 use Rattle.timetable.specs.declared.Row.{Row}
 use Rattle.plans.specs.declared.Goal.{Goal}
 use Rattle.plans.specs.Sound.{Timely}
-use Rattle.plans.specs.Rides.{Ride, IsRide, latest, boards}
+use Rattle.plans.specs.Rides.{Ride, IsRide, landsBy, boards}
 use Rattle.plans.specs.Journeys.{within}
 use Rattle.plans.specs.Worth.{Valued, firstOpen, arrivalWorth, changeWorth}
 use Rattle.plans.specs.Chosen.{Aim, inTicks, others, rowRide, boardedAt}
@@ -84,24 +84,24 @@ module _ (t : Timetable) (timely : Timely t) where
 
     -- each best ride has a + M within the bound
     pub best-within :
-        (i : ℕ) → i < length (t .rows) → (v : Valued) → bestInTicks t goal i ≡ some v → within (goal .bound) (latest (v .ride)) ≡ true
+        (i : ℕ) → i < length (t .rows) → (v : Valued) → bestInTicks t goal i ≡ some v → within (goal .bound) (landsBy (v .ride)) ≡ true
     unfolding offAt
     best-within =
-        each-best (inTicks goal) t (λ v. within (goal .bound) (latest (v .ride)) ≡ true)
+        each-best (inTicks goal) t (λ v. within (goal .bound) (landsBy (v .ride)) ≡ true)
         (λ i h later w e. landing i h later w (off-is goal _ _ w e)) (λ i j a b s u e o. o)
       where
         landing :
             (i : ℕ) → i < length (t .rows)
-            → ((u : Valued) → List·Memᴰ u (chosenInTicks t goal (suc i)) → within (goal .bound) (latest (u .ride)) ≡ true) → (w : ℕ)
+            → ((u : Valued) → List·Memᴰ u (chosenInTicks t goal (suc i)) → within (goal .bound) (landsBy (u .ride)) ≡ true) → (w : ℕ)
             → Off goal (rowRide (t .tables) i (rowOf (t .rows) i)) (chosenInTicks t goal (suc i)) w
-            → within (goal .bound) (latest (rowRide (t .tables) i (rowOf (t .rows) i))) ≡ true
+            → within (goal .bound) (landsBy (rowRide (t .tables) i (rowOf (t .rows) i))) ≡ true
         landing i h later w (arrives e b) = b
         landing i h later w (goes-on {u = u} away e) =
             let there = found-member _ _ _ e in
             let p = chosen-picked (inTicks goal) t (suc i) h u there in
             let a : u .ride .departs < u .ride .arrives = departs-before t timely (u .ride)
             (best-is-ride (inTicks goal) t (u .ride .board) (p .inside) u (p .best)) in
-            within-earlier (goal .bound) _ (latest (u .ride)) (omega (arith, boards-minute (u .ride) _ _ (found-boards _ _ _ e))) (later u there)
+            within-earlier (goal .bound) _ (landsBy (u .ride)) (omega (arith, boards-minute (u .ride) _ _ (found-boards _ _ _ e))) (later u there)
 
     -- each chosen ride is worth what those behind it give
     chosen-next :
@@ -126,7 +126,7 @@ module _ (t : Timetable) (timely : Timely t) where
         (chosen-rising aim t timely i (suc i) (let z : i ≤ suc i = omega arith in z) h x m)) own)
       where
         goes : {w : ℕ} {vs : List Valued} → Off goal (v .ride) vs w → v .ride .to ≢ goal .target
-            → (safe : Valued) × (firstOpen vs (v .ride .to) (latest (v .ride)) ≡ some safe)
+            → (safe : Valued) × (firstOpen vs (v .ride .to) (landsBy (v .ride)) ≡ some safe)
         goes (arrives q b) away = absurd (away q)
         goes (goes-on {u = u} _ q) away = (u, q)
 

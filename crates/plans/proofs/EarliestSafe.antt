@@ -14,7 +14,7 @@ use Rattle.laws.proofs.Tests.{ifb, T-true, true-T, cond-true, cond-false}
 use Rattle.timetable.specs.Timetable.{Timetable, rowOf}
 use Rattle.plans.specs.Sound.{Timely}
 use Rattle.query.specs.declared.Query.{Query}
-use Rattle.plans.specs.Rides.{Ride, IsRide, latest, boards}
+use Rattle.plans.specs.Rides.{Ride, IsRide, landsBy, boards}
 use Rattle.plans.specs.Journeys.{Begins, Onward, leaves, changes, Journey, IsEarliest}
 use Rattle.plans.specs.Worth.{Valued, firstOpen}
 use Rattle.plans.specs.Chosen.{Aim, inMinutes, offInMinutes, worthOf, rowRide, boardedAt}
@@ -35,16 +35,16 @@ minutes-landed : (target : ℕ) → AsLanded (offInMinutes target)
 unfolding offInMinutes
 minutes-landed target i row r behind = refl
 
-minutes-at-target : (target : ℕ) (r : Ride) (behind : List Valued) → r .to ≡ target → offInMinutes target r behind ≡ some (latest r)
+minutes-at-target : (target : ℕ) (r : Ride) (behind : List Valued) → r .to ≡ target → offInMinutes target r behind ≡ some (landsBy r)
 unfolding offInMinutes
-minutes-at-target target r behind e = cond-true (some (latest r)) (worthOf (firstOpen behind (r .to) (latest r))) (eq-eqb (r .to) target e)
+minutes-at-target target r behind e = cond-true (some (landsBy r)) (worthOf (firstOpen behind (r .to) (landsBy r))) (eq-eqb (r .to) target e)
 
 minutes-elsewhere :
-    (target : ℕ) (r : Ride) (behind : List Valued) → (r .to ≡ target → ⊥) → (u : Valued) → firstOpen behind (r .to) (latest r) ≡ some u
+    (target : ℕ) (r : Ride) (behind : List Valued) → (r .to ≡ target → ⊥) → (u : Valued) → firstOpen behind (r .to) (landsBy r) ≡ some u
     → offInMinutes target r behind ≡ some (u .worth)
 unfolding offInMinutes worthOf
 minutes-elsewhere target r behind away u e =
-    cond-false (some (latest r)) (worthOf (firstOpen behind (r .to) (latest r))) (ne-eqb (r .to) target away) ∙ ap worthOf e
+    cond-false (some (landsBy r)) (worthOf (firstOpen behind (r .to) (landsBy r))) (ne-eqb (r .to) target away) ∙ ap worthOf e
 
 pub worth-of : (v : Valued) → worthOf (some v) ≡ some (v .worth)
 unfolding worthOf
@@ -68,12 +68,12 @@ module _ (t : Timetable) (target : ℕ) where
       → offAt (inMinutes target) t i ≡ some w → Onward t target (rowRide (t .tables) i (rowOf (t .rows) i)) w
   unfolding offAt offInMinutes
   minutes-off i h behind w e =
-      ifb (λ b. eqb (r .to) target ≡ b → cond b (some (latest r)) (worthOf (firstOpen later (r .to) (latest r))) ≡ some w → Onward t target r w)
+      ifb (λ b. eqb (r .to) target ≡ b → cond b (some (landsBy r)) (worthOf (firstOpen later (r .to) (landsBy r))) ≡ some w → Onward t target r w)
       (eqb (r .to) target)
       (λ q _ k. subst (λ x. Onward t target r x) (same-thing k) (leaves (row-is-ride (inMinutes target) t i h) (eqb-true (r .to) target q)))
-      (λ _ _ k. let found = worth-is (firstOpen later (r .to) (latest r)) k in
-      changes {next = found .0 .ride} (row-is-ride (inMinutes target) t i h) (true-T (found-boards later (r .to) (latest r) (found .1)))
-      (subst (λ x. Onward t target (found .0 .ride) x) (found .2) (behind (found .0) (found-member later (r .to) (latest r) (found .1))))) refl e
+      (λ _ _ k. let found = worth-is (firstOpen later (r .to) (landsBy r)) k in
+      changes {next = found .0 .ride} (row-is-ride (inMinutes target) t i h) (true-T (found-boards later (r .to) (landsBy r) (found .1)))
+      (subst (λ x. Onward t target (found .0 .ride) x) (found .2) (behind (found .0) (found-member later (r .to) (landsBy r) (found .1))))) refl e
     where
       r : Ride
       r = rowRide (t .tables) i (rowOf (t .rows) i)
@@ -93,24 +93,24 @@ module _ (t : Timetable) (target : ℕ) where
     onward-after (leaves {r} is e) = let a : r .departs < r .arrives = departs-before t timely r is in omega arith
     onward-after (changes {r} {next} {end} is b on) =
         let a : r .departs < r .arrives = departs-before t timely r is in
-        let c : latest r ≤ next .departs = boards-minute next (r .to) (latest r) (T-true b) in
+        let c : landsBy r ≤ next .departs = boards-minute next (r .to) (landsBy r) (T-true b) in
         let d : next .departs < end = onward-after on in
         omega arith
 
     -- the row where a safe journey boards has a best ride, in minutes, that ends no later
     pub minutes-least : {r : Ride} {end : ℕ} → Onward t target r end → AtMost (bestAt (inMinutes target) t (r .board)) end
-    minutes-least (leaves {r} is e) = ride-at-most (inMinutes target) t r is (minutes-landed target) (latest r)
+    minutes-least (leaves {r} is e) = ride-at-most (inMinutes target) t r is (minutes-landed target) (landsBy r)
         (minutes-at-target target r _ e)
     minutes-least (changes {r} {next} {end} is b on) =
-        let late : latest r ≤ next .departs = boards-minute next (r .to) (latest r) (T-true b) in
+        let late : landsBy r ≤ next .departs = boards-minute next (r .to) (landsBy r) (T-true b) in
         ifb (λ b. eqb (r .to) target ≡ b → AtMost (bestAt (inMinutes target) t (r .board)) end) (eqb (r .to) target)
-        (λ q _. raised (ride-at-most (inMinutes target) t r is (minutes-landed target) (latest r)
+        (λ q _. raised (ride-at-most (inMinutes target) t r is (minutes-landed target) (landsBy r)
         (minutes-at-target target r _ (eqb-true (r .to) target q)))
-        (let d : next .departs < end = onward-after on in let z : latest r ≤ end = omega arith in z))
+        (let d : next .departs < end = onward-after on in let z : landsBy r ≤ end = omega arith in z))
         (λ q _. found-at-most (AtMost (bestAt (inMinutes target) t (r .board)) end)
         (ride-first t timely (inMinutes target) (suc (r .leave)) next (onward-ride on)
         (boards-behind t timely r next is (onward-ride on) (omega arith))
-        (r .to) (latest r) end (T-true b) (eqb-false (r .to) target q) (minutes-least on))
+        (r .to) (landsBy r) end (T-true b) (eqb-false (r .to) target q) (minutes-least on))
         (λ u e h. raised (ride-at-most (inMinutes target) t r is (minutes-landed target) (u .worth)
         (minutes-elsewhere target r _ (eqb-false (r .to) target q) u e)) h)) refl
 

@@ -13,7 +13,7 @@ use Rattle.laws.proofs.Options.{same-thing}
 use Rattle.laws.proofs.Tests.{ifb, both, both-left, both-right, cond-true, cond-false}
 use Rattle.laws.proofs.Members.{head-or-later}
 use Rattle.laws.proofs.Alternatives.{or-left, or-right, or-map}
-use Rattle.plans.specs.Rides.{Ride, latest, boards}
+use Rattle.plans.specs.Rides.{Ride, landsBy, boards}
 use Rattle.plans.specs.Worth.{Valued, firstOpen, landWorth, arrivalWorth}
 use Rattle.plans.specs.Plan.{Window, inWindow, wanted, upTo, windowsOf, extract}
 use Rattle.plans.proofs.Open.{boards-earlier, first-here, first-further, on-head, found-member, found-boards}
@@ -113,23 +113,23 @@ module _ (target : ℕ) where
 
   -- the window of a ride wants each that may be caught after it
   pub windows-want :
-      (r : Ride) (vs : List Valued) (ws : List Window) → r .to ≢ target → {safe : Valued} → firstOpen vs (r .to) (latest r) ≡ some safe → (x : Ride)
+      (r : Ride) (vs : List Valued) (ws : List Window) → r .to ≢ target → {safe : Valued} → firstOpen vs (r .to) (landsBy r) ≡ some safe → (x : Ride)
       → boards x (r .to) (r .arrives) ≡ true → x .departs ≤ safe .ride .departs → wanted (windowsOf target r vs ++ ws) x ≡ true
   unfolding windowsOf
   windows-want r vs ws away {safe} e x b h =
       wanted-first (windowsOf target r vs) ws x
       (subst (λ (l : List Window). wanted l x ≡ true)
-      (sym (cond-false [] (upTo (r .to) (r .arrives) (firstOpen vs (r .to) (latest r))) (ne-eqb (r .to) target away)))
+      (sym (cond-false [] (upTo (r .to) (r .arrives) (firstOpen vs (r .to) (landsBy r))) (ne-eqb (r .to) target away)))
       (up-to-wants (r .to) (r .arrives) safe e x b h))
 
   -- who lands after a ride finds among those taken the ride that is first in the whole list
   landing-taken :
-      (r : Ride) (vs : List Valued) → Ordered vs → (ws : List Window) → r .to ≢ target → (safe : Valued) → firstOpen vs (r .to) (latest r) ≡ some safe
+      (r : Ride) (vs : List Valued) → Ordered vs → (ws : List Window) → r .to ≢ target → (safe : Valued) → firstOpen vs (r .to) (landsBy r) ≡ some safe
       → (m : ℕ)
-      → r .arrives ≤ m → m ≤ latest r → firstOpen (extract target (windowsOf target r vs ++ ws) vs) (r .to) m ≡ firstOpen vs (r .to) m
+      → r .arrives ≤ m → m ≤ landsBy r → firstOpen (extract target (windowsOf target r vs ++ ws) vs) (r .to) m ≡ firstOpen vs (r .to) m
   landing-taken r vs o ws away safe e m late early =
-      let found = first-before vs o (r .to) m safe (found-member vs (r .to) (latest r) e)
-      (boards-earlier (safe .ride) (r .to) (latest r) m early (found-boards vs (r .to) (latest r) e)) in
+      let found = first-before vs o (r .to) m safe (found-member vs (r .to) (landsBy r) e)
+      (boards-earlier (safe .ride) (r .to) (landsBy r) m early (found-boards vs (r .to) (landsBy r) e)) in
       extract-first vs _ (r .to) m (found .1)
       (windows-want r vs ws away e (found .0 .ride)
       (boards-earlier (found .0 .ride) (r .to) m (r .arrives) late (found-boards vs (r .to) m (found .1))) (no-later (found .0) (found .2)))
@@ -142,7 +142,7 @@ module _ (target : ℕ) where
   -- so a ride is worth the same among those taken
   worth-taken :
       (r : Ride) (vs : List Valued) → Ordered vs → (ws : List Window) → Moves r
-      → (r .to ≢ target → (safe : Valued) × (firstOpen vs (r .to) (latest r) ≡ some safe))
+      → (r .to ≢ target → (safe : Valued) × (firstOpen vs (r .to) (landsBy r) ≡ some safe))
       → landWorth target r vs ≡ landWorth target r (extract target (windowsOf target r vs ++ ws) vs)
   unfolding landWorth
   worth-taken r vs o ws moves on =
@@ -162,6 +162,6 @@ module _ (target : ℕ) where
       (λ _ h. subst (λ (l : List Valued). OwnWorth target l) (sym h)
       (own.ahead moves (worth ∙ worth-taken (v .ride) vs o ws moves on)
       (λ away. let found = on away in
-      (found .0, landing-taken (v .ride) vs o ws away (found .0) (found .1) (latest (v .ride)) (omega arith) (omega arith) ∙ found .1))
+      (found .0, landing-taken (v .ride) vs o ws away (found .0) (found .1) (landsBy (v .ride)) (omega arith) (omega arith) ∙ found .1))
       (extract-own rest o (windowsOf target (v .ride) vs ++ ws))))
       (λ _ h. subst (λ (l : List Valued). OwnWorth target l) (sym h) (extract-own rest o ws))

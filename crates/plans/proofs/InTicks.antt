@@ -13,7 +13,7 @@ use Rattle.laws.proofs.Tests.{ifb, either, cond-true, cond-false}
 use Rattle.laws.proofs.Alternatives.{or-left, or-right}
 use Rattle.timetable.specs.Timetable.{Timetable}
 use Rattle.plans.specs.declared.Goal.{Goal}
-use Rattle.plans.specs.Rides.{Ride, latest}
+use Rattle.plans.specs.Rides.{Ride, landsBy}
 use Rattle.plans.specs.Journeys.{within}
 use Rattle.plans.specs.Worth.{Valued, firstOpen, arrivalWorth, changeWorth, landWorth}
 use Rattle.plans.specs.Chosen.{inTicks, offInTicks, whenSafe}
@@ -41,13 +41,13 @@ module _ (goal : Goal) where
   ticks-landed i row r behind = refl
 
   pub ticks-at-target :
-      (r : Ride) (behind : List Valued) → r .to ≡ goal .target → within (goal .bound) (latest r) ≡ true
+      (r : Ride) (behind : List Valued) → r .to ≡ goal .target → within (goal .bound) (landsBy r) ≡ true
       → offInTicks goal r behind ≡ some (arrivalWorth r)
   unfolding offInTicks
   ticks-at-target r behind e b = cond-true _ _ (eq-eqb (r .to) (goal .target) e) ∙ cond-true (some (arrivalWorth r)) none b
 
   pub ticks-elsewhere :
-      (r : Ride) (behind : List Valued) → r .to ≢ goal .target → (u : Valued) → firstOpen behind (r .to) (latest r) ≡ some u
+      (r : Ride) (behind : List Valued) → r .to ≢ goal .target → (u : Valued) → firstOpen behind (r .to) (landsBy r) ≡ some u
       → offInTicks goal r behind ≡ some (changeWorth r behind)
   unfolding offInTicks whenSafe
   ticks-elsewhere r behind away u e =
@@ -55,22 +55,22 @@ module _ (goal : Goal) where
 
   -- the two ways in which getting off is open
   pub data Off (r : Ride) (behind : List Valued) : ℕ → Type 0 where
-    arrives : r .to ≡ goal .target → within (goal .bound) (latest r) ≡ true → Off r behind (arrivalWorth r)
-    goes-on : {u : Valued} → r .to ≢ goal .target → firstOpen behind (r .to) (latest r) ≡ some u → Off r behind (changeWorth r behind)
+    arrives : r .to ≡ goal .target → within (goal .bound) (landsBy r) ≡ true → Off r behind (arrivalWorth r)
+    goes-on : {u : Valued} → r .to ≢ goal .target → firstOpen behind (r .to) (landsBy r) ≡ some u → Off r behind (changeWorth r behind)
 
   pub off-is : (r : Ride) (behind : List Valued) (w : ℕ) → offInTicks goal r behind ≡ some w → Off r behind w
   unfolding offInTicks whenSafe
   off-is r behind w e =
       ifb (λ b. eqb (r .to) (goal .target) ≡ b
-      → cond b (cond (within (goal .bound) (latest r)) (some (arrivalWorth r)) none) (whenSafe next (changeWorth r behind)) ≡ some w → Off r behind w)
+      → cond b (cond (within (goal .bound) (landsBy r)) (some (arrivalWorth r)) none) (whenSafe next (changeWorth r behind)) ≡ some w → Off r behind w)
       (eqb (r .to) (goal .target))
-      (λ q _ k. ifb (λ b. within (goal .bound) (latest r) ≡ b → cond b (some (arrivalWorth r)) none ≡ some w → Off r behind w)
-      (within (goal .bound) (latest r))
+      (λ q _ k. ifb (λ b. within (goal .bound) (landsBy r) ≡ b → cond b (some (arrivalWorth r)) none ≡ some w → Off r behind w)
+      (within (goal .bound) (landsBy r))
       (λ p _ l. subst (λ x. Off r behind x) (same-thing l) (arrives (eqb-true (r .to) (goal .target) q) p)) (λ _ _ l. absent l) refl k)
       (λ q _ k. safe (eqb-false (r .to) (goal .target) q) next refl k) refl e
     where
       next : Option Valued
-      next = firstOpen behind (r .to) (latest r)
+      next = firstOpen behind (r .to) (landsBy r)
 
       safe : r .to ≢ goal .target → (o : Option Valued) → next ≡ o → whenSafe o (changeWorth r behind) ≡ some w → Off r behind w
       safe away none p l = absent l

@@ -24,7 +24,7 @@ pub record Made (t : Timetable) (q : Query) (p : Plan) : Type 0 where
   pub begins : firstOpen (chosenFor t (goalOf q (p .bound))) (q .source) (q .minute) ≡ some first
   pub worth : p .expected ≡ first .worth
   pub holds : p .rides ≡ ridesFrom q (chosenFor t (goalOf q (p .bound)))
-  pub ends : p .last ≡ latestOf (p .rides)
+  pub ends : p .latest ≡ latestOf (p .rides)
 
 module _ (t : Timetable) (q : Query) where
   made-within :

@@ -9,7 +9,7 @@ use mathlib.Core.Path.{_≡_, refl, sym, ap, _∙_}
 use lib.ListN.{length}
 use Rattle.laws.proofs.Tests.{ifb}
 use Rattle.timetable.specs.Timetable.{longest}
-use Rattle.plans.specs.Rides.{Ride, latest}
+use Rattle.plans.specs.Rides.{Ride, landsBy}
 use Rattle.plans.specs.Worth.{Valued, ridesOf, firstOpen, landWorth, valued}
 use Rattle.plans.specs.Chosen.{others}
 use Rattle.plans.proofs.Open.{too-late}
@@ -25,7 +25,7 @@ pub data OwnWorth (target : ℕ) : List Valued → Type 0 where
   nobody : OwnWorth target []
   ahead :
       {v : Valued} {vs : List Valued} → Moves (v .ride) → v .worth ≡ landWorth target (v .ride) vs
-      → (v .ride .to ≢ target → (safe : Valued) × (firstOpen vs (v .ride .to) (latest (v .ride)) ≡ some safe)) → OwnWorth target vs
+      → (v .ride .to ≢ target → (safe : Valued) × (firstOpen vs (v .ride .to) (landsBy (v .ride)) ≡ some safe)) → OwnWorth target vs
       → OwnWorth target (v ∷ vs)
 
 -- what its own plan gives
@@ -39,13 +39,13 @@ own-valued target (ahead {v} {vs} moves worth on own) =
 -- a list behind a ride may be put for another, if who lands finds the same rides to board
 pub ahead-of :
     (target : ℕ) (v : Valued) (vs us : List Valued) → Moves (v .ride)
-    → ((m : ℕ) → v .ride .arrives ≤ m → m ≤ latest (v .ride) → firstOpen us (v .ride .to) m ≡ firstOpen vs (v .ride .to) m)
+    → ((m : ℕ) → v .ride .arrives ≤ m → m ≤ landsBy (v .ride) → firstOpen us (v .ride .to) m ≡ firstOpen vs (v .ride .to) m)
     → v .worth ≡ landWorth target (v .ride) vs
-    → (v .ride .to ≢ target → (safe : Valued) × (firstOpen vs (v .ride .to) (latest (v .ride)) ≡ some safe))
+    → (v .ride .to ≢ target → (safe : Valued) × (firstOpen vs (v .ride .to) (landsBy (v .ride)) ≡ some safe))
     → OwnWorth target us → OwnWorth target (v ∷ us)
 ahead-of target v vs us moves same worth on own =
     ahead moves (worth ∙ sym (land-same target (v .ride) us vs (moves .delays) same))
-    (λ away. let found = on away in (found .0, same (latest (v .ride)) (omega arith) (omega arith) ∙ found .1)) own
+    (λ away. let found = on away in (found .0, same (landsBy (v .ride)) (omega arith) (omega arith) ∙ found .1)) own
 
 -- taking out what left no later than each of them departs changes no worth
 pub others-own :

@@ -9,7 +9,7 @@ use Rattle.timetable.specs.Timetable.{Timetable}
 use Rattle.plans.specs.declared.Goal.{Goal}
 use Rattle.plans.specs.Sound.{Timely}
 use Rattle.query.specs.declared.Query.{Query}
-use Rattle.plans.specs.Rides.{IsRide, latest}
+use Rattle.plans.specs.Rides.{IsRide, landsBy}
 use Rattle.plans.specs.Journeys.{goalOf, within}
 use Rattle.plans.specs.Worth.{Valued, firstOpen}
 use Rattle.plans.specs.Chosen.{inTicks}
@@ -39,7 +39,7 @@ module _ (t : Timetable) (timely : Timely t) where
     pub for-ride : (v : Valued) → List·Memᴰ v (chosenFor t goal) → IsRide t (v .ride)
     for-ride v m = let p = for-picked v m in best-is-ride (inTicks goal) t (v .ride .board) (p .inside) v (p .best)
 
-    pub for-within : (v : Valued) → List·Memᴰ v (chosenFor t goal) → within (goal .bound) (latest (v .ride)) ≡ true
+    pub for-within : (v : Valued) → List·Memᴰ v (chosenFor t goal) → within (goal .bound) (landsBy (v .ride)) ≡ true
     for-within v m = let p = for-picked v m in best-within t timely goal (v .ride .board) (p .inside) v (p .best)
 
   module _ (q : Query) (p : Plan) (made : Made t q p) where

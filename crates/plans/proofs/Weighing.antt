@@ -9,7 +9,7 @@ use lib.Dec.{eqb}
 use lib.ListN.{length}
 use Rattle.timetable.specs.Timetable.{longest}
 use Rattle.timetable.specs.Classes.{sum, whole}
-use Rattle.plans.specs.Rides.{Ride, latest}
+use Rattle.plans.specs.Rides.{Ride, landsBy}
 use Rattle.plans.specs.Worth.{Valued, weigh, up, firstOpen, caught, worthOr, changeWorth, arrivalWorth, landWorth}
 
 pub sum-append : (xs ys : List ℕ) → sum (xs ++ ys) ≡ sum xs + sum ys
@@ -32,23 +32,23 @@ weigh-less (p ∷ shares) a f g less =
 -- what is caught at a minute, and so what a change is worth
 pub change-same :
     (r : Ride) (vs us : List Valued) → length (r .shares) ≡ suc (longest (r .shares))
-    → ((m : ℕ) → r .arrives ≤ m → m ≤ latest r → firstOpen vs (r .to) m ≡ firstOpen us (r .to) m) → changeWorth r vs ≡ changeWorth r us
+    → ((m : ℕ) → r .arrives ≤ m → m ≤ landsBy r → firstOpen vs (r .to) m ≡ firstOpen us (r .to) m) → changeWorth r vs ≡ changeWorth r us
 unfolding changeWorth caught
 change-same r vs us stand same =
-    ap (up whole) (weigh-same (r .shares) (r .arrives) _ _ (λ m h k. ap (worthOr 0) (same m h (let z : m ≤ latest r = omega arith in z))))
+    ap (up whole) (weigh-same (r .shares) (r .arrives) _ _ (λ m h k. ap (worthOr 0) (same m h (let z : m ≤ landsBy r = omega arith in z))))
 
 pub change-less :
     (r : Ride) (vs us : List Valued) → length (r .shares) ≡ suc (longest (r .shares))
-    → ((m : ℕ) → r .arrives ≤ m → m ≤ latest r → caught vs (r .to) m ≤ caught us (r .to) m) → changeWorth r vs ≤ changeWorth r us
+    → ((m : ℕ) → r .arrives ≤ m → m ≤ landsBy r → caught vs (r .to) m ≤ caught us (r .to) m) → changeWorth r vs ≤ changeWorth r us
 unfolding changeWorth
 change-less r vs us stand less = omega (
   arith,
   weigh-less (r .shares) (r .arrives) (λ m. caught vs (r .to) m) (λ m. caught us (r .to) m)
-      (λ m h k. less m h (let z : m ≤ latest r = omega arith in z)),
+      (λ m h k. less m h (let z : m ≤ landsBy r = omega arith in z)),
 )
 
 pub land-same :
     (target : ℕ) (r : Ride) (vs us : List Valued) → length (r .shares) ≡ suc (longest (r .shares))
-    → ((m : ℕ) → r .arrives ≤ m → m ≤ latest r → firstOpen vs (r .to) m ≡ firstOpen us (r .to) m) → landWorth target r vs ≡ landWorth target r us
+    → ((m : ℕ) → r .arrives ≤ m → m ≤ landsBy r → firstOpen vs (r .to) m ≡ firstOpen us (r .to) m) → landWorth target r vs ≡ landWorth target r us
 unfolding landWorth
 land-same target r vs us stand same = ap (λ x. cond (eqb (r .to) target) (arrivalWorth r) x) (change-same r vs us stand same)

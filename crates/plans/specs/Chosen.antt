@@ -7,7 +7,7 @@ use lib.Dec.{eqb, ltb}
 use Rattle.timetable.specs.Timetable.{Timetable, sharesOf}
 use Rattle.timetable.specs.declared.Row.{Row}
 use Rattle.plans.specs.declared.Goal.{Goal}
-use Rattle.plans.specs.Rides.{Ride, latest}
+use Rattle.plans.specs.Rides.{Ride, landsBy}
 use Rattle.plans.specs.Journeys.{within}
 use Rattle.plans.specs.Worth.{Valued, firstOpen, arrivalWorth, changeWorth}
 
@@ -22,8 +22,8 @@ whenSafe (some v) worth = some worth
 -- at the target only if a + M is within the bound; elsewhere only if a chosen row departs at or after a + M
 unfoldable pub offInTicks : Goal → GettingOff
 offInTicks goal r behind =
-    cond (eqb (r .to) (goal .target)) (cond (within (goal .bound) (latest r)) (some (arrivalWorth r)) none)
-    (whenSafe (firstOpen behind (r .to) (latest r)) (changeWorth r behind))
+    cond (eqb (r .to) (goal .target)) (cond (within (goal .bound) (landsBy r)) (some (arrivalWorth r)) none)
+    (whenSafe (firstOpen behind (r .to) (landsBy r)) (changeWorth r behind))
 
 unfoldable pub worthOf : Option Valued → Option ℕ
 worthOf none = none
@@ -32,7 +32,7 @@ worthOf (some v) = some (v .worth)
 -- the same recursion for the earliest safe arrival: a + M at the target, elsewhere that of the first ride at or after a + M
 unfoldable pub offInMinutes : (target : ℕ) → GettingOff
 offInMinutes target r behind =
-    cond (eqb (r .to) target) (some (latest r)) (worthOf (firstOpen behind (r .to) (latest r)))
+    cond (eqb (r .to) target) (some (landsBy r)) (worthOf (firstOpen behind (r .to) (landsBy r)))
 
 -- what a scan aims at: what getting off is worth, and the stop where no row is chosen
 pub record Aim : Type 0 where

@@ -27,7 +27,7 @@ toldRides (v ∷ rides) = v .ride .board ∷ v .ride .leave ∷ v .worth ∷ tol
 -- a plan: ride count, expected ticks, latest minute, bound, then three numbers a ride; refusal 8: nothing
 unfoldable pub told : Option Plan → List ℕ
 told none = []
-told (some p) = length (p .rides) ∷ p .expected ∷ p .last ∷ p .bound ∷ toldRides (p .rides)
+told (some p) = length (p .rides) ∷ p .expected ∷ p .latest ∷ p .bound ∷ toldRides (p .rides)
 
 abbrev pub query : (source target minute code : ℕ) → Query
 query source target minute code = queryOf source target minute code

@@ -7,13 +7,13 @@ use lib.Dec.{T, leb, eqb}
 use Rattle.timetable.specs.Timetable.{Timetable}
 use Rattle.query.specs.declared.Query.{Query}
 use Rattle.plans.specs.declared.Goal.{Goal}
-use Rattle.plans.specs.Rides.{Ride, IsRide, latest, boards}
+use Rattle.plans.specs.Rides.{Ride, IsRide, landsBy, boards}
 
 -- a safe journey that goes on from ride r and whose last ride has a + M = end: the last one leaves at the target;
 -- each next ride boards where the last one landed, at or after a + M
 pub data Onward (t : Timetable) (target : ℕ) : Ride → ℕ → Type 0 where
-  leaves : {r : Ride} → IsRide t r → r .to ≡ target → Onward t target r (latest r)
-  changes : {r next : Ride} {end : ℕ} → IsRide t r → T (boards next (r .to) (latest r)) → Onward t target next end → Onward t target r end
+  leaves : {r : Ride} → IsRide t r → r .to ≡ target → Onward t target r (landsBy r)
+  changes : {r next : Ride} {end : ℕ} → IsRide t r → T (boards next (r .to) (landsBy r)) → Onward t target next end → Onward t target r end
 
 -- row i begins a safe journey to the target
 abbrev pub Begins : Timetable → (target i : ℕ) → Type 0

@@ -7,7 +7,7 @@ use lib.Dec.{leb, eqb}
 use Rattle.timetable.specs.Timetable.{Timetable}
 use Rattle.query.specs.declared.Query.{Query}
 use Rattle.plans.specs.declared.Goal.{Goal}
-use Rattle.plans.specs.Rides.{Ride, latest, boards}
+use Rattle.plans.specs.Rides.{Ride, landsBy, boards}
 use Rattle.plans.specs.Journeys.{boundOf, goalOf}
 use Rattle.plans.specs.Worth.{Valued, firstOpen}
 use Rattle.plans.specs.Chosen.{scanned, inTicks, inMinutes, worthOf}
@@ -40,7 +40,7 @@ upTo stop minute (some v) = record { stop = stop; minute = minute; until = v .ri
 -- for each ride in it not ending at the target, from a up to and including the first chosen row at or after a + M
 unfoldable pub windowsOf : ℕ → Ride → List Valued → List Window
 windowsOf target r behind =
-    cond (eqb (r .to) target) [] (upTo (r .to) (r .arrives) (firstOpen behind (r .to) (latest r)))
+    cond (eqb (r .to) target) [] (upTo (r .to) (r .arrives) (firstOpen behind (r .to) (landsBy r)))
 
 unfoldable pub extract : ℕ → List Window → List Valued → List Valued
 extract target ws [] = []
@@ -57,19 +57,19 @@ ridesFrom q chosen =
 -- the largest a + M of its rides
 unfoldable pub latestOf : List Valued → ℕ
 latestOf [] = 0
-latestOf (v ∷ vs) = max (latest (v .ride)) (latestOf vs)
+latestOf (v ∷ vs) = max (landsBy (v .ride)) (latestOf vs)
 
 pub record Plan : Type 0 where
   pub rides : List Valued
   pub expected : ℕ
-  pub last : ℕ
+  pub latest : ℕ
   pub bound : ℕ
 
 unfoldable pub planWithin : Timetable → Query → ℕ → Option Valued → Option Plan
 planWithin t q bound none = none
 planWithin t q bound (some first) =
     let rides = ridesFrom q (chosenFor t (goalOf q bound)) in
-    some (record { rides = rides; expected = first .worth; last = latestOf rides; bound = bound })
+    some (record { rides = rides; expected = first .worth; latest = latestOf rides; bound = bound })
 
 unfoldable pub planBefore : Timetable → Query → Option ℕ → Option Plan
 planBefore t q none = none

@@ -38,8 +38,8 @@ pub record IsRide (t : Timetable) (r : Ride) : Type 0 where
   pub as-timed : r ≡ rideOf t (r .board) (r .leave)
 
 -- a + M, the last minute at which the ride lands
-abbrev pub latest : Ride → ℕ
-latest r = r .arrives + longest (r .shares)
+abbrev pub landsBy : Ride → ℕ
+landsBy r = r .arrives + longest (r .shares)
 
 -- one who stands at `stop` at `minute` can board what leaves `from` at `departs`: an equal minute is caught
 abbrev pub opens : (from departs stop minute : ℕ) → Bool

@@ -53,7 +53,7 @@ module _ (file : List ℕ) (q : Query) (out : List ℕ) where
   desk-answered e = ap (byVerdict (λ n p. refused n out) (deskAnswered (planned t q) out)) e
 
   module _ (admitted : verdict ≡ fine) (p : Plan) (is : planned t q ≡ some p) where
-    demanded : Demanded t q (p .rides) (p .expected) (p .last) (p .bound)
+    demanded : Demanded t q (p .rides) (p .expected) (p .latest) (p .bound)
     demanded = plan-demanded t (is-timely file q noRoom (byteRoom (length out)) admitted) q p is
 
     rows-few : length (t .rows) ≤ 2000
@@ -103,9 +103,9 @@ module _ (file : List ℕ) (q : Query) (out : List ℕ) where
       ap (λ k. ridesIn t (numbersIn (3 * k) bytes)) told ∙ ap (λ b. ridesIn t (numbersIn (3 * length (p .rides)) b)) left ∙ read-rides e p is in
       record {
         expected = p .expected;
-        last = p .last;
+        last = p .latest;
         bound = p .bound;
-        demanded-plan = subst (λ (l : List Valued). Demanded t q l (p .expected) (p .last) (p .bound)) (sym back) (demanded e p is);
+        demanded-plan = subst (λ (l : List Valued). Demanded t q l (p .expected) (p .latest) (p .bound)) (sym back) (demanded e p is);
         count = ap length back ∙ sym told;
       }
 

@@ -10,13 +10,15 @@ use lib.Dec.{eqb}
 use lib.ListN.{length}
 use Rattle.laws.proofs.Tests.{ifb}
 use Rattle.laws.proofs.Members.{head-or-later, mapped-from}
+use Rattle.clock.specs.Clock.{dayOf, roundedUp, ticksAMinute}
+use Rattle.clock.proofs.Days.{latestPrinted, printed-day, printed-ticks}
 use Rattle.timetable.specs.Timetable.{longest, rowOf, sharesOf}
 use Rattle.timetable.specs.Verdict.{fine}
 use Rattle.timetable.specs.Classes.{whole, sum}
 use Rattle.file_layout.specs.Format.{versionOne}
 use Rattle.file_layout.specs.Decode.{decode, trailerOf}
 use Rattle.query.specs.declared.Query.{Query}
-use Rattle.plans.specs.Rides.{Ride, IsRide, latest}
+use Rattle.plans.specs.Rides.{Ride, IsRide, landsBy}
 use Rattle.plans.specs.Worth.{Valued, valued, ridesOf, landWorth, arrivalWorth, changeWorth, ticks}
 use Rattle.plans.specs.Plan.{Plan, planned}
 use Rattle.plans.proofs.Open.{found-member}
@@ -34,7 +36,7 @@ use Rattle.promises.proofs.PlanCall.{demanded-rides}
 
 -- rides that land by a minute are worth no more than it
 valued-most :
-    (target minute : ℕ) (rides : List Ride) → ((r : Ride) → List·Memᴰ r rides → (sum (r .shares) ≡ whole) × (latest r ≤ minute))
+    (target minute : ℕ) (rides : List Ride) → ((r : Ride) → List·Memᴰ r rides → (sum (r .shares) ≡ whole) × (landsBy r ≤ minute))
     → (v : Valued) → List·Memᴰ v (valued target rides) → v .worth ≤ ticks * minute
 unfolding valued landWorth
 valued-most target minute [] each v m = absurd (List·Memᴰ·not-nil m)
@@ -50,7 +52,7 @@ valued-most target minute (r ∷ rides) each v m =
 
 module _ (file : List ℕ) (q : Query) (work other : Room) (call : admission versionOne file q work other ≡ fine) where
   -- the last minute of version 1 and its longest delay
-  ride-lands : (r : Ride) → IsRide (decode versionOne file) r → latest r ≤ versionOne .lastminute + versionOne .delay
+  ride-lands : (r : Ride) → IsRide (decode versionOne file) r → landsBy r ≤ versionOne .lastminute + versionOne .delay
   ride-lands r is =
       let sound = is-sound file q work other call in
       let inside : r .leave < trailerOf versionOne file .rows = omega (arith, is .inside, sound .rows-count) in
@@ -61,30 +63,38 @@ module _ (file : List ℕ) (q : Query) (work other : Room) (call : admission ver
       let lands : there .arrival + longest table ≤ versionOne .lastminute + versionOne .delay =
       omega (arith, row .arrival, longest-small table (versionOne .delay) (shares .few-shares))
       in
-      subst (λ (x : Ride). latest x ≤ versionOne .lastminute + versionOne .delay) (sym (is .as-timed)) lands
+      subst (λ (x : Ride). landsBy x ≤ versionOne .lastminute + versionOne .delay) (sym (is .as-timed)) lands
 
   -- what the printed times and the desk's bytes are asked to hold
   pub plan-minutes : (p : Plan) → planned (decode versionOne file) q ≡ some p
-      → (p .last ≤ versionOne .lastminute + versionOne .delay) × (p .expected ≤ ticks * p .last)
-      × ((v : Valued) → List·Memᴰ v (p .rides) → v .worth ≤ ticks * p .last)
+      → (p .latest ≤ versionOne .lastminute + versionOne .delay) × (p .expected ≤ ticks * p .latest)
+      × ((v : Valued) → List·Memᴰ v (p .rides) → v .worth ≤ ticks * p .latest)
   plan-minutes p is =
       let t = decode versionOne file in
       let timely = is-timely file q work other call in
       let demanded = plan-demanded t timely q p is in
       let made = plan-made t q p is in
       let last = demanded .latest-minute .1 in
-      let worths : (v : Valued) → List·Memᴰ v (p .rides) → v .worth ≤ ticks * p .last =
+      let worths : (v : Valued) → List·Memᴰ v (p .rides) → v .worth ≤ ticks * p .latest =
       λ v m.
-      valued-most (q .target) (p .last) (ridesOf (p .rides))
+      valued-most (q .target) (p .latest) (ridesOf (p .rides))
       (λ r k. let found = mapped-from (λ (u : Valued). u .ride) (p .rides) k in (
         ride-shares t timely r (demanded .safe .are-rides r k),
-        subst (λ (x : Ride). latest x ≤ p .last) (sym (found .2)) (demanded .latest-minute .0 (found .0) (found .1)),
+        subst (λ (x : Ride). landsBy x ≤ p .latest) (sym (found .2)) (demanded .latest-minute .0 (found .0) (found .1)),
       ))
       v (subst (λ (l : List Valued). List·Memᴰ v l) (sym (demanded .own-worths)) m)
       in (
         subst (λ k. k ≤ versionOne .lastminute + versionOne .delay) (last .2)
             (ride-lands (last .0 .ride) (demanded-rides demanded (last .0) (last .1))),
-        subst (λ x. x ≤ ticks * p .last) (sym (made .worth))
+        subst (λ x. x ≤ ticks * p .latest) (sym (made .worth))
             (worths (made .first) (found-member (p .rides) (q .source) (q .minute) (plan-first t timely q p made))),
         worths,
       )
+
+  -- so the sheet prints days 1 to 8, for the latest minute and for the expected arrival
+  pub plan-prints : (p : Plan) → planned (decode versionOne file) q ≡ some p
+      → ((1 ≤ dayOf (p .latest)) × (dayOf (p .latest) ≤ 8)) × ((1 ≤ dayOf (roundedUp (p .expected))) × (dayOf (roundedUp (p .expected)) ≤ 8))
+  plan-prints p is =
+      let minutes = plan-minutes p is in
+      let ticks-most : p .expected ≤ ticksAMinute * latestPrinted = omega (arith, minutes .0, minutes .1) in
+      (printed-day (p .latest) (minutes .0), printed-day (roundedUp (p .expected)) (printed-ticks (p .expected) ticks-most))

@@ -72,7 +72,7 @@ module _ (file : List ℕ) (q : Query) (work plan : List ℕ) where
     pub admitted : verdict ≡ fine
     pub the-plan : Plan
     pub is-planned : planned (decode versionOne file) q ≡ some the-plan
-    pub numbers : (length (the-plan .rides) ≡ rides) × (the-plan .expected ≡ expected) × (the-plan .last ≡ last) × (the-plan .bound ≡ bound)
+    pub numbers : (length (the-plan .rides) ≡ rides) × (the-plan .expected ≡ expected) × (the-plan .latest ≡ last) × (the-plan .bound ≡ bound)
 
   pub given-plan : (rides expected last bound : ℕ) → outcome .answer ≡ AsPlan rides expected last bound → Given rides expected last bound
   unfolding answerFor
@@ -110,7 +110,7 @@ module _ (file : List ℕ) (q : Query) (work plan : List ℕ) where
         subst (λ (l : List Valued). Demanded t q l expected last bound) (sym back)
             (subst (λ x. Demanded t q (p .rides) x last bound) (n .1)
             (subst (λ l. Demanded t q (p .rides) (p .expected) l bound) (n .2)
-            (subst (Demanded t q (p .rides) (p .expected) (p .last)) (n .3) demanded))),
+            (subst (Demanded t q (p .rides) (p .expected) (p .latest)) (n .3) demanded))),
         ap length back ∙ n .0,
         subst (λ k. drop k (outcome .plan) ≡ drop k plan) (length-written (p .rides) ∙ ap (λ k. 3 * k) (n .0))
             (ap (drop (length (written (p .rides)))) slice
@@ -182,7 +182,7 @@ module _ (κs : Lfts 3) (arguments : Dens κs kinds.ps) (answer : resT kinds.r �
       where
         by : (o : Option Plan) → planned t q ≡ o → (rides expected last bound : ℕ) × (answer ≡ AsPlan rides expected last bound)
         by none is = absurd (not-eight (told-for ∙ ap answerFor is))
-        by (some p) is = (length (p .rides), p .expected, p .last, p .bound, told-for ∙ ap answerFor is)
+        by (some p) is = (length (p .rides), p .expected, p .latest, p .bound, told-for ∙ ap answerFor is)
 
     -- on 8 the plan slice is as it was; work is cleared either way
     pub eight-leaves : answer ≡ NoPlan 8 0 → plan′ ≡ plan

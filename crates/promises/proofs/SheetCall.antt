@@ -91,7 +91,7 @@ module _ (sailings : List ℕ) (q : Query) where
       record {
         rides = p .rides;
         expected = p .expected;
-        last = p .last;
+        last = p .latest;
         bound = p .bound;
         demanded-plan = plan-demanded t (is-timely sailings q noRoom noRoom e) q p is;
         lines = says;

@@ -4,7 +4,7 @@ use native.Mathlib.Omega.{arith}
 use Rattle.file_layout.specs.Format.{versionOne}
 use Rattle.rooms.specs.Rooms.{sailingsBytes, queryBytes}
 
-pub longer-file-seen : versionOne .longest < sailingsBytes
+pub longer-file-seen : versionOne .mostbytes < sailingsBytes
 longer-file-seen = omega arith
 
 pub longer-query-seen : 8 < queryBytes

@@ -77,12 +77,12 @@ module _ (t : Timetable) (p : Plan) {rides : ℕ} (count : rides ≡ length (p .
   rides-told : RidesFit (length (t .rows)) after rides
   rides-told = rw (laid, count) (rides-fit t (p .rides) (drop (length (written (p .rides))) plan) are)
 
-  lines-told : {expected last : ℕ} → expected ≡ p .expected → last ≡ p .last
+  lines-told : {expected last : ℕ} → expected ≡ p .expected → last ≡ p .latest
       → firstText rides expected last ++ ridesText (ridesIn t (take (3 * rides) after)) ≡ planText p
   unfolding planText
   lines-told expects ends =
       rw (laid, count, expects, ends)
-      (ap (λ vs. firstText (length (p .rides)) (p .expected) (p .last) ++ ridesText vs)
+      (ap (λ vs. firstText (length (p .rides)) (p .expected) (p .latest) ++ ridesText vs)
       (slice-read-back t (p .rides) (drop (length (written (p .rides))) plan) are))
 
 sound-timely : (f : Format) (file : List ℕ) → SoundFile f file → Timely (decode f file)

@@ -58,7 +58,7 @@ firstText rides expected last =
     ++ (blank ∷ (numberText rides ++ (blank ∷ (expectedText expected ++ (blank ∷ (timeText last ++ (newline ∷ [])))))))
 
 unfoldable pub planText : Plan → List ℕ
-planText p = firstText (length (p .rides)) (p .expected) (p .last) ++ ridesText (p .rides)
+planText p = firstText (length (p .rides)) (p .expected) (p .latest) ++ ridesText (p .rides)
 
 -- A planning refusal prints alike
 unfoldable pub plannedText : Option Plan → List ℕ

@@ -9,9 +9,12 @@ use Rattle.plans.proofs.Open.{found-member}
 use Rattle.plan_cells.specs.Cells.{tripCells, stopCells}
 use Rattle.plan_cells.specs.Outside.{SameOutside}
 use Rattle.plan_cells.proofs.Outside.{outside-then, outside-wider}
+use Rattle.plan_rows.specs.declared.Sailings.{Sailings}
+use Rattle.plans.specs.declared.Goal.{Goal}
 use Rattle.plan_scan.specs.Scanned.{scanIn}
-use Rattle.plan_extract.specs.Marks.{HeadAlone}
-use Rattle.plan_extract.proofs.Headed.{headed-kept, headed-alone}
+use Rattle.plan_extract.specs.Extracted.{PlanAhead}
+use Rattle.plan_extract.specs.Marks.{MarkedAlone}
+use Rattle.plan_extract.proofs.Alone.{alone-kept, alone-marked}
 use Rattle.plan_extract.proofs.Kept.{kept-held}
 use Rattle.plan_extract.proofs.Timed.{known}
 use borrow.Author.Needs.{needs}
@@ -22,39 +25,48 @@ fill-requires : tie.Need-fill-requires
 fill-requires c κs = search needs
 
 -- the first row is one of those scanned
-head-inside : (c : tie.Start) → c .args .head < c .args .s .rows
-head-inside c =
+boarding-inside : (c : tie.Start) → c .args .boarding < c .args .s .rows
+boarding-inside c =
     let a = c .args in
-    let f = c .pre .7 in
-    let all = known (a .file .now) (a .s) (c .pre .0) (a .end) (c .pre .3) (a .goal) (a .first) (c .pre .2) (f .ride) in
-    let first = all (found-member (scanIn (a .file .now) (a .s) (a .goal) (a .first) (a .end) .chosen) (f .stop) (f .minute) (f .is-first)) in
-    omega (arith, f .boards-at, first .before-end, c .pre .3)
+    let p = c .pre .5 in
+    let f = p .begins in
+    let all = known (a .file .now) (a .s) (c .pre .0) (a .end) (c .pre .2) (a .goal) (p .first) (p .ordered) (f .ride) in
+    let first = all (found-member (scanIn (a .file .now) (a .s) (a .goal) (p .first) (a .end) .chosen) (f .stop) (f .minute) (f .is-first)) in
+    omega (arith, f .boards-at, first .before-end, c .pre .2)
 
 -- the cells once the marks are cleared but for the first row's
 abbrev entered : tie.After-fill → tie.Start
 entered c = c .before .before .before .before .before .before
 
 abbrev marked : tie.After-fill → List ℕ
-marked c = set (c .fill .last .0) (0 + entered c .args .head) 1
+marked c = set (c .fill .last .0) (0 + entered c .args .boarding) 1
 
 kept : (c : tie.After-fill) → SameOutside tripCells stopCells (entered c .args .work .now) (marked c)
 kept c =
     let a = entered c in
-    let h = a .args .head in
-    subst (λ l. SameOutside tripCells stopCells (a .args .work .now) (set l (0 + h) 1)) (sym (c .fill .ensures))
-    (headed-kept (a .args .work .now) (a .args .s .rows) (0 + h) h (zero-add h) (head-inside a) (a .pre .0 .few-rows) (omega (arith, a .pre .4)))
+    let row = a .args .boarding in
+    subst (λ l. SameOutside tripCells stopCells (a .args .work .now) (set l (0 + row) 1)) (sym (c .fill .ensures))
+    (alone-kept (a .args .work .now) (a .args .s .rows) (0 + row) row (zero-add row) (boarding-inside a) (a .pre .0 .few-rows)
+    (omega (arith, a .pre .3)))
 
-alone : (c : tie.After-fill) → HeadAlone (marked c) (entered c .args .s .rows) (entered c .args .head)
+alone : (c : tie.After-fill) → MarkedAlone (marked c) (entered c .args .s .rows) (entered c .args .boarding)
 alone c =
     let a = entered c in
-    let h = a .args .head in
-    subst (λ l. HeadAlone (set l (0 + h) 1) (a .args .s .rows) h) (sym (c .fill .ensures))
-    (headed-alone (a .args .work .now) (a .args .s .rows) (0 + h) h (zero-add h) (head-inside a) (a .pre .0 .few-rows) (omega (arith, a .pre .4)))
+    let row = a .args .boarding in
+    subst (λ l. MarkedAlone (set l (0 + row) 1) (a .args .s .rows) row) (sym (c .fill .ensures))
+    (alone-marked (a .args .work .now) (a .args .s .rows) (0 + row) row (zero-add row) (boarding-inside a) (a .pre .0 .few-rows)
+    (omega (arith, a .pre .3)))
+
+-- the marks leave the plan ahead as it was
+abbrev still-ahead :
+    {file : List ℕ} {s : Sailings} {goal : Goal} {boarding end : ℕ} {old new : List ℕ} → SameOutside tripCells stopCells old new
+    → PlanAhead file s goal boarding end old → PlanAhead file s goal boarding end new
+still-ahead k p = record { first = p .first; ordered = p .ordered; held = kept-held k (p .held); begins = p .begins }
 
 mul-work : tie.Need-mul-work
 mul-work c =
     let a = c .before .before .before .before .before .before .before .before in
-    omega (arith, head-inside a, a .pre .0 .few-rows)
+    omega (arith, boarding-inside a, a .pre .0 .few-rows)
 
 add-work : tie.Need-add-work
 add-work c = search needs
@@ -62,7 +74,7 @@ add-work c = search needs
 slice-write-work : tie.Need-slice-write-work
 slice-write-work c =
     let a = c .before .before .before .before .before .before .before .before in
-    omega (arith, head-inside a, a .pre .4, c .before .before .fill .kept .0)
+    omega (arith, boarding-inside a, a .pre .3, c .before .before .fill .kept .0)
 
 write-wanted-requires : tie.Need-write-wanted-requires
 write-wanted-requires c κs =
@@ -71,11 +83,9 @@ write-wanted-requires c κs =
       a .pre .0,
       a .pre .1,
       a .pre .2,
-      a .pre .3,
-      omega (arith, k .same-length, a .pre .4),
-      a .pre .5,
-      kept-held k (a .pre .6),
-      a .pre .7,
+      omega (arith, k .same-length, a .pre .3),
+      a .pre .4,
+      still-ahead k (a .pre .5),
       alone (c .before .before .before .before),
     )
 
@@ -92,7 +102,7 @@ returns c =
     let a = c .before .before .before .before .before .before .before .before .before .before .before .before .before .before .before in
     let k = kept (c .before .before .before .before .before .before .before .before .before) in
     let w = c .before .before .before .before .write-wanted .ensures in
-    (w .0, outside-then (outside-wider (omega arith) (omega arith) k) (w .1))
+    (λ p. w .0 (still-ahead k p), outside-then (outside-wider (omega arith) (omega arith) k) (w .1))
 
 pub write-plan-spec : {M : Type 1} → statement M
 write-plan-spec =

@@ -15,6 +15,7 @@ use Rattle.plan_cells.specs.Cells.{tripCells, stopCells}
 use Rattle.plan_cells.specs.Outside.{SameOutside}
 use Rattle.plan_cells.proofs.Outside.{outside-same, outside-then, outside-wider}
 use Rattle.plan_scan.specs.Scanned.{scanIn}
+use Rattle.plan_extract.specs.Extracted.{PlanAhead}
 use Rattle.plan_extract.specs.Marks.{Catching}
 use Rattle.plan_extract.proofs.Timed.{ordered, own-worth, known}
 use Rattle.plan_extract.proofs.Passing.{marks-only}
@@ -24,42 +25,48 @@ use Rattle.plan_extract.proofs.write_wanted.Statement.{statement}
 use Rattle.plan_extract.proofs.write_wanted.Tie as tie
 
 abbrev Inv-loop : tie.InvT-loop
-Inv-loop file s tables goal first head end work₀ plan₀ rides₀ latest₀ i₀ work plan rides latest i =
-    (i ≤ end) × (rides ≤ i) × (latest < 65536) × SameOutside tripCells stopCells work₀ work × AtRow file s goal first head end plan₀ work plan rides latest i
+Inv-loop file s tables goal boarding end work₀ plan₀ rides₀ latest₀ i₀ work plan rides latest i =
+    (i ≤ end) × (rides ≤ i) × (latest < 65536) × SameOutside tripCells stopCells work₀ work
+    × ((p : PlanAhead file s goal boarding end work₀) → AtRow p plan₀ work plan rides latest i)
 
 abbrev μ-loop : tie.MeasureT-loop
-μ-loop file s tables goal first head end work₀ plan₀ rides₀ latest₀ i₀ work plan rides latest i = end - i
+μ-loop file s tables goal boarding end work₀ plan₀ rides₀ latest₀ i₀ work plan rides latest i = end - i
+
+-- the plan that is ahead at the entry
+abbrev Ahead : tie.Start Inv-loop μ-loop → Type 0
+Ahead a = PlanAhead (a .args .file .now) (a .args .s) (a .args .goal) (a .args .boarding) (a .args .end) (a .args .work .now)
 
 -- the chosen rides, in order, each worth what those behind it give
-abbrev chosen : tie.Start Inv-loop μ-loop → List Valued
-chosen a = scanIn (a .args .file .now) (a .args .s) (a .args .goal) (a .args .first) (a .args .end) .chosen
+abbrev chosen : (a : tie.Start Inv-loop μ-loop) → Ahead a → List Valued
+chosen a p = scanIn (a .args .file .now) (a .args .s) (a .args .goal) (p .first) (a .args .end) .chosen
 
-scanned : (a : tie.Start Inv-loop μ-loop) → Ordered (chosen a) × OwnWorth (a .args .goal .target) (chosen a)
-scanned a = (
-  ordered (a .args .file .now) (a .args .s) (a .pre .0) (a .args .end) (a .pre .3) (a .args .goal) (a .args .first) (a .pre .2),
-  own-worth (a .args .file .now) (a .args .s) (a .pre .0) (a .args .end) (a .pre .3) (a .args .goal) (a .args .first) (a .pre .2),
+scanned : (a : tie.Start Inv-loop μ-loop) (p : Ahead a) → Ordered (chosen a p) × OwnWorth (a .args .goal .target) (chosen a p)
+scanned a p = (
+  ordered (a .args .file .now) (a .args .s) (a .pre .0) (a .args .end) (a .pre .2) (a .args .goal) (p .first) (p .ordered),
+  own-worth (a .args .file .now) (a .args .s) (a .pre .0) (a .args .end) (a .pre .2) (a .args .goal) (p .first) (p .ordered),
 )
 
-before-end : (a : tie.Start Inv-loop μ-loop) → (v : Valued) → List·Memᴰ v (chosen a) → v .ride .board < a .args .end
-before-end a v m =
-    known (a .args .file .now) (a .args .s) (a .pre .0) (a .args .end) (a .pre .3) (a .args .goal) (a .args .first) (a .pre .2) v m .before-end
+before-end : (a : tie.Start Inv-loop μ-loop) (p : Ahead a) → (v : Valued) → List·Memᴰ v (chosen a p) → v .ride .board < a .args .end
+before-end a p v m =
+    known (a .args .file .now) (a .args .s) (a .pre .0) (a .args .end) (a .pre .2) (a .args .goal) (p .first) (p .ordered) v m .before-end
 
-head-inside : (a : tie.Start Inv-loop μ-loop) → a .args .head < a .args .end
-head-inside a =
-    let f = a .pre .7 in
-    omega (arith, before-end a (f .ride) (found-member (chosen a) (f .stop) (f .minute) (f .is-first)), f .boards-at)
+boarding-inside : (a : tie.Start Inv-loop μ-loop) → a .args .boarding < a .args .end
+boarding-inside a =
+    let p = a .pre .5 in
+    let f = p .begins in
+    omega (arith, before-end a p (f .ride) (found-member (chosen a p) (f .stop) (f .minute) (f .is-first)), f .boards-at)
 
 loop-holds : tie.Need-loop-holds Inv-loop μ-loop
 loop-holds c =
     let a = c .before .before .before .before in
-    let all = scanned a in
-    let w = a .args .work .now in
-    let p = a .args .plan .now in (
-      omega (arith, head-inside a),
+    let w = a .args .work .now in (
+      omega (arith, boarding-inside a),
       omega arith,
       omega arith,
       outside-same tripCells stopCells (a .args .work .now),
-      λ f. writing-start (chosen a) (all .0) f (a .args .goal .target) (a .args .s .rows) (all .1) p w (a .pre .8),
+      λ p.
+          writing-start (chosen a p) (scanned a p .0) (p .begins) (a .args .goal .target) (a .args .s .rows) (scanned a p .1) (a .args .plan .now) w
+          (a .pre .6),
     )
 
 add-i : tie.Need-add-i Inv-loop μ-loop
@@ -78,44 +85,44 @@ slice-read-if1 c = omega arith
 abbrev entered : tie.Then1 Inv-loop μ-loop → tie.Start Inv-loop μ-loop
 entered c = c .before .before .before .before .before .before .before .before
 
-abbrev TurnOf : tie.Then1 Inv-loop μ-loop → Type 0
-TurnOf c =
+abbrev TurnOf : (c : tie.Then1 Inv-loop μ-loop) → Ahead (entered c) → Type 0
+TurnOf c p =
     let a = entered c .args in
     let l = c .before .before .before .loop in
-    Turn (a .file .now) (a .s) (a .tables .now) (a .goal) (a .first) (a .head) (a .end) (a .work .now) (a .plan .now) (l .work) (l .plan)
+    Turn (a .file .now) (a .s) (a .tables .now) (a .goal) (a .boarding) (a .end) (a .work .now) p (a .plan .now) (l .work) (l .plan)
     (l .rides) (l .latest) (l .i)
 
-turn : (c : tie.Then1 Inv-loop μ-loop) → TurnOf c
-turn c =
+turn : (c : tie.Then1 Inv-loop μ-loop) (p : Ahead (entered c)) → TurnOf c p
+turn c p =
     let a = entered c in
     let l = c .before .before .before .loop in
     record {
       stand = a .pre .0;
       blocks = a .pre .1;
-      ahead = a .pre .2;
-      inside = a .pre .3;
-      cells = a .pre .4;
-      room = a .pre .5;
-      held = a .pre .6;
-      begun = a .pre .7;
+      inside = a .pre .2;
+      cells = a .pre .3;
+      room = a .pre .4;
       below = c .before .before .loop-test .taken;
       few = l .inv .1;
       kept = l .inv .3;
-      at-row = l .inv .4;
+      at-row = l .inv .4 p;
       mark = ap (λ k. getD (l .work) k 0) (sym (zero-add (l .i))) ∙ c .if1 .taken;
     }
+
+abbrev own-turn : (c : tie.Then1 Inv-loop μ-loop) → TurnOf c (entered c .pre .5)
+own-turn c = turn c (entered c .pre .5)
 
 write-row-requires : tie.Need-write-row-requires Inv-loop μ-loop
 write-row-requires c κs =
     let a = c .before .before .before .before .before .before .before .before .before .before in
     let l = c .before .before .before .before .before .loop in
     let few : l .rides < a .args .s .rows = omega arith in
-    (omega arith, omega (arith, l .inv .3 .same-length), omega (arith, plan-length (l .inv .4 (a .pre .7)) (omega arith)))
+    (omega arith, omega (arith, l .inv .3 .same-length), omega (arith, plan-length (l .inv .4 (a .pre .5)) (omega arith)))
 
 nth-row-requires : tie.Need-nth-row-requires Inv-loop μ-loop
 nth-row-requires c κs =
     let m = c .before .before .before .before .before in
-    (entered m .pre .0, leave-inside (turn m) (c .before .before .write-row .result) (c .before .before .write-row .ensures .0))
+    (entered m .pre .0, leave-inside (own-turn m) (c .before .before .write-row .result) (c .before .before .write-row .ensures .0))
 
 mul-number : tie.Need-mul-number Inv-loop μ-loop
 mul-number c = omega arith
@@ -131,7 +138,7 @@ shared-slice-read-number c =
     let m = c .before .before .before .before .before .before .before .before in
     let w = c .before .before .before .before .before .write-row in
     let n = c .before .before .nth-row in
-    omega (arith, entered m .pre .1 .room, class-inside (turn m) (w .result) (w .ensures .0) (n .result) (n .ensures .0))
+    omega (arith, entered m .pre .1 .room, class-inside (own-turn m) (w .result) (w .ensures .0) (n .result) (n .ensures .0))
 
 number-requires : tie.Need-number-requires Inv-loop μ-loop
 number-requires c κs = tt
@@ -142,7 +149,7 @@ lands-soon c =
     let m = c .before .before .before .before .before .before .before .before .before in
     let w = c .before .before .before .before .before .before .write-row in
     let n = c .before .before .before .nth-row in
-    landing-fits (turn m) (w .result) (w .ensures .0) (n .result) (n .ensures .0) (c .number .result) (c .number .ensures .0)
+    landing-fits (own-turn m) (w .result) (w .ensures .0) (n .result) (n .ensures .0) (c .number .result) (c .number .ensures .0)
 
 add-landing : tie.Need-add-landing Inv-loop μ-loop
 add-landing c = record { fits = omega (arith, lands-soon (c .before)) }
@@ -168,7 +175,7 @@ stack-met c =
     let w = c .before .before .before .before .before .before .before .before .write-row in
     let n = c .before .before .before .before .before .nth-row in
     let d = c .before .before .number in
-    met (turn (boarded c)) (w .result) (w .ensures .0) (n .result) (n .ensures .0) (d .result) (d .ensures .0)
+    met (own-turn (boarded c)) (w .result) (w .ensures .0) (n .result) (n .ensures .0) (d .result) (d .ensures .0)
 
 want-requires : tie.Need-want-requires Inv-loop μ-loop
 want-requires c κs = stack-met (c .before .before .before .before) (c .before .if2 .taken)
@@ -176,7 +183,7 @@ want-requires c κs = stack-met (c .before .before .before .before) (c .before .
 loop-less : tie.Need-loop-less Inv-loop μ-loop
 loop-less c =
     let r = c .before .before .before .before .before .before .before in
-    omega (arith, turn (boarded r) .below)
+    omega (arith, own-turn (boarded r) .below)
 
 loop-again : tie.Need-loop-again Inv-loop μ-loop
 loop-again c =
@@ -188,11 +195,12 @@ loop-again c =
     let d = r .before .before .number in
     let away = c .before .before .before .before .if2 .taken in
     let passed = c .before .before .want .ensures in (
-      omega (arith, turn m .below),
+      omega (arith, own-turn m .below),
       omega (arith, l .inv .1),
       omega (arith, r .later .ensures, lands-soon (r .before .before), l .inv .2),
       outside-then (l .inv .3) (marks-only (l .work) _ _ _ (stack-met r away) passed),
-      changed (turn m) (w .result) (w .ensures .0) (n .result) (n .ensures .0) (d .result) (d .ensures .0) (w .last .1 .1 .1 .0) (w .ensures .1)
+      λ p.
+          changed (turn m p) (w .result) (w .ensures .0) (n .result) (n .ensures .0) (d .result) (d .ensures .0) (w .last .1 .1 .1 .0) (w .ensures .1)
           (r .later .result) (r .later .ensures) away (c .before .before .want .last .1 .1 .1 .0) passed,
     )
 
@@ -207,11 +215,12 @@ loop-again-2 c =
     let w = r .before .before .before .before .before .before .before .before .write-row in
     let n = r .before .before .before .before .before .nth-row in
     let d = r .before .before .number in (
-      omega (arith, turn m .below),
+      omega (arith, own-turn m .below),
       omega (arith, l .inv .1),
       omega (arith, r .later .ensures, lands-soon (r .before .before), l .inv .2),
       l .inv .3,
-      arrived (turn m) (w .result) (w .ensures .0) (n .result) (n .ensures .0) (d .result) (d .ensures .0) (w .last .1 .1 .1 .0) (w .ensures .1)
+      λ p.
+          arrived (turn m p) (w .result) (w .ensures .0) (n .result) (n .ensures .0) (d .result) (d .ensures .0) (w .last .1 .1 .1 .0) (w .ensures .1)
           (r .later .result) (r .later .ensures) (c .if2 .left),
     )
 
@@ -225,7 +234,7 @@ loop-again-3 c =
       omega arith,
       l .inv .2,
       l .inv .3,
-      λ f. writing-pass (l .inv .4 f) (λ mark. c .if1 .left (ap (λ k. getD (l .work) k 0) (zero-add (l .i)) ∙ mark)),
+      λ p. writing-pass (l .inv .4 p) (λ mark. c .if1 .left (ap (λ k. getD (l .work) k 0) (zero-add (l .i)) ∙ mark)),
     )
 
 cell-requires : tie.Need-cell-requires Inv-loop μ-loop
@@ -235,13 +244,13 @@ same-length : tie.Need-same-length Inv-loop μ-loop
 same-length c = c .before .before .loop .inv .3 .same-length
 
 same-length-2 : tie.Need-same-length-2 Inv-loop μ-loop
-same-length-2 c = plan-length (c .before .before .loop .inv .4 (c .before .before .before .before .before .before .before .pre .7)) (omega arith)
+same-length-2 c = plan-length (c .before .before .loop .inv .4 (c .before .before .before .before .before .before .before .pre .5)) (omega arith)
 
 returns : tie.Need-returns Inv-loop μ-loop
 returns c =
     let a = c .before .before .before .before .before .before .before in
     let l = c .before .before .loop in (
-      (λ f. let done = writing-end (l .inv .4 f) (λ v m. omega (arith, c .before .loop-test .left, before-end a v m)) in
+      (λ p. let done = writing-end (l .inv .4 p) (λ v m. omega (arith, c .before .loop-test .left, before-end a p v m)) in
           (done .0, done .1, c .cell .ensures ∙ done .2)),
       outside-wider (omega arith) (omega arith) (l .inv .3),
     )

@@ -6,7 +6,7 @@ use Rattle.plan_cells.specs.Cells.{tripCells, used}
 use Rattle.plan_cells.proofs.Outside.{outside-same}
 use Rattle.plan_stacks.specs.Stacks.{stackStart, stackSize, entryRow, entryWorth}
 use Rattle.plan_scan.specs.Scanned.{scanIn}
-use Rattle.plan_extract.specs.Extracted.{FirstRide}
+use Rattle.plan_extract.specs.Extracted.{FirstRide, PlanAhead}
 use Rattle.plan_whole.specs.Steps.{planIn}
 use Rattle.plan_whole.proofs.First.{Top, Told, goal-told}
 use Rattle.plan_whole.proofs.Answered.{no-plan-answers, plan-answers}
@@ -29,13 +29,13 @@ given-back c = c .before .before .before .before .before .before
 
 -- what the source's stack tells
 told : (a : tie.Start)
-    → Told (a .args .file .now) (a .args .s) (a .args .tables .now) (a .args .q) (a .args .first) (a .pre .0) (a .args .goal .bound) (a .args .end)
-    (a .pre .1 .ordered)
-    (a .pre .1 .inside) (a .args .work .now) (a .args .goal .target)
+    → Told (a .args .file .now) (a .args .s) (a .args .tables .now) (a .args .q) (a .pre .0) (a .pre .1) (a .args .goal .bound) (a .args .end)
+    (a .pre .2 .ordered)
+    (a .pre .2 .inside) (a .args .work .now) (a .args .goal .target)
 told a =
-    goal-told (a .args .file .now) (a .args .s) (a .args .tables .now) (a .args .q) (a .args .first) (a .pre .0) (a .args .goal .bound) (a .args .end)
-    (a .pre .1 .ordered)
-    (a .pre .1 .inside) (a .args .work .now) (a .args .goal .target) (a .pre .1 .target) (a .pre .4) (a .pre .1 .idle)
+    goal-told (a .args .file .now) (a .args .s) (a .args .tables .now) (a .args .q) (a .pre .0) (a .pre .1) (a .args .goal .bound) (a .args .end)
+    (a .pre .2 .ordered)
+    (a .pre .2 .inside) (a .args .work .now) (a .args .goal .target) (a .pre .2 .target) (a .pre .5) (a .pre .2 .idle)
 
 -- the stack's size and start, as read
 sized : (c : tie.After-stack-of) → c .stack-of .result .size ≡ stackSize (begun c .args .work .now) (begun c .args .q .source)
@@ -50,13 +50,14 @@ some-here c = omega (arith, sized (c .before .before .before), c .before .if1 .l
 
 top-of : (c : tie.After-top) →
     let a = begun (stacked c) in
-    Top (a .args .file .now) (a .args .s) (a .args .tables .now) (a .args .q) (a .args .first) (a .pre .0) (a .args .goal .bound) (a .args .end)
-    (a .pre .1 .ordered) (a .pre .1 .inside) (a .args .work .now) (a .args .goal .target)
+    Top (a .args .file .now) (a .args .s) (a .args .tables .now) (a .args .q) (a .pre .0) (a .pre .1) (a .args .goal .bound) (a .args .end)
+    (a .pre .2 .ordered) (a .pre .2 .inside) (a .args .work .now) (a .args .goal .target)
 top-of c = told (begun (stacked c)) .1 (some-here (c .before))
 
 -- the first ride, by the row that the top names
 first-ride : (c : tie.After-top) →
-    let a = begun (stacked c) .args in FirstRide (scanIn (a .file .now) (a .s) (a .goal) (a .first) (a .end) .chosen) (c .top .result .row)
+    let a = begun (stacked c) in
+    FirstRide (scanIn (a .args .file .now) (a .args .s) (a .args .goal) (a .pre .0) (a .args .end) .chosen) (c .top .result .row)
 first-ride c =
     let t = top-of c in
     let a = begun (stacked c) in
@@ -64,11 +65,18 @@ first-ride c =
       stop = a .args .q .source;
       minute = a .args .q .minute;
       ride = t .ride;
-      stop-inside = a .pre .0 .source;
+      stop-inside = a .pre .1 .source;
       is-first = t .first-here;
       boards-at =
           sym (c .top .ensures .0 ∙ ap₂ (λ at n. entryRow (a .args .work .now) at (n - 1)) (started (stacked c)) (sized (stacked c)) ∙ t .row);
     }
+
+-- and the plan that it begins, in the scan's cells
+abbrev plan-ahead : (c : tie.After-top) →
+    let a = begun (stacked c) .args in PlanAhead (a .file .now) (a .s) (a .goal) (c .top .result .row) (a .end) (a .work .now)
+plan-ahead c =
+    let a = begun (stacked c) in
+    record { first = a .pre .0; ordered = a .pre .2 .ordered; held = a .pre .5; begins = first-ride c }
 
 stack-of-requires : tie.Need-stack-of-requires
 stack-of-requires c κs = search needs
@@ -94,25 +102,25 @@ top-requires c κs =
     let s = c .before .before .before in
     let a = begun s in (
       omega (arith, sized s, some-here c),
-      omega (arith, started s, sized s, a .pre .2, a .pre .4 .stack-inside (a .args .q .source) (a .pre .0 .source)),
+      omega (arith, started s, sized s, a .pre .3, a .pre .5 .stack-inside (a .args .q .source) (a .pre .1 .source)),
     )
 
 write-plan-requires : tie.Need-write-plan-requires
 write-plan-requires c κs =
     let a = begun (stacked (c .before .before)) in
-    (a .pre .0 .stand, a .pre .0 .held, a .pre .1 .ordered, a .pre .1 .inside, a .pre .2, a .pre .3, a .pre .4, first-ride (c .before .before))
+    (a .pre .1 .stand, a .pre .1 .held, a .pre .2 .inside, a .pre .3, a .pre .4, plan-ahead (c .before .before))
 
 cell-requires : tie.Need-cell-requires
 unfolding first-ride
 cell-requires c κs =
     let w = c .before .before .before .before in
     let few : w .write-plan .result .rides ≤ 2000 =
-    subst (λ n. n ≤ 2000) (sym (w .write-plan .ensures .0 (first-ride (topped w)) .1)) (top-of (topped w) .few)
+    subst (λ n. n ≤ 2000) (sym (w .write-plan .ensures .0 (plan-ahead (topped w)) .1)) (top-of (topped w) .few)
     in
     omega (arith, few)
 
 cell-requires-2 : tie.Need-cell-requires-2
-cell-requires-2 c κs = begun (stacked (topped (c .before .before .before .before .before))) .pre .1 .bound
+cell-requires-2 c κs = begun (stacked (topped (c .before .before .before .before .before))) .pre .2 .bound
 
 same-length-2 : tie.Need-same-length-2
 same-length-2 c = search needs
@@ -127,7 +135,7 @@ returns-2 c =
     let s = stacked p in
     let a = begun s in
     let w = given-back c .write-plan in
-    let made = w .ensures .0 (first-ride p) in
+    let made = w .ensures .0 (plan-ahead p) in
     let worth = p .top .ensures .1 ∙ ap₂ (λ at n. entryWorth (a .args .work .now) at (n - 1)) (started s) (sized s) ∙ top-of p .worth in (
       plan-answers (planIn (a .args .file .now) (a .args .s) (a .args .q) (a .args .goal .bound)) _ _ _ _ _ (a .args .plan .now) _
           (top-of p .is-plan) (c .before .cell .ensures ∙ made .1) worth (made .2) (c .cell2 .ensures) (made .0),

@@ -41,9 +41,11 @@ plan-scanned-requires : tie.Need-plan-scanned-requires
 plan-scanned-requires c κs =
     let a = begun (c .before .before .before .before .before .before) in
     let scanned = c .before .before .before .before .scan-back in (
+      a .args .first,
       a .pre .0,
       looked-at (c .before .before .before .before .before .before),
-      (let z : used (a .args .s .rows) ≤ length (scanned .last .1 .1 .1 .1 .1 .1 .0) = omega (arith, a .pre .3, scanned .ensures .1 .same-length) in z),
+      (let z : used (a .args .s .rows) ≤ length (scanned .last .1 .1 .1 .1 .1 .1 .0) =
+          omega (arith, a .pre .3, scanned .ensures .1 .same-length) in z),
       a .pre .4,
       scanned .ensures .0,
     )
@@ -60,7 +62,7 @@ returns c =
     let scanned = c .before .before .before .before .before .before .before .before .before .scan-back in
     let p = c .before .before .before .before .plan-scanned in (
       p .ensures .0,
-      kept-both (used (a .args .s .rows)) (a .args .work .now) (scanned .last .1 .1 .1 .1 .1 .1 .0) (p .last .1 .1 .1 .1 .1 .1 .1 .0)
+      kept-both (used (a .args .s .rows)) (a .args .work .now) (scanned .last .1 .1 .1 .1 .1 .1 .0) (p .last .1 .1 .1 .1 .1 .1 .0)
           (scanned .ensures .1) (p .ensures .1),
     )
 
