@@ -6,6 +6,7 @@ use mathlib.Core.Logic.{_↔_}
 use mathlib.Core.Option.{Option, none, some}
 use mathlib.Core.Path.{_≡_, refl, sym, ap, subst, _∙_}
 use lib.ListN.{length, drop, length-map}
+use lib.Seq.{drop-append-seam}
 use contract.Lifetimes.{Lfts}
 use denote.Ref.{now}
 use denote.Triple.Clauses.{AtExit}
@@ -34,7 +35,7 @@ use Rattle.sayurimpak.proofs.sayurimpak_plan.Reads as reads
 use Rattle.promises.proofs.Admitted.{is-timely, is-sound, no-plan-exactly}
 use Rattle.promises.proofs.Minutes.{plan-minutes}
 use Rattle.promises.proofs.PlanCall.{demanded-rides}
-use Rattle.promises.proofs.HostReads.{NumbersFit, host-reads, few-rides}
+use Rattle.promises.proofs.HostReads.{NumbersFit, host-reads, length-bytes, few-rides}
 
 module _ (file : List ℕ) (q : Query) (out : List ℕ) where
   -- refusals 1 to 7, room below 12 bytes a row being 7
@@ -93,6 +94,8 @@ module _ (file : List ℕ) (q : Query) (out : List ℕ) where
     pub bound : ℕ
     pub demanded-plan : Demanded t q (ridesIn t (numbersIn (3 * answer) bytes)) expected last bound
     pub count : length (ridesIn t (numbersIn (3 * answer) bytes)) ≡ answer
+    -- other bytes stay
+    pub beyond : drop (12 * answer) bytes ≡ drop (12 * answer) out
 
   booked : (answer : ℕ) (bytes : List ℕ) → verdict ≡ fine → (o : Option Plan) → planned t q ≡ o → answer ≡ deskAnswered o out .answer
       → bytes ≡ deskAnswered o out .bytes → answer < 10000 → Booked answer bytes
@@ -107,7 +110,17 @@ module _ (file : List ℕ) (q : Query) (out : List ℕ) where
         bound = p .bound;
         demanded-plan = subst (λ (l : List Valued). Demanded t q l (p .expected) (p .latest) (p .bound)) (sym back) (demanded e p is);
         count = ap length back ∙ sym told;
+        beyond =
+            subst (λ k. drop k bytes ≡ drop k out) (length-bytes (p .rides) ∙ ap (λ k. 12 * k) (sym told))
+            (ap (drop (length (planBytes (p .rides)))) left
+            ∙ drop-append-seam (planBytes (p .rides)) (drop (length (planBytes (p .rides))) out));
       }
+
+  -- an admitted call that finds a plan counts its rides
+  few-told : verdict ≡ fine → (o : Option Plan) → planned t q ≡ o → (deskAnswered o out .answer ≡ 10008 → ⊥) → deskAnswered o out .answer < 10000
+  unfolding deskAnswered
+  few-told e none is not-eight = absurd (not-eight refl)
+  few-told e (some p) is not-eight = omega (arith, rides-few e p is)
 
   eight-told : verdict ≡ fine → (o : Option Plan) → planned t q ≡ o → deskAnswered o out .answer ≡ 10008 → o ≡ none
   unfolding deskAnswered
@@ -158,3 +171,9 @@ module _ (κs : Lfts 2) (arguments : Dens κs kinds.ps) (answer : resT kinds.r �
         λ told. exactly .0 (eight-told file q out e (planned (decode versionOne file) q) refl (sym o ∙ told)),
         λ gone. o ∙ ap (λ (x : Option Plan). deskAnswered x out .answer) (exactly .1 gone),
       )
+
+  -- otherwise a plan
+  pub else-a-plan : verdict file q out ≡ fine → (answer ≡ 10008 → ⊥) → answer < 10000
+  else-a-plan e not-eight =
+      let o = permitted .0 ∙ ap (λ (x : DeskOutcome). x .answer) (desk-answered file q out e) in
+      subst (λ a. a < 10000) (sym o) (few-told file q out e (planned (decode versionOne file) q) refl (λ told. not-eight (o ∙ told)))

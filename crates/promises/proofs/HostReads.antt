@@ -31,6 +31,12 @@ host-reads (v ∷ rides) rest fits =
     (ap₂ _∷_ (u32-value (v .ride .leave) (own .leave))
     (ap₂ _∷_ (u32-value (v .worth) (own .worth)) (host-reads rides rest (λ u m. fits u (List·Memᴰ·tail m)))))
 
+-- 12 bytes a ride
+pub length-bytes : (rides : List Valued) → length (planBytes rides) ≡ 12 * length rides
+unfolding planBytes rideBytes u32Bytes u16Bytes
+length-bytes [] = refl
+length-bytes (v ∷ rides) = omega (arith, length-bytes rides)
+
 -- rides by boarding row, of rows from k to before n, are at most n − k
 pub few-rides : {rides : List Ride} → ByBoardingRow rides → (k n : ℕ) → ((r : Ride) → List·Memᴰ r rides → (k ≤ r .board) × (r .board < n))
     → length rides ≤ n - k

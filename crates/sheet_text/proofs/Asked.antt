@@ -59,7 +59,7 @@ record Told (v : Verdict) (found : Option Plan) (rides expected last : ℕ) (pla
   is-found : found ≡ some told
   count : rides ≡ length (told .rides)
   expects : expected ≡ told .expected
-  ends : last ≡ told .last
+  ends : last ≡ told .latest
   laid : after ≡ over (written (told .rides)) plan
 
 plan-when : (v : Verdict) (found : Option Plan) (cells work plan after : List ℕ) {rides expected last bound : ℕ}
