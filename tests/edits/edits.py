@@ -22,6 +22,8 @@ SLIPS = [
     ("syntax", r"starts at column|is still open|needs its signature|unclosed"),
 ]
 FIRST_ERROR = re.compile(r"(?P<place>[^ ]*): error(\[[^\]]*\])?: (?P<text>.*)")
+# where a function has no proof file, the proof that is made for it fails with a note
+NOT_PROVED = re.compile(r"note: (?P<place>[^ ]*): it is not proved that (?P<text>.*)")
 
 
 def problems_of_form(lines):
@@ -60,7 +62,10 @@ def kind_of(log, copy, changed):
     """The kind of the first error, its place, and whether it is a fact."""
     first = next(filter(None, map(FIRST_ERROR.match, log.splitlines())), None)
     if first is None:
-        return "no error", "", False
+        open_fact = next(filter(None, map(NOT_PROVED.match, log.splitlines())), None)
+        if open_fact is None:
+            return "no error", "", False
+        return "not proved: " + open_fact["text"][:60], open_fact["place"].removeprefix(f"{copy.resolve()}/"), True
     place = first["place"].removeprefix(f"{copy.resolve()}/")
     text = re.sub(r"^`[^`]*`: ", "", first["text"])
     for kind, form in SLIPS:

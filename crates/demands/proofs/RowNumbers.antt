@@ -12,20 +12,8 @@ use Rattle.plans.specs.Rides.{Ride, boards}
 use Rattle.plans.specs.Worth.{Valued, up, weigh, firstOpen, caught, worthOr, arrivalWorth, changeWorth, landWorth, valued}
 use Rattle.plans.specs.Chosen.{worthOf}
 use Rattle.demands.specs.SafePlan.{ByBoardingRow, expectedOf}
+use Rattle.demands.specs.Unnumbered.{unnumbered}
 use Rattle.demands.proofs.Sorting.{sorted-same}
-
--- a ride without its row numbers
-abbrev pub unnumbered : Ride → Ride
-unnumbered r =
-    record {
-      board = 0;
-      leave = 0;
-      from = r .from;
-      departs = r .departs;
-      to = r .to;
-      arrives = r .arrives;
-      shares = r .shares;
-    }
 
 abbrev bare : Valued → Valued
 bare v = record { ride = unnumbered (v .ride); worth = v .worth }

@@ -6,3 +6,4 @@ pub mod Words
 pub mod RowWords
 pub mod SmallPlan
 pub mod Demanded
+pub mod Unnumbered

@@ -8,7 +8,8 @@ use lib.ListN.{length, getD}
 use Rattle.timetable.specs.Verdict.{Verdict, fine, fault, orElse, unless}
 use Rattle.timetable.specs.Classes.{sharesRule}
 use Rattle.timetable.specs.Rows.{rowsVerdict}
-use Rattle.timetable.proofs.Places.{Placed, WellPlaced, outside, unjoined, class, number-small, place-small, one-of-two-placed, rule-placed, rows-placed}
+use Rattle.timetable.specs.Places.{Placed, WellPlaced, outside, unjoined, class}
+use Rattle.timetable.proofs.Places.{number-small, place-small, one-of-two-placed, rule-placed, rows-placed}
 use Rattle.file_layout.specs.declared.Format.{Format}
 use Rattle.file_layout.specs.declared.Trailer.{Trailer}
 use Rattle.file_layout.specs.declared.Checked.the-variants.{Refused}

@@ -9,7 +9,7 @@ use lib.ListN.{getD, length}
 use borrow.Author.Tests.{lt-ltb, le-ltb, le-leb, lt-leb}
 use Rattle.laws.proofs.Tests.{both, cond-true, cond-false}
 use Rattle.house.specs.declared.HouseShare.the-variants.{Share, Refused}
-use Rattle.house.specs.House.{latest, pairOf, cumulative, housePairs}
+use Rattle.house.specs.House.{maximum, pairOf, cumulative, housePairs}
 use Rattle.house.specs.Carried.{startOf}
 use Rattle.house.specs.HouseShare.{inHouse, houseShare, houseAnswer}
 use Rattle.house.proofs.Tables.{carried, carried-right}
@@ -24,33 +24,33 @@ unfolding houseShare inHouse
 pair-refused pair minute h = simp (le-ltb pair (length housePairs) h)
 
 -- a minute above M
-pub minute-refused : (pair minute : ℕ) → latest (pairOf pair) < minute → Refused 6 0 ≡ houseShare pair minute
+pub minute-refused : (pair minute : ℕ) → maximum (pairOf pair) < minute → Refused 6 0 ≡ houseShare pair minute
 unfolding houseShare inHouse
 minute-refused pair minute h =
-    sym (cond-false _ _ (second-fails (ltb pair (length housePairs)) (lt-leb minute (latest (pairOf pair)) h)))
+    sym (cond-false _ _ (second-fails (ltb pair (length housePairs)) (lt-leb minute (maximum (pairOf pair)) h)))
 
 -- inside the eight tables, the share by the rule
-pub share-inside : (pair minute : ℕ) → pair < length housePairs → minute ≤ latest (pairOf pair)
+pub share-inside : (pair minute : ℕ) → pair < length housePairs → minute ≤ maximum (pairOf pair)
     → houseShare pair minute ≡ Share (cumulative (pairOf pair .change) (pairOf pair .parameter) minute)
 unfolding houseShare inHouse
 share-inside pair minute h inside =
-    cond-true _ _ (both (lt-ltb pair (length housePairs) h) (le-leb minute (latest (pairOf pair)) inside))
+    cond-true _ _ (both (lt-ltb pair (length housePairs) h) (le-leb minute (maximum (pairOf pair)) inside))
 
 -- which is the share carried at the minute's place
 pub share-answered : {pair minute start share : ℕ} → start ≡ startOf pair → share ≡ getD carried (start + minute) 0
-    → pair < length housePairs → minute ≤ latest (pairOf pair) → Share share ≡ houseShare pair minute
+    → pair < length housePairs → minute ≤ maximum (pairOf pair) → Share share ≡ houseShare pair minute
 share-answered {pair} {minute} starts read h inside =
     ap Share (read ∙ ap (λ (k : ℕ). getD carried (k + minute) 0) starts ∙ carried-right pair minute h inside)
     ∙ sym (share-inside pair minute h inside)
 
 -- the answers by document 01's number, place and values
-pub house-answered : (pair minute : ℕ) → pair < length housePairs → minute ≤ latest (pairOf pair)
+pub house-answered : (pair minute : ℕ) → pair < length housePairs → minute ≤ maximum (pairOf pair)
     → houseAnswer (houseShare pair minute)
     ≡ record { number = 0; place = 0; values = cumulative (pairOf pair .change) (pairOf pair .parameter) minute ∷ [] }
 unfolding houseAnswer
 house-answered pair minute h inside = ap houseAnswer (share-inside pair minute h inside)
 
-pub house-refused : (pair minute : ℕ) → (length housePairs ≤ pair) ⊎ (latest (pairOf pair) < minute)
+pub house-refused : (pair minute : ℕ) → (length housePairs ≤ pair) ⊎ (maximum (pairOf pair) < minute)
     → houseAnswer (houseShare pair minute) ≡ record { number = 6; place = 0; values = [] }
 unfolding houseAnswer
 house-refused pair minute (inl past) = ap houseAnswer (sym (pair-refused pair minute past))

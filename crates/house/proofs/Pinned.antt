@@ -4,7 +4,7 @@ use mathlib.Core.Path.{_≡_, refl}
 use mathlib.Core.List.{List, [], _∷_}
 use native.Mathlib.Omega.{arith}
 use Rattle.file_layout.specs.Check.{Answer}
-use Rattle.house.specs.House.{cumulative, between, latest, pairOf}
+use Rattle.house.specs.House.{cumulative, between, maximum, pairOf}
 use Rattle.house.specs.HouseShare.{inHouse, houseShare, houseAnswer}
 use Rattle.house.specs.Rising.{Rising}
 
@@ -33,8 +33,8 @@ pub pairs-by-number : shareOfEleven 0 ∷ shareOfEleven 1 ∷ shareOfEleven 2 �
 unfolding cumulative between
 pairs-by-number = refl
 
-pub latest-by-number : latest (pairOf 0) ∷ latest (pairOf 1) ∷ latest (pairOf 2) ∷ latest (pairOf 3) ∷ latest (pairOf 4)
-    ∷ latest (pairOf 5) ∷ latest (pairOf 6) ∷ latest (pairOf 7) ∷ [] ≡ 12 ∷ 35 ∷ 65 ∷ 40 ∷ 70 ∷ 120 ∷ 105 ∷ 120 ∷ []
+pub latest-by-number : maximum (pairOf 0) ∷ maximum (pairOf 1) ∷ maximum (pairOf 2) ∷ maximum (pairOf 3) ∷ maximum (pairOf 4)
+    ∷ maximum (pairOf 5) ∷ maximum (pairOf 6) ∷ maximum (pairOf 7) ∷ [] ≡ 12 ∷ 35 ∷ 65 ∷ 40 ∷ 70 ∷ 120 ∷ 105 ∷ 120 ∷ []
 latest-by-number = refl
 
 -- a table whose last step is flat has a last share of 0, so it does not rise; nor does one that falls, or ends below 4,096

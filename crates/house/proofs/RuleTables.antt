@@ -6,7 +6,7 @@ use native.Mathlib.Omega.{arith}
 use lib.ListN.{length, getD}
 use Rattle.timetable.specs.Timetable.{longest}
 use Rattle.file_layout.specs.Format.{versionOne}
-use Rattle.house.specs.House.{latest, pairOf, housePairs, cumulative}
+use Rattle.house.specs.House.{maximum, pairOf, housePairs, cumulative}
 use Rattle.house.specs.Rising.{Rising, MadeOf, valuesFrom, houseCumulatives, houseTable}
 use Rattle.house.specs.Carried.{startOf}
 use Rattle.house.proofs.Tables.{carried, carried-right, house-short}
@@ -54,7 +54,7 @@ house-table-accepted m d = rising-table-accepted (houseCumulatives m d) (house-r
 
 -- each of the eight is one the check accepts: M is at most version 1's longest delay, and the shares keep their rule
 pub house-pair-accepted : (k : ℕ) → k < length housePairs
-    → (latest (pairOf k) ≤ versionOne .delay)
+    → (maximum (pairOf k) ≤ versionOne .delay)
     × MadeOf (houseCumulatives (pairOf k .change) (pairOf k .parameter)) (houseTable (pairOf k .change) (pairOf k .parameter))
 house-pair-accepted k h = (house-short k h, house-table-accepted (pairOf k .change) (pairOf k .parameter))
 
@@ -67,13 +67,13 @@ values-same f g x (suc n) same =
 
 -- the entries that are carried for a pair number, from delay 0 to M
 unfoldable pub carriedOf : ℕ → List ℕ
-carriedOf k = valuesFrom (λ x. getD carried (startOf k + x) 0) 0 (suc (latest (pairOf k)))
+carriedOf k = valuesFrom (λ x. getD carried (startOf k + x) 0) 0 (suc (maximum (pairOf k)))
 
 -- they are the pair's cumulative shares, and so the carried tables rise
 pub carried-by-rule : (k : ℕ) → k < length housePairs → carriedOf k ≡ houseCumulatives (pairOf k .change) (pairOf k .parameter)
 unfolding carriedOf houseCumulatives
 carried-by-rule k h =
-    values-same (λ x. getD carried (startOf k + x) 0) (cumulative (pairOf k .change) (pairOf k .parameter)) 0 (suc (latest (pairOf k)))
+    values-same (λ x. getD carried (startOf k + x) 0) (cumulative (pairOf k .change) (pairOf k .parameter)) 0 (suc (maximum (pairOf k)))
     (λ x inside. carried-right k x h (omega (arith, inside)))
 
 pub carried-rising : (k : ℕ) → k < length housePairs → Rising (carriedOf k)

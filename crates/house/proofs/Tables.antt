@@ -10,7 +10,7 @@ use borrow.Author.Tests.{eqb-true, leb-true, ltb-true}
 use Rattle.laws.proofs.Below.{below, below-at}
 use Rattle.file_layout.specs.Format.{versionOne}
 use Rattle.house.specs.declared.House.{House}
-use Rattle.house.specs.House.{latest, pairOf, cumulative, between, housePairs}
+use Rattle.house.specs.House.{maximum, pairOf, cumulative, between, housePairs}
 use Rattle.house.specs.Carried.{placesAhead, startOf, entries, IsHouse}
 
 unfoldable pub houses : List House
@@ -93,17 +93,17 @@ tables-fill = (refl, refl)
 
 -- M is at most version 1's longest delay
 unfoldable shortEnough : ℕ → Bool
-shortEnough k = leb (latest (pairOf k)) (versionOne .delay)
+shortEnough k = leb (maximum (pairOf k)) (versionOne .delay)
 
-pub house-short : (k : ℕ) → k < length housePairs → latest (pairOf k) ≤ versionOne .delay
+pub house-short : (k : ℕ) → k < length housePairs → maximum (pairOf k) ≤ versionOne .delay
 unfolding shortEnough
 house-short k h = leb-true _ _ (below-at shortEnough (length housePairs) refl k h)
 
 -- the table of a pair ends inside the carried one
 unfoldable endsInside : ℕ → Bool
-endsInside k = ltb (startOf k + latest (pairOf k)) entries
+endsInside k = ltb (startOf k + maximum (pairOf k)) entries
 
-pub house-inside : (k : ℕ) → k < length housePairs → startOf k + latest (pairOf k) < entries
+pub house-inside : (k : ℕ) → k < length housePairs → startOf k + maximum (pairOf k) < entries
 unfolding endsInside
 house-inside k h = ltb-true _ _ (below-at endsInside (length housePairs) refl k h)
 
@@ -112,14 +112,14 @@ unfoldable entryRight : ℕ → ℕ → Bool
 entryRight k x = eqb (getD carried (startOf k + x) 0) (cumulative (pairOf k .change) (pairOf k .parameter) x)
 
 unfoldable tableRight : ℕ → Bool
-tableRight k = below (entryRight k) (suc (latest (pairOf k)))
+tableRight k = below (entryRight k) (suc (maximum (pairOf k)))
 
 tables-right : below tableRight (length housePairs) ≡ true
 unfolding carried tableRight entryRight cumulative between
 tables-right = refl
 
-pub carried-right : (k x : ℕ) → k < length housePairs → x ≤ latest (pairOf k)
+pub carried-right : (k x : ℕ) → k < length housePairs → x ≤ maximum (pairOf k)
     → getD carried (startOf k + x) 0 ≡ cumulative (pairOf k .change) (pairOf k .parameter) x
 unfolding tableRight entryRight
 carried-right k x h inside =
-    eqb-true _ _ (below-at (entryRight k) (suc (latest (pairOf k))) (below-at tableRight (length housePairs) tables-right k h) x (omega arith))
+    eqb-true _ _ (below-at (entryRight k) (suc (maximum (pairOf k))) (below-at tableRight (length housePairs) tables-right k h) x (omega arith))

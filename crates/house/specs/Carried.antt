@@ -3,13 +3,13 @@ use Prim.Native.Nat.{ℕ, zero, suc, _+_}
 use mathlib.Core.Path.{_≡_}
 use mathlib.Core.List.{List, [], _∷_}
 use Rattle.house.specs.declared.House.{House}
-use Rattle.house.specs.House.{Pair, latest, housePairs, pairOf}
+use Rattle.house.specs.House.{Pair, maximum, housePairs, pairOf}
 
 -- the places that the tables ahead of the k-th take: M + 1 each
 abbrev pub placesAhead : List Pair → ℕ → ℕ
 placesAhead pairs zero = 0
 placesAhead [] (suc k) = 0
-placesAhead (p ∷ pairs) (suc k) = suc (latest p) + placesAhead pairs k
+placesAhead (p ∷ pairs) (suc k) = suc (maximum p) + placesAhead pairs k
 
 -- where the table of this pair number starts
 abbrev pub startOf : ℕ → ℕ

@@ -12,8 +12,8 @@ pub record Pair : Type 0 where
   pub parameter : ℕ
 
 -- M = m+d
-abbrev pub latest : Pair → ℕ
-latest p = p .change + p .parameter
+abbrev pub maximum : Pair → ℕ
+maximum p = p .change + p .parameter
 
 -- 4,096 times source 001's distribution, rounded down: for 0 < x ≤ m, 2x/(6m−3x)
 abbrev pub upToChange : (m x : ℕ) → ℕ

@@ -7,11 +7,11 @@ use lib.ListN.{length}
 use Rattle.file_layout.specs.Check.{Answer}
 use Rattle.house.specs.declared.HouseShare.{HouseShare}
 use Rattle.house.specs.declared.HouseShare.the-variants.{Share, Refused}
-use Rattle.house.specs.House.{housePairs, pairOf, latest, cumulative}
+use Rattle.house.specs.House.{housePairs, pairOf, maximum, cumulative}
 
 -- a pair number of the eight, and a minute not above its M
 unfoldable pub inHouse : (pair minute : ℕ) → Bool
-inHouse pair minute = ltb pair (length housePairs) && leb minute (latest (pairOf pair))
+inHouse pair minute = ltb pair (length housePairs) && leb minute (maximum (pairOf pair))
 
 -- The cumulative share by the rule. Pair number above 7 or minute above M: refusal 6
 unfoldable pub houseShare : (pair minute : ℕ) → HouseShare

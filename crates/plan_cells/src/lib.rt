@@ -2,8 +2,8 @@
 //
 // | cell | holds, while .. | why |
 // |---|---|---|
-// | 0 .. 1,999 | a trip: 1 once the journey is aboard (journeys); its next row, n for none (scan). A row: 1 once it is wanted (extract) | trips need 2,000 cells whatever n is; each use fills them anew; n is at most 2,000, so the marks fit |
-// | 2,000 .. 2,199 | a stop: its ready minute (journeys); where its stack starts, counted in pairs (scan, extract) | 200 stops |
+// | 0 .. 1,999 | a trip: 1 once the journey is aboard (plan_earliest); its next row, n for none (plan_scan). A row: 1 once it is wanted (plan_extract) | trips need 2,000 cells whatever n is; each use fills them anew; n is at most 2,000, so the marks fit |
+// | 2,000 .. 2,199 | a stop: its ready minute (plan_earliest); where its stack starts, counted in pairs (plan_stacks) | 200 stops |
 // | 2,200 .. 2,399 | a stop: the entries on its stack | |
 // | 2,400 + 2i | pair i, for row i up to n: its worth, its leaving row. Pair n holds NONE | a trip with no next row reads pair n, with no test |
 // | 2,402 + 2n + 2e | pair n + 1 + e, a stack's entry: 2,048 x departure + row, its worth | one region a stop, sized by its rows: no links to follow, and a search by quarters |

@@ -10,7 +10,8 @@ use Rattle.laws.proofs.Tests.{both-left, both-right}
 use Rattle.timetable.specs.Limits.{mostStops, mostRows}
 use Rattle.timetable.specs.Verdict.{Verdict, fine, fault, orElse, unless, byVerdict}
 use Rattle.timetable.proofs.Verdicts.{fault-not-fine, first-fine, second-fine, rule-holds}
-use Rattle.timetable.proofs.Places.{WellPlaced, number-small}
+use Rattle.timetable.specs.Places.{WellPlaced}
+use Rattle.timetable.proofs.Places.{number-small}
 use Rattle.file_layout.specs.declared.Format.{Format}
 use Rattle.file_layout.specs.declared.Trailer.{Trailer}
 use Rattle.file_layout.specs.declared.Checked.the-variants.{Sound, Refused}

@@ -32,6 +32,7 @@ use Rattle.sayurimpak.specs.Desk.{DeskOutcome, refused, planBytes, deskAnswered
 use Rattle.sayurimpak.specs.Host.{numbersIn}
 use Rattle.sayurimpak.proofs.sayurimpak_plan.Kinds as kinds
 use Rattle.sayurimpak.proofs.sayurimpak_plan.Reads as reads
+use Rattle.promises.specs.Returned.{Booked}
 use Rattle.promises.proofs.Admitted.{is-timely, is-sound, no-plan-exactly}
 use Rattle.promises.proofs.Minutes.{plan-minutes}
 use Rattle.promises.proofs.PlanCall.{demanded-rides}
@@ -87,18 +88,8 @@ module _ (file : List ℕ) (q : Query) (out : List ℕ) where
         ap (ridesIn t) (host-reads (p .rides) (drop (length (planBytes (p .rides))) out) each-fits)
         ∙ read-back t (p .rides) (λ v m. demanded-rides demanded v m .as-timed)
 
-  -- what a desk's answer and bytes tell
-  pub record Booked (answer : ℕ) (bytes : List ℕ) : Type 0 where
-    pub expected : ℕ
-    pub last : ℕ
-    pub bound : ℕ
-    pub demanded-plan : Demanded t q (ridesIn t (numbersIn (3 * answer) bytes)) expected last bound
-    pub count : length (ridesIn t (numbersIn (3 * answer) bytes)) ≡ answer
-    -- other bytes stay
-    pub beyond : drop (12 * answer) bytes ≡ drop (12 * answer) out
-
   booked : (answer : ℕ) (bytes : List ℕ) → verdict ≡ fine → (o : Option Plan) → planned t q ≡ o → answer ≡ deskAnswered o out .answer
-      → bytes ≡ deskAnswered o out .bytes → answer < 10000 → Booked answer bytes
+      → bytes ≡ deskAnswered o out .bytes → answer < 10000 → Booked t q out answer bytes
   unfolding deskAnswered
   booked answer bytes e none is told left small = absurd (let z : ⊥ = omega (arith, told) in z)
   booked answer bytes e (some p) is told left small =
@@ -106,7 +97,7 @@ module _ (file : List ℕ) (q : Query) (out : List ℕ) where
       ap (λ k. ridesIn t (numbersIn (3 * k) bytes)) told ∙ ap (λ b. ridesIn t (numbersIn (3 * length (p .rides)) b)) left ∙ read-rides e p is in
       record {
         expected = p .expected;
-        last = p .latest;
+        latest = p .latest;
         bound = p .bound;
         demanded-plan = subst (λ (l : List Valued). Demanded t q l (p .expected) (p .latest) (p .bound)) (sym back) (demanded e p is);
         count = ap length back ∙ sym told;
@@ -152,10 +143,10 @@ module _ (κs : Lfts 2) (arguments : Dens κs kinds.ps) (answer : resT kinds.r �
       )
 
   -- an answer below 10,000 counts the rides that stand in the bytes, 12 bytes a ride, and they are what demands 2 and 3 ask
-  pub delivers : answer < 10000 → Booked file q out answer out′
+  pub delivers : answer < 10000 → Booked (decode versionOne file) q out answer out′
   delivers small = by (verdict file q out) refl
     where
-      by : (v : Verdict) → verdict file q out ≡ v → Booked file q out answer out′
+      by : (v : Verdict) → verdict file q out ≡ v → Booked (decode versionOne file) q out answer out′
       by (fault number place) e = absurd (let z : ⊥ = omega (arith, refuses number place e .0) in z)
       by fine e =
           let o = desk-answered file q out e in

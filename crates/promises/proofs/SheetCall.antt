@@ -32,6 +32,7 @@ use Rattle.sheet_text.specs.Sheet.{refusedText, firstText, ridesText, planText,
 use Rattle.sheet_text.specs.Outcome.{SheetOutcome, written, sheetOutcome}
 use Rattle.sheet_text.proofs.sheet.Kinds as kinds
 use Rattle.sheet_text.proofs.sheet.Reads as reads
+use Rattle.promises.specs.Returned.{Printed}
 use Rattle.promises.proofs.Admitted.{is-timely, no-plan-exactly}
 
 -- too little room is no text, and two equal texts end alike
@@ -75,23 +76,14 @@ module _ (sailings : List ℕ) (q : Query) where
   eight-told none e = refl
   eight-told (some p) e = absurd (plan-not-refused p 8 e)
 
-  -- the lines of a plan that is demanded
-  pub record Printed (text : List ℕ) : Type 0 where
-    pub rides : List Valued
-    pub expected : ℕ
-    pub last : ℕ
-    pub bound : ℕ
-    pub demanded-plan : Demanded t q rides expected last bound
-    pub lines : text ≡ firstText (length rides) expected last ++ ridesText rides
-
-  printed : (text : List ℕ) → verdict ≡ fine → (o : Option Plan) → planned t q ≡ o → text ≡ plannedText o → (text ≡ refusedText 8 → ⊥) → Printed text
+  printed : (text : List ℕ) → verdict ≡ fine → (o : Option Plan) → planned t q ≡ o → text ≡ plannedText o → (text ≡ refusedText 8 → ⊥) → Printed t q text
   unfolding plannedText planText
   printed text e none is says not-eight = absurd (not-eight says)
   printed text e (some p) is says not-eight =
       record {
         rides = p .rides;
         expected = p .expected;
-        last = p .latest;
+        latest = p .latest;
         bound = p .bound;
         demanded-plan = plan-demanded t (is-timely sailings q noRoom noRoom e) q p is;
         lines = says;
@@ -133,6 +125,6 @@ module _ (κs : Lfts 3) (arguments : Dens κs kinds.ps) (answer : resT kinds.r �
         )
 
     -- otherwise its lines are the rides that demands 2 and 3 ask
-    pub delivers : (text ≡ refusedText 8 → ⊥) → Printed sailings q text
+    pub delivers : (text ≡ refusedText 8 → ⊥) → Printed (decode versionOne sailings) q text
     delivers not-eight =
         printed sailings q text admitted (planned (decode versionOne sailings) q) refl (text-is ∙ planned-text sailings q admitted) not-eight

@@ -2,10 +2,11 @@
 use Prim.Native.Nat.{_<_}
 use native.Mathlib.Omega.{arith}
 use Rattle.file_layout.specs.Format.{versionOne}
-use Rattle.rooms.specs.Rooms.{sailingsBytes, queryBytes}
+use Rattle.query.specs.Query.{queryBytes}
+use Rattle.rooms.specs.Rooms.{sailingsRoom, queryRoom}
 
-pub longer-file-seen : versionOne .mostbytes < sailingsBytes
+pub longer-file-seen : versionOne .mostbytes < sailingsRoom
 longer-file-seen = omega arith
 
-pub longer-query-seen : 8 < queryBytes
+pub longer-query-seen : queryBytes < queryRoom
 longer-query-seen = omega arith

@@ -12,11 +12,11 @@ abbrev pub planNumbers : ℕ
 planNumbers = 3 * mostRows
 
 -- more than the longest sound file has, and more than a query has
-abbrev pub sailingsBytes : ℕ
-sailingsBytes = 28000
+abbrev pub sailingsRoom : ℕ
+sailingsRoom = 28000
 
-abbrev pub queryBytes : ℕ
-queryBytes = 16
+abbrev pub queryRoom : ℕ
+queryRoom = 16
 
 unfoldable pub zeros : ℕ → List ℕ
 zeros count = replicate count 0

@@ -1,7 +1,7 @@
 // Room to lend: what the largest sound file, its query and its plan need.
 ghost use mathlib.Core.Path.{_≡_};
 ghost use lib.ListN.{length};
-ghost use Rattle.rooms.specs.Rooms.{planNumbers, queryBytes, sailingsBytes, workNumbers, zeros};
+ghost use Rattle.rooms.specs.Rooms.{planNumbers, queryRoom, sailingsRoom, workNumbers, zeros};
 
 // 4n + 2,500 numbers for the most rows.
 pub const WORK: usize = 10500;
@@ -28,13 +28,13 @@ pub fn plan_room() -> [u32; PLAN]
 }
 
 pub fn sailings_room() -> [u8; SAILINGS]
-    ensures { λ r. ⌜ (r ≡ zeros sailingsBytes) × (length r ≡ sailingsBytes) ⌝ }
+    ensures { λ r. ⌜ (r ≡ zeros sailingsRoom) × (length r ≡ sailingsRoom) ⌝ }
 {
     [0u8; SAILINGS]
 }
 
 pub fn query_room() -> [u8; QUERY]
-    ensures { λ r. ⌜ (r ≡ zeros queryBytes) × (length r ≡ queryBytes) ⌝ }
+    ensures { λ r. ⌜ (r ≡ zeros queryRoom) × (length r ≡ queryRoom) ⌝ }
 {
     [0u8; QUERY]
 }

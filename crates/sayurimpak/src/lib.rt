@@ -11,11 +11,9 @@ use numbers::put_numbers;
 use plan_whole::Planned;
 use planner::plan;
 use query::query_of;
-
-// What the largest sound file needs: 4n + 2,500 work numbers and 3n plan numbers, n 2,000.
-const WORK: usize = 10500;
-
-const PLAN: usize = 6000;
+use rooms::PLAN;
+use rooms::plan_room;
+use rooms::work_room;
 
 // A plan for a C host, which passes numbers and bytes only.
 #[no_mangle]
@@ -31,8 +29,8 @@ pub extern "C" fn sayurimpak_plan(
         × (now (out .exit) ≡ deskOutcome versionOne (now (file .entry)) (queryOf source target minute code) (now (out .entry)) .bytes) ⌝ }
 {
     let q = query_of(source, target, minute, code);
-    let mut work = work_numbers();
-    let mut numbers = plan_numbers();
+    let mut work = work_room();
+    let mut numbers = plan_room();
     let lent = lent_numbers(out.len());
     let answer = plan(file, q, &mut work, &mut numbers[..lent]);
     give(answer, &numbers, out)
@@ -66,16 +64,4 @@ fn lent_numbers(bytes: usize) -> usize
     ensures { λ r. ⌜ r ≡ min 6000 (bytes / 4) ⌝ }
 {
     if bytes / 4 < PLAN { bytes / 4 } else { PLAN }
-}
-
-fn work_numbers() -> [u32; WORK]
-    ensures { λ r. ⌜ length r ≡ 10500 ⌝ }
-{
-    [0u32; WORK]
-}
-
-fn plan_numbers() -> [u32; PLAN]
-    ensures { λ r. ⌜ length r ≡ 6000 ⌝ }
-{
-    [0u32; PLAN]
 }

@@ -7,20 +7,8 @@ use lib.ListN.{length}
 use Rattle.timetable.specs.declared.Row.{Row}
 use Rattle.timetable.specs.declared.Ranges.{Ranges}
 use Rattle.timetable.specs.Verdict.{Verdict, fine, fault, orElse, unless}
+use Rattle.timetable.specs.Places.{Placed, outside, unjoined, class, own, order, WellPlaced}
 use Rattle.timetable.specs.Rows.{ownRule, departureRule, tripRule, rowVerdict, rowsVerdict}
-
--- a refusal's number and place, in a file of so many classes and rows
-pub data Placed (classes rows : ℕ) : ℕ → ℕ → Type 0 where
-  outside : Placed classes rows 1 0
-  unjoined : Placed classes rows 2 0
-  class : {k : ℕ} → k < classes → Placed classes rows 3 k
-  own : {i : ℕ} → i < rows → Placed classes rows 4 i
-  order : {i : ℕ} → i < rows → Placed classes rows 5 i
-
--- a verdict that is fine or a fault at its place
-abbrev pub WellPlaced : ℕ → ℕ → Verdict → Type 0
-WellPlaced classes rows fine = Unit {0}
-WellPlaced classes rows (fault number place) = Placed classes rows number place
 
 -- a refusal of the check has a number from 1 to 5
 pub number-small : {classes rows number place : ℕ} → Placed classes rows number place → (1 ≤ number) × (number ≤ 5)

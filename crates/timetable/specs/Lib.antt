@@ -2,6 +2,7 @@
 pub mod Limits
 pub mod Timetable
 pub mod Verdict
+pub mod Places
 pub mod Rows
 pub mod Classes
 pub mod Sound

@@ -32,10 +32,10 @@ abbrev query : tie.After-give-arg → Query
 query c = lending c .before .before .before .query-of .result
 
 abbrev lent : tie.After-give-arg → List ℕ
-lent c = take (lending c .lent-numbers .result) (lending c .before .plan-numbers .result)
+lent c = take (lending c .lent-numbers .result) (lending c .before .plan-room .result)
 
 abbrev behind : tie.After-give-arg → List ℕ
-behind c = drop (lending c .lent-numbers .result) (lending c .before .plan-numbers .result)
+behind c = drop (lending c .lent-numbers .result) (lending c .before .plan-room .result)
 
 -- what the planner left of the numbers lent
 abbrev left : tie.After-give-arg → List ℕ
@@ -43,9 +43,9 @@ left c = answered c .plan .last .1 .1 .1 .0
 
 lent-length : (c : tie.After-give-arg) → length (lent c) ≡ min 6000 (length (begun c .args .out .now) / 4)
 lent-length c =
-    let numbers = lending c .before .plan-numbers in
+    let numbers = lending c .before .plan-room in
     let count = lending c .lent-numbers in
-    length-take-le (count .result) (numbers .result) (omega (arith, numbers .ensures, count .ensures)) ∙ count .ensures
+    length-take-le (count .result) (numbers .result) (omega (arith, numbers .ensures .1, count .ensures)) ∙ count .ensures
 
 -- the planner's outcome, as it was left in the numbers, is the desk's
 as-desk : (c : tie.After-give-arg) →
@@ -54,35 +54,35 @@ as-desk : (c : tie.After-give-arg) →
     ≡ deskOutcome versionOne (a .file .now) (queryOf (a .source) (a .target) (a .minute) (a .code)) (a .out .now)
 as-desk c =
     let a = begun c .args in
-    let work = lending c .before .before .work-numbers in
+    let work = lending c .before .before .work-room in
     let o : PlanOutcome = planOutcome versionOne (a .file .now) (query c) (work .result) (lent c) in
     let answer : answered c .plan .result ≡ o .answer = answered c .plan .ensures .0 in
     let plan : left c ≡ o .plan = answered c .plan .ensures .2 in
     ap (λ r. given r (left c ++ behind c) (a .out .now)) answer ∙ ap (λ p. given (o .answer) (p ++ behind c) (a .out .now)) plan
-    ∙ desk-given versionOne version-one-readable (a .file .now) (query c) (work .result) (lent c) (behind c) (a .out .now) (work .ensures)
+    ∙ desk-given versionOne version-one-readable (a .file .now) (query c) (work .result) (lent c) (behind c) (a .out .now) (work .ensures .1)
     (lent-length c)
     ∙ ap (λ q. deskOutcome versionOne (a .file .now) q (a .out .now)) (lending c .before .before .before .query-of .ensures)
 
 fitting : (c : tie.After-give-arg) → Fitting (answered c .plan .result) (left c ++ behind c) (begun c .args .out .now)
 fitting c =
     let a = begun c .args in
-    let work = lending c .before .before .work-numbers in
+    let work = lending c .before .before .work-room in
     let o : PlanOutcome = planOutcome versionOne (a .file .now) (query c) (work .result) (lent c) in
     let answer : o .answer ≡ answered c .plan .result = sym (answered c .plan .ensures .0) in
     let plan : o .plan ≡ left c = sym (answered c .plan .ensures .2) in
     subst (λ r. Fitting r (left c ++ behind c) (a .out .now)) answer
     (subst (λ p. Fitting (o .answer) (p ++ behind c) (a .out .now)) plan
-    (desk-fits versionOne version-one-readable (a .file .now) (query c) (work .result) (lent c) (behind c) (a .out .now) (work .ensures)
+    (desk-fits versionOne version-one-readable (a .file .now) (query c) (work .result) (lent c) (behind c) (a .out .now) (work .ensures .1)
     (lent-length c) (ap length plan ∙ answered c .plan .kept .1 .1 .1 .0)))
 
 query-of-requires : tie.Need-query-of-requires
 query-of-requires c κs = search needs
 
-work-numbers-requires : tie.Need-work-numbers-requires
-work-numbers-requires c κs = search needs
+work-room-requires : tie.Need-work-room-requires
+work-room-requires c κs = search needs
 
-plan-numbers-requires : tie.Need-plan-numbers-requires
-plan-numbers-requires c κs = search needs
+plan-room-requires : tie.Need-plan-room-requires
+plan-room-requires c κs = search needs
 
 lent-numbers-requires : tie.Need-lent-numbers-requires
 lent-numbers-requires c κs = search needs
@@ -96,8 +96,8 @@ array-borrow-prefix-numbers c = search needs
 slice-aggregate-plan-2 : tie.Need-slice-aggregate-plan-2
 slice-aggregate-plan-2 c =
     let lent = c .before .before .lent-numbers .result in
-    let numbers = c .before .before .before .plan-numbers in
-    sym (length-take-le lent (numbers .result) (omega (arith, numbers .ensures, c .before .before .lent-numbers .ensures)))
+    let numbers = c .before .before .before .plan-room in
+    sym (length-take-le lent (numbers .result) (omega (arith, numbers .ensures .1, c .before .before .lent-numbers .ensures)))
 
 plan-requires : tie.Need-plan-requires
 plan-requires c κs = search needs
@@ -105,9 +105,9 @@ plan-requires c κs = search needs
 slice-aggregate-give : tie.Need-slice-aggregate-give
 slice-aggregate-give c =
     let lent = c .before .before .before .before .before .before .lent-numbers .result in
-    let numbers = c .before .before .before .before .before .before .before .plan-numbers in
+    let numbers = c .before .before .before .before .before .before .before .plan-room in
     let planned = c .before .before .before .plan in
-    sym (numbers .ensures) ∙ sym (length-front (numbers .result) (planned .last .1 .1 .1 .0) lent (planned .kept .1 .1 .1 .0))
+    sym (numbers .ensures .1) ∙ sym (length-front (numbers .result) (planned .last .1 .1 .1 .0) lent (planned .kept .1 .1 .1 .0))
 
 give-requires : tie.Need-give-requires
 give-requires c κs = fitting c
@@ -125,8 +125,8 @@ sayurimpak-plan-spec =
     tie.close
     (tie.spec
     query-of-requires
-    work-numbers-requires
-    plan-numbers-requires
+    work-room-requires
+    plan-room-requires
     lent-numbers-requires
     slice-aggregate-plan
     array-borrow-prefix-numbers

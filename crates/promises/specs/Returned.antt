@@ -1,0 +1,30 @@
+-- What a host reads from its answer and bytes, and what a pier reads from a sheet: the rides that demands 2 and 3 ask.
+use Prim.Native.Nat.{ℕ, _*_}
+use mathlib.Core.List.{List, _++_}
+use mathlib.Core.Path.{_≡_}
+use lib.ListN.{length, drop}
+use Rattle.timetable.specs.Timetable.{Timetable}
+use Rattle.query.specs.declared.Query.{Query}
+use Rattle.plans.specs.Worth.{Valued}
+use Rattle.demands.specs.Demanded.{Demanded}
+use Rattle.plan_slice.specs.Slice.{ridesIn}
+use Rattle.sayurimpak.specs.Host.{numbersIn}
+use Rattle.sheet_text.specs.Sheet.{firstText, ridesText}
+
+-- the answer counts the rides that stand in the bytes, 12 bytes a ride; other bytes stay as they were in `out`
+pub record Booked (t : Timetable) (q : Query) (out : List ℕ) (answer : ℕ) (bytes : List ℕ) : Type 0 where
+  pub expected : ℕ
+  pub latest : ℕ
+  pub bound : ℕ
+  pub demanded-plan : Demanded t q (ridesIn t (numbersIn (3 * answer) bytes)) expected latest bound
+  pub count : length (ridesIn t (numbersIn (3 * answer) bytes)) ≡ answer
+  pub beyond : drop (12 * answer) bytes ≡ drop (12 * answer) out
+
+-- the text's lines are a plan's: the first line, then a line a ride
+pub record Printed (t : Timetable) (q : Query) (text : List ℕ) : Type 0 where
+  pub rides : List Valued
+  pub expected : ℕ
+  pub latest : ℕ
+  pub bound : ℕ
+  pub demanded-plan : Demanded t q rides expected latest bound
+  pub lines : text ≡ firstText (length rides) expected latest ++ ridesText rides
