@@ -1,6 +1,6 @@
 """Runs `sheet` and `explain` on files that document 01 draws lines between, and compares all that they print.
 
-usage: programs.py FOLDER
+usage: programs.py RUNNER FOLDER
 
 What must be printed is written beside each case, from document 01; that of the longest sheet is counted out by its own rule.
 """
@@ -142,11 +142,11 @@ def lay(path, content):
         path.write_bytes(content)
 
 
-def printed(program, sailings, query):
+def printed(runner, program, sailings, query):
     with tempfile.TemporaryDirectory() as folder:
         lay(pathlib.Path(folder, "sailings"), sailings)
         lay(pathlib.Path(folder, "query"), query)
-        ended = subprocess.run([program], cwd=folder, stdin=subprocess.DEVNULL, capture_output=True, timeout=60)
+        ended = subprocess.run([runner, "run", program], cwd=folder, stdin=subprocess.DEVNULL, capture_output=True, timeout=60)
     if ended.returncode != 0 or ended.stderr:
         return f"ended with {ended.returncode}: {ended.stderr.decode(errors='replace')}"
     return ended.stdout.decode(errors="replace")
@@ -167,12 +167,12 @@ def differs(case, program, wanted, found):
 
 
 def main():
-    programs = pathlib.Path(sys.argv[1]).resolve()
+    runner, programs = (pathlib.Path(word).resolve() for word in sys.argv[1:])
     failed = count = 0
     for case, sailings, query, sheet, words in cases():
         count += 1
-        failed += differs(case, "sheet", sheet, printed(programs / "sheet", sailings, query))
-        found = printed(programs / "explain", sailings, query)
+        failed += differs(case, "sheet", sheet, printed(runner, programs / "sheet", sailings, query))
+        found = printed(runner, programs / "explain", sailings, query)
         if words is None:
             failed += differs(case, "explain", sheet, refusal(found))
         else:

@@ -2,25 +2,25 @@
 # Builds and runs everything: the printed cases first, then the comparison.
 #   sh run.sh                          the definitions alone
 #   sh run.sh LIBRARY [OPTION..]       against the subject in LIBRARY
-# A difference is saved in the current directory.
+# A difference is saved in the current directory. CXX names another compiler, RUN what runs its programs.
 set -eu
 here=$(cd "$(dirname "$0")" && pwd)
 place=$(mktemp -d)
 trap 'rm -rf "$place"' EXIT
-build="g++ -std=c++17 -O2 -Wall -Wextra"
+build="${CXX:-g++} -std=c++17 -O2 -Wall -Wextra"
 for part in file_check house rides worths plan sheet safe_plans walk generate; do
   $build -c "$here/$part.cpp" -o "$place/$part.o"
 done
 alone="$here/calls.cpp -DWITHOUT_SUBJECT"
 $build "$here/cases.cpp" $alone "$place"/*.o -o "$place/cases"
-"$place/cases"
+${RUN:-} "$place/cases"
 if [ $# -eq 0 ]; then
   $build "$here/compare.cpp" $alone "$place"/*.o -o "$place/compare"
-  "$place/compare" --self --every 1
+  ${RUN:-} "$place/compare" --self --every 1
 else
   library=$1
   shift
   $build "$here/compare.cpp" "$here/calls.cpp" "$place"/*.o "$library" \
     ${SUBJECT_FLAGS:-} -o "$place/compare"
-  "$place/compare" "$@"
+  ${RUN:-} "$place/compare" "$@"
 fi
