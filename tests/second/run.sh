@@ -1,8 +1,8 @@
 #!/bin/sh
 # Builds and runs everything: the printed cases first, then the comparison.
 #   sh run.sh                          the definitions alone
-#   sh run.sh LIBRARY [OPTION..]       against the subject in LIBRARY
-# A difference is saved in the current directory. CXX names another compiler, RUN what runs its programs.
+#   sh run.sh LIBRARY [OPTION..]       against the subject in LIBRARY; with no option both halves of 100,000 files at once
+# A difference is saved in the current directory, or in `first` or `last`, a half's own. CXX names another compiler, RUN what runs its programs.
 set -eu
 here=$(cd "$(dirname "$0")" && pwd)
 place=$(mktemp -d)
@@ -22,5 +22,15 @@ else
   shift
   $build "$here/compare.cpp" "$here/calls.cpp" "$place"/*.o "$library" \
     ${SUBJECT_FLAGS:-} -o "$place/compare"
-  ${RUN:-} "$place/compare" "$@"
+  if [ $# -gt 0 ]; then
+    ${RUN:-} "$place/compare" "$@"
+    exit
+  fi
+  mkdir -p first last
+  (cd first && exec ${RUN:-} "$place/compare" --files 50000 --seed 1) &
+  first=$!
+  ended=0
+  (cd last && exec ${RUN:-} "$place/compare" --files 50000 --seed 50001) || ended=$?
+  wait "$first"
+  exit "$ended"
 fi

@@ -6,8 +6,9 @@ use lib.ListN.{length, replicate}
 use Rattle.timetable.specs.Timetable.{Timetable}
 use Rattle.file_layout.specs.Check.{Answer, answerOf, checked}
 use Rattle.file_layout.specs.Format.{versionOne}
+use Rattle.file_layout.specs.CaseW.{caseW}
 use Rattle.file_encoding.specs.Encode.{encode}
-use Rattle.house.specs.House.{cumulative}
+use Rattle.house.specs.HouseShare.{houseShare, houseAnswer}
 use Rattle.query.specs.declared.Query.{Query}
 use Rattle.query.specs.Query.{queryOf}
 use Rattle.plans.specs.Chosen.{inTicks, scanned, worthOf}
@@ -63,13 +64,6 @@ joinedUp (xs ∷ xss) = xs ++ joinedUp xss
 unfoldable pub chosenTo : ℕ → Timetable → List ℕ
 chosenTo target t = map (λ v. v .ride .board) (chosenFor t (record { target = target; bound = 0 }))
 
--- W as it is on disk: length 92, row offset 0, table offset 48
-unfoldable pub wBytes : List ℕ
-wBytes =
-    0 ∷ 0 ∷ 1 ∷ 0 ∷ 88 ∷ 2 ∷ 118 ∷ 2 ∷ 0 ∷ 0 ∷ 1 ∷ 0 ∷ 1 ∷ 0 ∷ 2 ∷ 0 ∷ 120 ∷ 2 ∷ 148 ∷ 2 ∷ 1 ∷ 0 ∷ 0 ∷ 0 ∷ 1 ∷ 0 ∷ 2 ∷ 0 ∷ 124 ∷ 2 ∷ 188 ∷ 2 ∷ 2 ∷ 0
-    ∷ 0 ∷ 0 ∷ 1 ∷ 0 ∷ 2 ∷ 0 ∷ 138 ∷ 2 ∷ 178 ∷ 2 ∷ 3 ∷ 0 ∷ 0 ∷ 0 ∷ 0 ∷ 0 ∷ 0 ∷ 16 ∷ 10 ∷ 0 ∷ 0 ∷ 8 ∷ 0 ∷ 0 ∷ 0 ∷ 0 ∷ 0 ∷ 0 ∷ 0 ∷ 0 ∷ 0 ∷ 4 ∷ 0 ∷ 0 ∷ 0
-    ∷ 0 ∷ 0 ∷ 0 ∷ 0 ∷ 0 ∷ 0 ∷ 4 ∷ 1 ∷ 0 ∷ 3 ∷ 0 ∷ 4 ∷ 0 ∷ 2 ∷ 0 ∷ 0 ∷ 0 ∷ 0 ∷ 0 ∷ 48 ∷ 0 ∷ 0 ∷ 0 ∷ []
-
 -- W's query
 abbrev pub askedOfW : Query
 askedOfW = queryOf 0 2 590 0
@@ -91,8 +85,8 @@ cases =
     ∷ record { answered = planOf oneTrip askedOfW; expected = 0 ∷ 0 ∷ 1 ∷ 169920 ∷ 670 ∷ 0 ∷ [] }
     ∷ record { answered = sliceOf oneTrip askedOfW; expected = 0 ∷ 1 ∷ 169920 ∷ 0 ∷ 0 ∷ 0 ∷ [] }
     -- W's bytes; W is sound with S 3, n 4, K 2, and so are the files of cases 3, 4, 9, 10 and 11
-    ∷ record { answered = wBytes; expected = fileOf w }
-    ∷ record { answered = checkOf wBytes; expected = 0 ∷ 0 ∷ 3 ∷ 4 ∷ 2 ∷ [] }
+    ∷ record { answered = caseW; expected = fileOf w }
+    ∷ record { answered = checkOf caseW; expected = 0 ∷ 0 ∷ 3 ∷ 4 ∷ 2 ∷ [] }
     ∷ record { answered = checkOf (fileOf (wWith 640)); expected = 0 ∷ 0 ∷ 3 ∷ 4 ∷ 2 ∷ [] }
     ∷ record { answered = checkOf (fileOf (wWith 639)); expected = 0 ∷ 0 ∷ 3 ∷ 4 ∷ 2 ∷ [] }
     ∷ record { answered = checkOf (fileOf wTwice); expected = 0 ∷ 0 ∷ 3 ∷ 5 ∷ 2 ∷ [] }
@@ -106,6 +100,7 @@ cases =
     ∷ record { answered = sliceOf (wWith 640) askedOfW; expected = wSlice }
     ∷ record { answered = planOf (wWith 639) askedOfW; expected = 8 ∷ 0 ∷ [] }
     ∷ record { answered = sliceOf (wWith 639) askedOfW; expected = planFor w }
+    ∷ record { answered = arrivalOf (wWith 639) askedOfW; expected = 8 ∷ 0 ∷ [] }
     -- 5: W with q 4: E 690, bound 690, same plan; 6: q 5: bound 715
     ∷ record { answered = arrivalOf w askedOfW; expected = 0 ∷ 0 ∷ 690 ∷ [] }
     ∷ record { answered = planOf w (queryOf 0 2 590 4); expected = wAnswer 690 }
@@ -121,9 +116,9 @@ cases =
     }
     -- 11: 2,561 ticks
     ∷ record { answered = planOf seldomLate (queryOf 0 2 0 0); expected = 0 ∷ 0 ∷ 1 ∷ 2561 ∷ 11 ∷ 0 ∷ [] }
-    -- 12: pair (5,30): cumulative shares at 1, 2, 5, 6, 35 are 303, 682, 2,730, 3,106, 4,096
+    -- 12: pair (5,30): cumulative shares at 1, 2, 5, 6, 35 are 303, 682, 2,730, 3,106, 4,096; 36 is above M
     ∷ record {
-      answered = map (cumulative 5 30) (1 ∷ 2 ∷ 5 ∷ 6 ∷ 35 ∷ []);
-      expected = 303 ∷ 682 ∷ 2730 ∷ 3106 ∷ 4096 ∷ [];
+      answered = joinedUp (map (λ minute. inNumbers (houseAnswer (houseShare 1 minute))) (1 ∷ 2 ∷ 5 ∷ 6 ∷ 35 ∷ 36 ∷ []));
+      expected = 0 ∷ 0 ∷ 303 ∷ 0 ∷ 0 ∷ 682 ∷ 0 ∷ 0 ∷ 2730 ∷ 0 ∷ 0 ∷ 3106 ∷ 0 ∷ 0 ∷ 4096 ∷ 6 ∷ 0 ∷ [];
     }
     ∷ []

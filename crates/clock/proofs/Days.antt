@@ -2,11 +2,8 @@
 use Prim.Native.Nat.{ℕ, suc, pred, _+_, _*_, _-_, _/_, _%_, _<_, _≤_}
 use mathlib.Core.Path.{_≡_, refl, ap, sym, _∙_}
 use native.Mathlib.Omega.{arith}
-use Rattle.clock.specs.Clock.{dayLength, dayOf, dayStart, sinceMidnight, hourOf, minuteOfHour, ticksAMinute, roundedUp}
-
--- the latest minute that a plan prints: a row arrives by 10,079 and is at most 120 late
-abbrev pub latestPrinted : ℕ
-latestPrinted = 10199
+use Rattle.timetable.specs.Ticks.{ticksAMinute}
+use Rattle.clock.specs.Clock.{dayLength, dayOf, dayStart, sinceMidnight, hourOf, minuteOfHour, roundedUp}
 
 pub day-started : (minute : ℕ) → dayStart (dayOf minute) ≤ minute
 unfolding dayStart dayOf
@@ -54,21 +51,21 @@ pub minute-of-parts : (day hour minute : ℕ) → 0 < day → hour < 24 → minu
 unfolding minuteOfHour
 minute-of-parts day hour minute some h m = rw (since-of-parts day hour minute some h m) (omega arith)
 
--- a plan prints days 1 to 8
-pub printed-day : (minute : ℕ) → minute ≤ latestPrinted → (1 ≤ dayOf minute) × (dayOf minute ≤ 8)
+-- a minute of so many days prints one of them, from day 1 on
+pub printed-day : (days minute : ℕ) → minute < days * dayLength → (1 ≤ dayOf minute) × (dayOf minute ≤ days)
 unfolding dayOf
-printed-day minute h = (omega arith, omega arith)
+printed-day days minute h = (omega arith, omega arith)
 
 -- ticks rounded up: the first minute that is not before them
 pub rounded-up : (ticks : ℕ) → (ticks ≤ ticksAMinute * roundedUp ticks) × (ticksAMinute * roundedUp ticks < ticks + ticksAMinute)
 unfolding roundedUp
 rounded-up ticks = (omega arith, omega arith)
 
--- whole minutes stay, and the latest ticks of a plan round to a minute that it prints
+-- whole minutes stay, and ticks up to a minute round to no later one
 pub rounded-whole : (minute : ℕ) → roundedUp (ticksAMinute * minute) ≡ minute
 unfolding roundedUp
 rounded-whole minute = omega arith
 
-pub printed-ticks : (ticks : ℕ) → ticks ≤ ticksAMinute * latestPrinted → roundedUp ticks ≤ latestPrinted
+pub printed-ticks : (ticks minute : ℕ) → ticks ≤ ticksAMinute * minute → roundedUp ticks ≤ minute
 unfolding roundedUp
-printed-ticks ticks h = omega arith
+printed-ticks ticks minute h = omega arith

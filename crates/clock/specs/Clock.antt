@@ -1,5 +1,6 @@
 -- Document 01, "The sailing file" and "The sheet": a minute's day, hour and minute of the hour, and ticks rounded up.
-use Prim.Native.Nat.{ℕ, suc, pred, _+_, _*_, _-_, _/_, _%_}
+use Prim.Native.Nat.{ℕ, suc, pred, _*_, _-_, _/_, _%_}
+use Rattle.timetable.specs.Ticks.{ticksAMinute, quotientUp}
 
 -- Every day has 1,440 minutes
 abbrev pub dayLength : ℕ
@@ -23,10 +24,6 @@ hourOf minute = sinceMidnight minute / 60
 unfoldable pub minuteOfHour : ℕ → ℕ
 minuteOfHour minute = sinceMidnight minute % 60
 
--- A tick is 1/256 minute
-abbrev pub ticksAMinute : ℕ
-ticksAMinute = 256
-
 -- an expected arrival is rounded up to a minute
 unfoldable pub roundedUp : ℕ → ℕ
-roundedUp ticks = (ticks + pred ticksAMinute) / ticksAMinute
+roundedUp ticks = quotientUp ticksAMinute ticks

@@ -7,7 +7,7 @@ use native.Mathlib.Nat.{add-zero, pow-succ', mul-one, mul-assoc}
 use native.Mathlib.Decide.{decLe}
 use native.Mathlib.Omega.{arith}
 use lib.ListN.{length, getD}
-use Rattle.timetable.specs.Classes.{sum, whole}
+use Rattle.timetable.specs.Classes.{sum, shareTotal}
 use Rattle.plans.specs.Rides.{Ride}
 use Rattle.plans.specs.Worth.{weigh}
 use Rattle.demands.specs.Walk.{Sailed, Delayed, undelayed, delay-first, withDelays, choices, weight}
@@ -176,18 +176,18 @@ delayed-range (delay-first {s = u} same below onward) s (List·Memᴰ·head here
 delayed-range (delay-first same below onward) s (List·Memᴰ·tail there) = delayed-range onward s there
 
 total-constant :
-    (c : ℕ) (rides : List Ride) → ((r : Ride) → List·Memᴰ r rides → sum (r .shares) ≡ whole) → total (λ sailed. c) rides ≡ whole ^ length rides * c
+    (c : ℕ) (rides : List Ride) → ((r : Ride) → List·Memᴰ r rides → sum (r .shares) ≡ shareTotal) → total (λ sailed. c) rides ≡ shareTotal ^ length rides * c
 total-constant c [] full = omega (arith, total-nil (λ sailed. c))
 total-constant c (r ∷ rides) full =
     total-cons (λ sailed. c) r rides ∙ weigh-constant (r .shares) 0 (total (λ sailed. c) rides)
     ∙ ap₂ (λ n m. n * m) (full r (List·Memᴰ·head refl)) (total-constant c rides (λ u there. full u (List·Memᴰ·tail there)))
-    ∙ sym (mul-assoc whole (whole ^ length rides) c) ∙ ap (λ n. n * c) (sym (pow-succ' whole (length rides)))
+    ∙ sym (mul-assoc shareTotal (shareTotal ^ length rides) c) ∙ ap (λ n. n * c) (sym (pow-succ' shareTotal (length rides)))
 
 -- the weights of all choices add up to 4,096^R
 pub weights-total :
-    (rides : List Ride) → ((r : Ride) → List·Memᴰ r rides → sum (r .shares) ≡ whole)
-    → sum (map weight (choices rides)) ≡ whole ^ length rides
+    (rides : List Ride) → ((r : Ride) → List·Memᴰ r rides → sum (r .shares) ≡ shareTotal)
+    → sum (map weight (choices rides)) ≡ shareTotal ^ length rides
 unfolding total
 weights-total rides full =
     sum-same weight (λ sailed. weight sailed * 1) (choices rides) (λ sailed there. sym (mul-one (weight sailed)))
-    ∙ total-constant 1 rides full ∙ mul-one (whole ^ length rides)
+    ∙ total-constant 1 rides full ∙ mul-one (shareTotal ^ length rides)

@@ -7,7 +7,7 @@ use mathlib.Core.Option.{some}
 use mathlib.Core.Path.{_≡_, refl, sym, subst, _∙_}
 use lib.ListN.{length}
 use Rattle.timetable.specs.Timetable.{Timetable}
-use Rattle.timetable.specs.Classes.{sum, whole}
+use Rattle.timetable.specs.Classes.{sum, shareTotal}
 use Rattle.query.specs.declared.Query.{Query}
 use Rattle.plans.specs.Rides.{Ride}
 use Rattle.plans.specs.Worth.{Valued, ridesOf}
@@ -64,7 +64,7 @@ module _ {t : Timetable} (timely : Timely t) (q : Query) where
         one-largest (λ sailed. walked q sailed .boarded) (choices rides) (nobody-late .0) (delayed-choice (nobody-late .1))
 
     -- the weights of all choices make up the whole
-    pub all-weights : sum (map weight (choices rides)) ≡ whole ^ length rides
+    pub all-weights : sum (map weight (choices rides)) ≡ shareTotal ^ length rides
     all-weights = weights-total rides (λ r among. ride-shares t timely r (safe .are-rides r among))
 
   module _ (p : Plan) (is-planned : planned t q ≡ some p) where

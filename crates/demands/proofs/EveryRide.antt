@@ -14,7 +14,7 @@ use lib.ListN.{length}
 use Rattle.laws.proofs.Tests.{ifb, either}
 use Rattle.laws.proofs.Options.{same-thing}
 use Rattle.laws.proofs.Members.{head-or-later}
-use Rattle.timetable.specs.Timetable.{longest}
+use Rattle.timetable.specs.Timetable.{maximumDelay}
 use Rattle.plans.specs.Rides.{Ride, landsBy, boards}
 use Rattle.plans.specs.Worth.{Valued, firstOpen, ridesOf}
 use Rattle.plans.specs.Plan.{Window, inWindow, wanted, upTo, windowsOf, extract}
@@ -111,7 +111,7 @@ landing u {r} {sailed} {minute} some-share from none-between meets = pick (decLe
         }
     pick (no after) =
         record {
-          delay = longest (u .shares);
+          delay = maximumDelay (u .shares);
           below = last-share (length (u .shares)) some-share;
           meets =
               meets-sooner (landsBy u) (omega (arith, after))

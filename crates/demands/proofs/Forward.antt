@@ -8,7 +8,7 @@ use native.Mathlib.Omega.{arith}
 use lib.Dec.{T}
 use lib.ListN.{length}
 use Rattle.laws.proofs.Tests.{T-true, true-T}
-use Rattle.timetable.specs.Classes.{sum, whole}
+use Rattle.timetable.specs.Classes.{sum, shareTotal}
 use Rattle.plans.specs.Rides.{Ride, landsBy, boards}
 use Rattle.plans.proofs.Open.{boards-earlier}
 
@@ -16,7 +16,7 @@ use Rattle.plans.proofs.Open.{boards-earlier}
 pub record Timed (target : ℕ) (r : Ride) (behind : List Ride) : Type 0 where
   pub off-target : r .from ≢ target
   pub forward : r .departs < r .arrives
-  pub full : sum (r .shares) ≡ whole
+  pub full : sum (r .shares) ≡ shareTotal
   pub in-order : (next : Ride) → List·Memᴰ next behind → r .departs ≤ next .departs
 
 pub data AllTimed (target : ℕ) : List Ride → Type 0 where

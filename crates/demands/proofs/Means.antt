@@ -7,9 +7,10 @@ use native.Mathlib.Nat.{add-zero}
 use native.Mathlib.Omega.{arith}
 use lib.Dec.{eqb}
 use Rattle.laws.proofs.Tests.{ifb}
-use Rattle.timetable.specs.Classes.{sum, whole}
+use Rattle.timetable.specs.Classes.{sum, shareTotal}
 use Rattle.plans.specs.Rides.{Ride}
-use Rattle.plans.specs.Worth.{ticks, up, weigh, Valued, caught, arrivalWorth, changeWorth, landWorth}
+use Rattle.timetable.specs.Ticks.{ticksAMinute, quotientUp}
+use Rattle.plans.specs.Worth.{weigh, Valued, caught, arrivalWorth, changeWorth, landWorth}
 
 pub weigh-scale : (shares : List ℕ) (a k : ℕ) (f : ℕ → ℕ) → weigh shares a (λ m. k * f m) ≡ k * weigh shares a f
 unfolding weigh
@@ -35,43 +36,43 @@ weigh-shift (p ∷ shares) a v f =
     ap (λ rest. p * f (a + v) + rest) (ap (λ m. weigh shares m f) (omega arith) ∙ weigh-shift shares a (suc v) f)
 
 -- rounding up adds less than one
-pub up-reaches : (n : ℕ) → n ≤ whole * up whole n
+pub up-reaches : (n : ℕ) → n ≤ shareTotal * quotientUp shareTotal n
 up-reaches n = omega arith
 
-pub up-loses : (n : ℕ) → whole * up whole n ≤ n + 4095
+pub up-loses : (n : ℕ) → shareTotal * quotientUp shareTotal n ≤ n + 4095
 up-loses n = omega arith
 
 -- at the target the minute itself counts, elsewhere the ride caught
 unfoldable pub standingWorth : ℕ → List Valued → ℕ → ℕ → ℕ
-standingWorth target behind stop minute = cond (eqb stop target) (ticks * minute) (caught behind stop minute)
+standingWorth target behind stop minute = cond (eqb stop target) (ticksAMinute * minute) (caught behind stop minute)
 
 -- the mean minute is the arrival and the mean delay
 pub weigh-minutes :
-    (shares : List ℕ) (a : ℕ) → weigh shares a (λ m. ticks * m) ≡ ticks * (sum shares * a + weigh shares 0 (λ v. v))
+    (shares : List ℕ) (a : ℕ) → weigh shares a (λ m. ticksAMinute * m) ≡ ticksAMinute * (sum shares * a + weigh shares 0 (λ v. v))
 weigh-minutes shares a =
-    weigh-scale shares a ticks (λ m. m)
-    ∙ ap (λ x. ticks * x)
+    weigh-scale shares a ticksAMinute (λ m. m)
+    ∙ ap (λ x. ticksAMinute * x)
     (ap (λ m. weigh shares m (λ m. m)) (sym (add-zero a)) ∙ weigh-shift shares a 0 (λ m. m)
     ∙ weigh-add shares 0 (λ v. a) (λ v. v) ∙ ap (λ x. x + weigh shares 0 (λ v. v)) (weigh-constant shares 0 a))
 
 -- 256a + (sum of delay × share)/16 is the sum of share × 256(a + delay), divided by 4,096 and rounded up
 pub arrival-mean :
-    (r : Ride) → sum (r .shares) ≡ whole → arrivalWorth r ≡ up whole (weigh (r .shares) (r .arrives) (λ minute. ticks * minute))
+    (r : Ride) → sum (r .shares) ≡ shareTotal → arrivalWorth r ≡ quotientUp shareTotal (weigh (r .shares) (r .arrives) (λ minute. ticksAMinute * minute))
 unfolding arrivalWorth
 arrival-mean r full =
     omega (
       arith,
-      weigh-minutes (r .shares) (r .arrives) ∙ ap (λ n. ticks * (n * r .arrives + weigh (r .shares) 0 (λ v. v))) full,
+      weigh-minutes (r .shares) (r .arrives) ∙ ap (λ n. ticksAMinute * (n * r .arrives + weigh (r .shares) 0 (λ v. v))) full,
     )
 
 -- every ride is worth the mean of what its landings are worth, rounded up once
 pub land-mean :
-    (target : ℕ) (r : Ride) (behind : List Valued) → sum (r .shares) ≡ whole
-    → landWorth target r behind ≡ up whole (weigh (r .shares) (r .arrives) (standingWorth target behind (r .to)))
+    (target : ℕ) (r : Ride) (behind : List Valued) → sum (r .shares) ≡ shareTotal
+    → landWorth target r behind ≡ quotientUp shareTotal (weigh (r .shares) (r .arrives) (standingWorth target behind (r .to)))
 unfolding landWorth changeWorth standingWorth
 land-mean target r behind full =
     ifb (
     λ b.
     cond b (arrivalWorth r) (changeWorth r behind)
-    ≡ up whole (weigh (r .shares) (r .arrives) (λ m. cond b (ticks * m) (caught behind (r .to) m))))
+    ≡ quotientUp shareTotal (weigh (r .shares) (r .arrives) (λ m. cond b (ticksAMinute * m) (caught behind (r .to) m))))
     (eqb (r .to) target) (λ ends. arrival-mean r full) (λ goes-on. refl)

@@ -6,10 +6,11 @@ use mathlib.Core.Option.{Option, none, some}
 use mathlib.Core.Path.{_≡_, refl, sym, _∙_, ap, ap₂, fun-ext}
 use lib.Dec.{eqb}
 use Rattle.laws.proofs.Tests.{ifb}
-use Rattle.timetable.specs.Classes.{whole}
+use Rattle.timetable.specs.Classes.{shareTotal}
 use Rattle.query.specs.declared.Query.{Query}
 use Rattle.plans.specs.Rides.{Ride, boards}
-use Rattle.plans.specs.Worth.{Valued, up, weigh, firstOpen, caught, worthOr, arrivalWorth, changeWorth, landWorth, valued}
+use Rattle.timetable.specs.Ticks.{quotientUp}
+use Rattle.plans.specs.Worth.{Valued, weigh, firstOpen, caught, worthOr, arrivalWorth, changeWorth, landWorth, valued}
 use Rattle.plans.specs.Chosen.{worthOf}
 use Rattle.demands.specs.SafePlan.{ByBoardingRow, expectedOf}
 use Rattle.demands.specs.Unnumbered.{unnumbered}
@@ -44,7 +45,7 @@ caught-worth vs us stop minute e = through (firstOpen vs stop minute) ∙ ap or-
 land-bare : (target : ℕ) (r : Ride) (behind : List Valued) → landWorth target (unnumbered r) (map bare behind) ≡ landWorth target r behind
 unfolding landWorth changeWorth arrivalWorth
 land-bare target r behind =
-    ap (λ f. cond (eqb (r .to) target) (arrivalWorth r) (up whole (weigh (r .shares) (r .arrives) f)))
+    ap (λ f. cond (eqb (r .to) target) (arrivalWorth r) (quotientUp shareTotal (weigh (r .shares) (r .arrives) f)))
     (fun-ext (λ minute. caught-worth (map bare behind) behind (r .to) minute (first-worth behind (r .to) minute)))
 
 valued-bare : (target : ℕ) (rides : List Ride) → valued target (map unnumbered rides) ≡ map bare (valued target rides)

@@ -11,9 +11,10 @@ use borrow.Author.Tests.{eq-eqb, ne-eqb}
 use lib.Dec.{eqb}
 use lib.ListN.{length}
 use Rattle.laws.proofs.Tests.{ifb, cond-true, cond-false}
-use Rattle.timetable.specs.Classes.{sum, whole}
+use Rattle.timetable.specs.Classes.{sum, shareTotal}
 use Rattle.plans.specs.Rides.{Ride, boards}
-use Rattle.plans.specs.Worth.{ticks, up, weigh, firstOpen, worthOr, caught, landWorth, valued}
+use Rattle.timetable.specs.Ticks.{ticksAMinute, quotientUp}
+use Rattle.plans.specs.Worth.{weigh, firstOpen, worthOr, caught, landWorth, valued}
 use Rattle.demands.specs.Walk.{Sailed, Delayed, delay-first, undelayed, Standing, landed}
 use Rattle.plans.proofs.RideMinutes.{shares-stand}
 use Rattle.plans.proofs.Weighing.{weigh-less}
@@ -25,11 +26,11 @@ use Rattle.demands.proofs.Course.{course}
 
 -- the sum over all choices of weight × ticks at the end, for one who stands there
 unfoldable pub mean : List Ride → Standing → ℕ
-mean rides at = total (λ sailed. ticks * course sailed at .minute) rides
+mean rides at = total (λ sailed. ticksAMinute * course sailed at .minute) rides
 
-mean-end : (at : Standing) → mean [] at ≡ ticks * at .minute
+mean-end : (at : Standing) → mean [] at ≡ ticksAMinute * at .minute
 unfolding mean course
-mean-end at = total-nil (λ sailed. ticks * course sailed at .minute)
+mean-end at = total-nil (λ sailed. ticksAMinute * course sailed at .minute)
 
 -- where one stands after a ride that landed at this minute
 abbrev off : Standing → Ride → ℕ → Standing
@@ -40,20 +41,20 @@ mean-boards :
     → mean (r ∷ behind) at ≡ weigh (r .shares) (r .arrives) (λ minute. mean behind (off at r minute))
 unfolding mean course landed
 mean-boards r behind at opens =
-    total-cons (λ sailed. ticks * course sailed at .minute) r behind
+    total-cons (λ sailed. ticksAMinute * course sailed at .minute) r behind
     ∙ ap (λ b. weigh (r .shares) 0
-    (λ v. total (λ sailed. ticks * cond b (course sailed (off at r (r .arrives + v))) (course sailed at) .minute) behind)) opens
+    (λ v. total (λ sailed. ticksAMinute * cond b (course sailed (off at r (r .arrives + v))) (course sailed at) .minute) behind)) opens
     ∙ sym (weigh-shift (r .shares) (r .arrives) 0 (λ minute. mean behind (off at r minute)))
     ∙ ap (λ a. weigh (r .shares) a (λ minute. mean behind (off at r minute))) (add-zero (r .arrives))
 
 mean-passes :
-    (r : Ride) (behind : List Ride) (at : Standing) → sum (r .shares) ≡ whole → boards r (at .stop) (at .minute) ≡ false
-    → mean (r ∷ behind) at ≡ whole * mean behind at
+    (r : Ride) (behind : List Ride) (at : Standing) → sum (r .shares) ≡ shareTotal → boards r (at .stop) (at .minute) ≡ false
+    → mean (r ∷ behind) at ≡ shareTotal * mean behind at
 unfolding mean course landed
 mean-passes r behind at full shut =
-    total-cons (λ sailed. ticks * course sailed at .minute) r behind
+    total-cons (λ sailed. ticksAMinute * course sailed at .minute) r behind
     ∙ ap (λ b. weigh (r .shares) 0
-    (λ v. total (λ sailed. ticks * cond b (course sailed (off at r (r .arrives + v))) (course sailed at) .minute) behind)) shut
+    (λ v. total (λ sailed. ticksAMinute * cond b (course sailed (off at r (r .arrives + v))) (course sailed at) .minute) behind)) shut
     ∙ weigh-constant (r .shares) 0 (mean behind at) ∙ ap (λ n. n * mean behind at) full
 
 -- what standing there is worth by the plan's own worths
@@ -62,10 +63,10 @@ worthAt target rides at = standingWorth target (valued target rides) (at .stop) 
 
 worth-boards :
     (target : ℕ) (r : Ride) (behind : List Ride) (at : Standing) → Timed target r behind → boards r (at .stop) (at .minute) ≡ true
-    → worthAt target (r ∷ behind) at ≡ up whole (weigh (r .shares) (r .arrives) (λ minute. worthAt target behind (off at r minute)))
+    → worthAt target (r ∷ behind) at ≡ quotientUp shareTotal (weigh (r .shares) (r .arrives) (λ minute. worthAt target behind (off at r minute)))
 unfolding standingWorth caught worthOr firstOpen valued
 worth-boards target r behind at timed opens =
-    cond-false (ticks * at .minute) (caught (valued target (r ∷ behind)) (at .stop) (at .minute))
+    cond-false (ticksAMinute * at .minute) (caught (valued target (r ∷ behind)) (at .stop) (at .minute))
     (ne-eqb (at .stop) target (λ there. timed .off-target (boards-stop r (at .stop) (at .minute) opens ∙ there)))
     ∙ ap (worthOr 0)
     (cond-true (some (record { ride = r; worth = landWorth target r (valued target behind) }))
@@ -77,14 +78,14 @@ worth-passes :
     → worthAt target (r ∷ behind) at ≡ worthAt target behind at
 unfolding standingWorth caught firstOpen valued
 worth-passes target r behind at shut =
-    ap (λ o. cond (eqb (at .stop) target) (ticks * at .minute) (worthOr 0 o))
+    ap (λ o. cond (eqb (at .stop) target) (ticksAMinute * at .minute) (worthOr 0 o))
     (cond-false (some (record { ride = r; worth = landWorth target r (valued target behind) }))
     (firstOpen (valued target behind) (at .stop) (at .minute)) shut)
 
-worth-over : (target : ℕ) (rides : List Ride) (at : Standing) → at .stop ≡ target → worthAt target rides at ≡ ticks * at .minute
+worth-over : (target : ℕ) (rides : List Ride) (at : Standing) → at .stop ≡ target → worthAt target rides at ≡ ticksAMinute * at .minute
 unfolding standingWorth
 worth-over target rides at there =
-    cond-true (ticks * at .minute) (caught (valued target rides) (at .stop) (at .minute)) (eq-eqb (at .stop) target there)
+    cond-true (ticksAMinute * at .minute) (caught (valued target rides) (at .stop) (at .minute)) (eq-eqb (at .stop) target there)
 
 -- the delays of a ride, where its landings are served
 Landings : (r : Ride) → (ℕ → Type 0) → Type 0
@@ -93,39 +94,39 @@ Landings r P = (minute : ℕ) → r .arrives ≤ minute → minute < r .arrives 
 -- A ≤ 4,096^R × X: rounding up only adds
 board-within :
     (target : ℕ) (r : Ride) (behind : List Ride) (at : Standing) → Timed target r behind → boards r (at .stop) (at .minute) ≡ true
-    → Landings r (λ minute. mean behind (off at r minute) ≤ whole ^ length behind * worthAt target behind (off at r minute))
-    → mean (r ∷ behind) at ≤ whole ^ suc (length behind) * worthAt target (r ∷ behind) at
+    → Landings r (λ minute. mean behind (off at r minute) ≤ shareTotal ^ length behind * worthAt target behind (off at r minute))
+    → mean (r ∷ behind) at ≤ shareTotal ^ suc (length behind) * worthAt target (r ∷ behind) at
 unfolding Landings
 board-within target r behind at timed opens each =
-    rw (mean-boards r behind at opens, worth-boards target r behind at timed opens, pow-succ' whole (length behind))
-    (round (whole ^ length behind) (weigh (r .shares) (r .arrives) (λ minute. mean behind (off at r minute))) worths
+    rw (mean-boards r behind at opens, worth-boards target r behind at timed opens, pow-succ' shareTotal (length behind))
+    (round (shareTotal ^ length behind) (weigh (r .shares) (r .arrives) (λ minute. mean behind (off at r minute))) worths
     (le-trans
     (weigh-less (r .shares) (r .arrives) (λ minute. mean behind (off at r minute))
-    (λ minute. whole ^ length behind * worthAt target behind (off at r minute)) each)
-    (le-of-eq (weigh-scale (r .shares) (r .arrives) (whole ^ length behind) (λ minute. worthAt target behind (off at r minute))))))
+    (λ minute. shareTotal ^ length behind * worthAt target behind (off at r minute)) each)
+    (le-of-eq (weigh-scale (r .shares) (r .arrives) (shareTotal ^ length behind) (λ minute. worthAt target behind (off at r minute))))))
   where
     worths : ℕ
     worths = weigh (r .shares) (r .arrives) (λ minute. worthAt target behind (off at r minute))
 
-    round : (power landings sums : ℕ) → landings ≤ power * sums → landings ≤ whole * power * up whole sums
+    round : (power landings sums : ℕ) → landings ≤ power * sums → landings ≤ shareTotal * power * quotientUp shareTotal sums
     round power landings sums each = omega (arith, mul-le-mul-left power (up-reaches sums))
 
 pass-within :
     (target : ℕ) (r : Ride) (behind : List Ride) (at : Standing) → Timed target r behind → boards r (at .stop) (at .minute) ≡ false
-    → mean behind at ≤ whole ^ length behind * worthAt target behind at
-    → mean (r ∷ behind) at ≤ whole ^ suc (length behind) * worthAt target (r ∷ behind) at
+    → mean behind at ≤ shareTotal ^ length behind * worthAt target behind at
+    → mean (r ∷ behind) at ≤ shareTotal ^ suc (length behind) * worthAt target (r ∷ behind) at
 pass-within target r behind at timed shut further =
-    rw (mean-passes r behind at (timed .full) shut, worth-passes target r behind at shut, pow-succ' whole (length behind))
+    rw (mean-passes r behind at (timed .full) shut, worth-passes target r behind at shut, pow-succ' shareTotal (length behind))
     (omega arith)
 
 pub mean-within :
     (target : ℕ) {rides : List Ride} → Forward target rides → (at : Standing) → Served target rides (at .stop) (at .minute)
-    → mean rides at ≤ whole ^ length rides * worthAt target rides at
+    → mean rides at ≤ shareTotal ^ length rides * worthAt target rides at
 unfolding Landings
 mean-within target Forward.none at (onward next among opens) = absurd (List·Memᴰ·not-nil among)
 mean-within target Forward.none at (over there) = omega (arith, mean-end at, worth-over target [] at there)
 mean-within target (Forward.one {r = r} {behind = behind} timed goes-on rest) at served =
-    ifb (λ b. mean (r ∷ behind) at ≤ whole ^ suc (length behind) * worthAt target (r ∷ behind) at)
+    ifb (λ b. mean (r ∷ behind) at ≤ shareTotal ^ suc (length behind) * worthAt target (r ∷ behind) at)
     (boards r (at .stop) (at .minute))
     (λ opens. board-within target r behind at timed opens
     (λ minute from below. mean-within target rest (off at r minute) (served-sooner minute (landing-latest r minute from below) goes-on)))
@@ -145,13 +146,13 @@ gap-one target at = ifb (λ b. cond b 0 1 ≤ 1) (eqb (at .stop) target) (λ _. 
 -- 4,096^R × (X + rides so far) is at most A + 4,096^R × L, and less where a ride is still to come
 Above : ℕ → List Ride → Standing → ℕ → Type 0
 Above target rides at most =
-    whole ^ length rides * worthAt target rides at + whole ^ length rides * at .boarded + gap target at
-    ≤ mean rides at + whole ^ length rides * most
+    shareTotal ^ length rides * worthAt target rides at + shareTotal ^ length rides * at .boarded + gap target at
+    ≤ mean rides at + shareTotal ^ length rides * most
 
 sums-within :
-    (shares : List ℕ) (a : ℕ) (worths means : ℕ → ℕ) (power b most : ℕ) → sum shares ≡ whole
+    (shares : List ℕ) (a : ℕ) (worths means : ℕ → ℕ) (power b most : ℕ) → sum shares ≡ shareTotal
     → ((minute : ℕ) → a ≤ minute → minute < a + length shares → power * worths minute + power * b ≤ means minute + power * most)
-    → power * weigh shares a worths + whole * (power * b) ≤ weigh shares a means + whole * (power * most)
+    → power * weigh shares a worths + shareTotal * (power * b) ≤ weigh shares a means + shareTotal * (power * most)
 sums-within shares a worths means power b most full each =
     omega (
       arith,
@@ -169,12 +170,12 @@ board-above :
     → Above target (r ∷ behind) at most
 unfolding Landings Above
 board-above target r behind at most timed opens each =
-    rw (mean-boards r behind at opens, worth-boards target r behind at timed opens, pow-succ' whole (length behind))
-    (round (whole ^ length behind) (one-le-pow (length behind) whole (omega arith))
+    rw (mean-boards r behind at opens, worth-boards target r behind at timed opens, pow-succ' shareTotal (length behind))
+    (round (shareTotal ^ length behind) (one-le-pow (length behind) shareTotal (omega arith))
     (weigh (r .shares) (r .arrives) means) (weigh (r .shares) (r .arrives) worths) (at .boarded) (gap target at) (gap-one target at) summed)
   where
     power : ℕ
-    power = whole ^ length behind
+    power = shareTotal ^ length behind
 
     means : ℕ → ℕ
     means minute = mean behind (off at r minute)
@@ -183,15 +184,15 @@ board-above target r behind at most timed opens each =
     worths minute = worthAt target behind (off at r minute)
 
     summed :
-        power * weigh (r .shares) (r .arrives) worths + whole * (power * suc (at .boarded))
-        ≤ weigh (r .shares) (r .arrives) means + whole * (power * most)
+        power * weigh (r .shares) (r .arrives) worths + shareTotal * (power * suc (at .boarded))
+        ≤ weigh (r .shares) (r .arrives) means + shareTotal * (power * most)
     summed =
         sums-within (r .shares) (r .arrives) worths means power (suc (at .boarded)) most (timed .full)
         (λ minute from below. omega (arith, each minute from below))
 
     round :
-        (n : ℕ) → 1 ≤ n → (landings sums b g : ℕ) → g ≤ 1 → n * sums + whole * (n * suc b) ≤ landings + whole * (n * most)
-        → whole * n * up whole sums + whole * n * b + g ≤ landings + whole * n * most
+        (n : ℕ) → 1 ≤ n → (landings sums b g : ℕ) → g ≤ 1 → n * sums + shareTotal * (n * suc b) ≤ landings + shareTotal * (n * most)
+        → shareTotal * n * quotientUp shareTotal sums + shareTotal * n * b + g ≤ landings + shareTotal * n * most
     round n positive landings sums b g small each = omega (arith, mul-le-mul-left n (up-loses sums))
 
 pass-above :
@@ -199,7 +200,7 @@ pass-above :
     → boards r (at .stop) (at .minute) ≡ false → Above target behind at most → Above target (r ∷ behind) at most
 unfolding Above
 pass-above target r behind at most timed shut further =
-    rw (mean-passes r behind at (timed .full) shut, worth-passes target r behind at shut, pow-succ' whole (length behind))
+    rw (mean-passes r behind at (timed .full) shut, worth-passes target r behind at shut, pow-succ' shareTotal (length behind))
     (omega arith)
 
 -- what holds of every choice holds of the choices behind a first ride boarded, or passed over
@@ -213,7 +214,7 @@ most-boarded r behind at most opens within minute from below sailed delayed =
     (within (late r (minute - r .arrives) ∷ sailed) (delay-first refl (omega arith) delayed)))
 
 most-passed :
-    (r : Ride) (behind : List Ride) (at : Standing) (most : ℕ) → sum (r .shares) ≡ whole → boards r (at .stop) (at .minute) ≡ false
+    (r : Ride) (behind : List Ride) (at : Standing) (most : ℕ) → sum (r .shares) ≡ shareTotal → boards r (at .stop) (at .minute) ≡ false
     → AtMostRides (r ∷ behind) at most → AtMostRides behind at most
 unfolding course landed
 most-passed r behind at most full shut within sailed delayed =
@@ -246,7 +247,7 @@ mean-above target most (Forward.one {r = r} {behind = behind} timed goes-on rest
 pub mean-strictly-above :
     (target most : ℕ) {rides : List Ride} → Forward target rides → (at : Standing) → Served target rides (at .stop) (at .minute)
     → AtMostRides rides at most → at .stop ≢ target
-    → whole ^ length rides * worthAt target rides at < mean rides at + whole ^ length rides * most
+    → shareTotal ^ length rides * worthAt target rides at < mean rides at + shareTotal ^ length rides * most
 unfolding Above
 mean-strictly-above target most forward at served within elsewhere =
     omega (

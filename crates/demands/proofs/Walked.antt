@@ -11,10 +11,11 @@ use lib.ListN.{length, length-map}
 use Rattle.laws.proofs.Tests.{T-true, cond-false}
 use Rattle.laws.proofs.Options.{absent, same-thing}
 use Rattle.timetable.specs.Timetable.{Timetable}
-use Rattle.timetable.specs.Classes.{whole}
+use Rattle.timetable.specs.Classes.{shareTotal}
 use Rattle.query.specs.declared.Query.{Query}
 use Rattle.plans.specs.Rides.{Ride, landsBy}
-use Rattle.plans.specs.Worth.{ticks, Valued, valued, firstOpen, caught, worthOr}
+use Rattle.timetable.specs.Ticks.{ticksAMinute}
+use Rattle.plans.specs.Worth.{Valued, valued, firstOpen, caught, worthOr}
 use Rattle.plans.specs.Chosen.{worthOf}
 use Rattle.plans.specs.Plan.{latestOf}
 use Rattle.demands.specs.SafePlan.{SafePlan, ByBoardingRow, expectedOf}
@@ -117,7 +118,7 @@ module _ {t : Timetable} (timely : Timely t) (q : Query) (bound : ℕ) (rides : 
   expected-worth : (x : ℕ) → expectedOf q rides ≡ some x → worthAt (q .target) rides (start q) ≡ x
   unfolding expectedOf standingWorth caught worthOf worthOr
   expected-worth x e =
-      cond-false (ticks * q .minute) (caught (valued (q .target) rides) (q .source) (q .minute))
+      cond-false (ticksAMinute * q .minute) (caught (valued (q .target) rides) (q .source) (q .minute))
       (ne-eqb (q .source) (q .target) (begins-elsewhere q bound rides safe))
       ∙ go (firstOpen (valued (q .target) rides) (q .source) (q .minute))
       (ap (λ (l : List Ride). worthOf (firstOpen (valued (q .target) l) (q .source) (q .minute))) (sym (sorted-same rising)) ∙ e)
@@ -129,10 +130,10 @@ module _ {t : Timetable} (timely : Timely t) (q : Query) (bound : ℕ) (rides : 
   arrivals-mean : weightedArrivals q rides ≡ mean rides (start q)
   unfolding weightedArrivals mean total
   arrivals-mean =
-      total-same (λ sailed. ticks * walked q sailed .minute) (λ sailed. ticks * course sailed (start q) .minute) rides
-      (λ sailed delayed. ap (λ at. ticks * at .minute) (walk-course sailed delayed))
+      total-same (λ sailed. ticksAMinute * walked q sailed .minute) (λ sailed. ticksAMinute * course sailed (start q) .minute) rides
+      (λ sailed delayed. ap (λ at. ticksAMinute * at .minute) (walk-course sailed delayed))
 
-  pub sandwich-below : (x : ℕ) → expectedOf q rides ≡ some x → weightedArrivals q rides ≤ whole ^ length rides * x
+  pub sandwich-below : (x : ℕ) → expectedOf q rides ≡ some x → weightedArrivals q rides ≤ shareTotal ^ length rides * x
   sandwich-below x e =
       rw (arrivals-mean, ← expected-worth x e) (mean-within (q .target) forward (start q) (begins-served q bound rides safe))
 
@@ -143,7 +144,7 @@ module _ {t : Timetable} (timely : Timely t) (q : Query) (bound : ℕ) (rides : 
       (none-larger (λ sailed. walked q sailed .boarded) (choices rides) sailed (delayed-choice delayed))
 
   pub sandwich-above :
-      (x : ℕ) → expectedOf q rides ≡ some x → whole ^ length rides * x < weightedArrivals q rides + whole ^ length rides * longestWay q rides
+      (x : ℕ) → expectedOf q rides ≡ some x → shareTotal ^ length rides * x < weightedArrivals q rides + shareTotal ^ length rides * longestWay q rides
   sandwich-above x e =
       rw (arrivals-mean, ← expected-worth x e)
       (mean-strictly-above (q .target) (longestWay q rides) forward (start q) (begins-served q bound rides safe) longest-most

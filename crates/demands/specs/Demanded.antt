@@ -15,7 +15,7 @@ use Rattle.demands.specs.Words.{InPlan}
 use Rattle.demands.specs.Walk.{Sailed, start, choices, Boards}
 use Rattle.demands.specs.Passenger.{Carries}
 
-pub record Demanded (t : Timetable) (q : Query) (rides : List Valued) (expected last bound : ℕ) : Type 0 where
+pub record Demanded (t : Timetable) (q : Query) (rides : List Valued) (expected latest bound : ℕ) : Type 0 where
   -- the bound is that of E, the least a + M of a safe journey's last ride
   pub bounded : (e : ℕ) × IsEarliest t q e × (bound ≡ boundOf q e)
   -- a safe plan within the bound, by boarding row rising, with the worths that its own rides give
@@ -26,12 +26,12 @@ pub record Demanded (t : Timetable) (q : Query) (rides : List Valued) (expected 
   pub its-rides : (v : Valued) → List·Memᴰ v rides ↔ InPlan q (chosenFor t (goalOf q bound)) v
   -- the latest minute is the largest a + M of its rides
   pub latest-minute :
-      ((v : Valued) → List·Memᴰ v rides → landsBy (v .ride) ≤ last) × ((v : Valued) × List·Memᴰ v rides × (landsBy (v .ride) ≡ last))
+      ((v : Valued) → List·Memᴰ v rides → landsBy (v .ride) ≤ latest) × ((v : Valued) × List·Memᴰ v rides × (landsBy (v .ride) ≡ latest))
   -- the expected arrival is its own, and no other safe plan within the same bound has a smaller one
   pub expects : expectedOf q (ridesOf rides) ≡ some expected
   pub minimum : (others : List Ride) → SafePlan t q bound others → (x : ℕ) → expectedOf q others ≡ some x → expected ≤ x
   -- it carries every passenger by the latest minute, whatever delays up to their maximum its rides have
-  pub carries : Carries q (ridesOf rides) last expected
+  pub carries : Carries q (ridesOf rides) latest expected
   -- and every ride is boarded under some such delays
   pub every-ride-boarded :
       (v : Valued) → List·Memᴰ v rides

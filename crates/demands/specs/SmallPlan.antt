@@ -4,10 +4,10 @@ use mathlib.Core.List.{List, [], _∷_, map}
 use mathlib.Core.Option.{Option, none, some}
 use lib.ListN.{length}
 use Rattle.timetable.specs.Timetable.{Timetable}
-use Rattle.timetable.specs.Classes.{whole}
+use Rattle.timetable.specs.Classes.{shareTotal}
 use Rattle.query.specs.declared.Query.{Query}
 use Rattle.plans.specs.Rides.{Ride, rideOf}
-use Rattle.plans.specs.Examples.{Case, query, planOf, row, onTime, timetable}
+use Rattle.plans.specs.Examples.{Case, query, planTold, row, onTime, timetable}
 use Rattle.demands.specs.SafePlan.{expectedOf}
 use Rattle.demands.specs.Walk.{choices, weight, weightedArrivals, longestWay}
 
@@ -33,7 +33,7 @@ expectedIn (some x) = x ∷ []
 
 unfoldable pub smallCases : List Case
 smallCases =
-    record { answered = planOf small asked; expected = 3 ∷ 168962 ∷ 690 ∷ 0 ∷ 0 ∷ 0 ∷ 168962 ∷ 1 ∷ 1 ∷ 168960 ∷ 2 ∷ 2 ∷ 176640 ∷ [] }
+    record { answered = planTold small asked; expected = 3 ∷ 168962 ∷ 690 ∷ 0 ∷ 0 ∷ 0 ∷ 168962 ∷ 1 ∷ 1 ∷ 168960 ∷ 2 ∷ 2 ∷ 176640 ∷ [] }
     -- X, whatever order the rides are listed in
     ∷ record { answered = expectedIn (expectedOf asked smallRides); expected = 168962 ∷ [] }
     ∷ record { answered = expectedIn (expectedOf asked turnedRound); expected = 168962 ∷ [] }
@@ -42,7 +42,7 @@ smallCases =
     ∷ record { answered = map weight (choices smallRides); expected = 68702699520 ∷ 16777216 ∷ [] }
     -- A, then 4,096^R × X, which is a little more
     ∷ record {
-      answered = weightedArrivals asked smallRides ∷ whole ^ length smallRides * 168962 ∷ [];
+      answered = weightedArrivals asked smallRides ∷ shareTotal ^ length smallRides * 168962 ∷ [];
       expected = 11610971638333440 ∷ 11610980228268032 ∷ [];
     }
     -- L: two of the three rides are boarded, in time or late

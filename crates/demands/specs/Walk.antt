@@ -10,7 +10,7 @@ use lib.ListN.{getD, length}
 use Rattle.timetable.specs.Classes.{sum}
 use Rattle.query.specs.declared.Query.{Query}
 use Rattle.plans.specs.Rides.{Ride, boards}
-use Rattle.plans.specs.Worth.{ticks}
+use Rattle.timetable.specs.Ticks.{ticksAMinute}
 
 -- a ride with the delay that it is given
 pub record Sailed : Type 0 where
@@ -82,7 +82,7 @@ weight (s ∷ sailed) = getD (s .ride .shares) (s .delay) 0 * weight sailed
 
 -- A: the sum, over all choices, of weight × 256 × the minute at which the passenger then reaches the target
 unfoldable pub weightedArrivals : Query → List Ride → ℕ
-weightedArrivals q rides = sum (map (λ sailed. weight sailed * (ticks * walked q sailed .minute)) (choices rides))
+weightedArrivals q rides = sum (map (λ sailed. weight sailed * (ticksAMinute * walked q sailed .minute)) (choices rides))
 
 unfoldable pub largest : List ℕ → ℕ
 largest [] = 0

@@ -1,4 +1,4 @@
--- Document 01, "Case W": its 92 bytes, what they decode to, and what the check says of them and of edits of them. Assumes nothing.
+-- Document 01, "Case W": what its 92 bytes decode to, and what the check says of them and of edits of them. Assumes nothing.
 use Prim.Native.Nat.{ℕ}
 use mathlib.Core.List.{List, [], _∷_, _++_}
 use mathlib.Core.Path.{_≡_, refl}
@@ -9,30 +9,11 @@ use Rattle.timetable.specs.Rows.{ownRule, departureRule, lastOfTrip, follows, t
 use Rattle.timetable.proofs.Pinned.{row}
 use Rattle.file_layout.specs.declared.Checked.the-variants.{Refused}
 use Rattle.file_layout.specs.Format.{versionOne}
+use Rattle.file_layout.specs.CaseW.{caseW, tablesFirst}
 use Rattle.numbers.specs.Numbers.{u16At, u32At, u16Bytes, u32Bytes}
 use Rattle.file_layout.specs.Decode.{trailerStart, trailerAt, trailerOf, rowAt, rowsFrom, sharesFrom, tableAt, blockEnd, tablesFrom, tablesEnd, decode}
 use Rattle.file_encoding.specs.Encode.{rowBytes, rowsBytes, sharesBytes, tableBytes, tablesBytes, trailerBytes, encode}
 use Rattle.file_layout.specs.Check.{lengthRule, trailerRule, classVerdict, classesVerdict, sectionsJoin, joined, sectionsVerdict, fileVerdict, answered, answerOf, checkedAs, checked}
-
-abbrev rowsW : List ℕ
-rowsW =
-    0 ∷ 0 ∷ 1 ∷ 0 ∷ 88 ∷ 2 ∷ 118 ∷ 2 ∷ 0 ∷ 0 ∷ 1 ∷ 0
-    ∷ 1 ∷ 0 ∷ 2 ∷ 0 ∷ 120 ∷ 2 ∷ 148 ∷ 2 ∷ 1 ∷ 0 ∷ 0 ∷ 0
-    ∷ 1 ∷ 0 ∷ 2 ∷ 0 ∷ 124 ∷ 2 ∷ 188 ∷ 2 ∷ 2 ∷ 0 ∷ 0 ∷ 0
-    ∷ 1 ∷ 0 ∷ 2 ∷ 0 ∷ 138 ∷ 2 ∷ 178 ∷ 2 ∷ 3 ∷ 0 ∷ 0 ∷ 0 ∷ []
-
-abbrev tablesW : List ℕ
-tablesW =
-    0 ∷ 0 ∷ 0 ∷ 16
-    ∷ 10 ∷ 0 ∷ 0 ∷ 8 ∷ 0 ∷ 0 ∷ 0 ∷ 0 ∷ 0 ∷ 0 ∷ 0 ∷ 0 ∷ 0 ∷ 4 ∷ 0 ∷ 0 ∷ 0 ∷ 0 ∷ 0 ∷ 0 ∷ 0 ∷ 0 ∷ 0 ∷ 4 ∷ []
-
--- row offset 0, table offset 48
-abbrev pub caseW : List ℕ
-caseW = rowsW ++ tablesW ++ (1 ∷ 0 ∷ 3 ∷ 0 ∷ 4 ∷ 0 ∷ 2 ∷ 0 ∷ 0 ∷ 0 ∷ 0 ∷ 0 ∷ 48 ∷ 0 ∷ 0 ∷ 0 ∷ [])
-
--- the same sailings with the tables first: row offset 28, table offset 0
-abbrev pub tablesFirst : List ℕ
-tablesFirst = tablesW ++ rowsW ++ (1 ∷ 0 ∷ 3 ∷ 0 ∷ 4 ∷ 0 ∷ 2 ∷ 0 ∷ 28 ∷ 0 ∷ 0 ∷ 0 ∷ 0 ∷ 0 ∷ 0 ∷ 0 ∷ [])
 
 -- the rows and classes that document 01 lists
 abbrev pub sailingsW : Timetable

@@ -4,7 +4,7 @@ use mathlib.Core.List.{List, [], _∷_, _++_}
 use native.Mathlib.Nat.{le-of-suc-le-suc, not-suc-le-zero}
 use native.Mathlib.Omega.{arith}
 use lib.ListN.{length, getD}
-use Rattle.timetable.specs.Timetable.{Timetable, longest}
+use Rattle.timetable.specs.Timetable.{Timetable, maximumDelay}
 use Rattle.timetable.specs.declared.Row.{Row}
 use Rattle.file_layout.specs.declared.Format.{Format}
 use Rattle.numbers.specs.Bytes.{Bytes}
@@ -64,7 +64,7 @@ unfolding tablesBytes tableBytes
 tables-bytes [] = none
 tables-bytes (shares ∷ tables) =
     joined-bytes (tableBytes shares) (tablesBytes tables)
-    (u16-ahead (longest shares) (sharesBytes shares) (shares-bytes shares)) (tables-bytes tables)
+    (u16-ahead (maximumDelay shares) (sharesBytes shares) (shares-bytes shares)) (tables-bytes tables)
 
 trailer-bytes : (f : Format) (t : Timetable) → Bytes (trailerBytes f t)
 unfolding trailerBytes

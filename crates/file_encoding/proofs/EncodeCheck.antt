@@ -10,7 +10,7 @@ use lib.Dec.{leb}
 use lib.ListN.{length, drop}
 use borrow.Author.Tests.{le-leb, eq-eqb}
 use Rattle.laws.proofs.Tests.{both}
-use Rattle.timetable.specs.Timetable.{Timetable, longest, sharesOf}
+use Rattle.timetable.specs.Timetable.{Timetable, maximumDelay, sharesOf}
 use Rattle.timetable.specs.Verdict.{fine}
 use Rattle.timetable.specs.Classes.{sharesRule}
 use Rattle.timetable.specs.Rows.{rowsVerdict}
@@ -30,19 +30,19 @@ use Rattle.file_encoding.proofs.Encode.{rows-end, trailer-at, trailer-e
 
 -- a class block that ends by `end` and keeps its rules is fine
 class-fine : (f : Format) (s : List ℕ) (end k at : ℕ) (shares rest : List ℕ)
-    → BlockAt s at shares rest → at + blockSize shares ≤ end → longest shares ≤ f .delay → sharesRule shares ≡ true
+    → BlockAt s at shares rest → at + blockSize shares ≤ end → maximumDelay shares ≤ f .delay → sharesRule shares ≡ true
     → classVerdict f s end k at ≡ fine
 unfolding classVerdict blockSize
 class-fine f s end k at shares rest b fits delay rule =
     let two : leb (at + 2) end ≡ true = le-leb (at + 2) end (omega arith) in
-    let short : leb (u16At s at) (f .delay) ≡ true = ap (λ (m : ℕ). leb m (f .delay)) (b .delay) ∙ le-leb (longest shares) (f .delay) delay in
+    let short : leb (u16At s at) (f .delay) ≡ true = ap (λ (m : ℕ). leb m (f .delay)) (b .delay) ∙ le-leb (maximumDelay shares) (f .delay) delay in
     let inside : leb (blockEnd s at) end ≡ true = ap (λ (m : ℕ). leb m end) (b .ends) ∙ le-leb (at + (2 + 2 * length shares)) end fits in
     let sums : sharesRule (tableAt s at) ≡ true = ap sharesRule (b .table) ∙ rule in
     cc
 
 classes-fine : (tables : List (List ℕ)) (f : Format) (s : List ℕ) (end k at : ℕ) (rest : List ℕ)
     → ((j : ℕ) → j < length tables → WritableTable (sharesOf tables j))
-    → ((j : ℕ) → j < length tables → longest (sharesOf tables j) ≤ f .delay)
+    → ((j : ℕ) → j < length tables → maximumDelay (sharesOf tables j) ≤ f .delay)
     → ((j : ℕ) → j < length tables → sharesRule (sharesOf tables j) ≡ true) → at + tablesSize tables ≤ end
     → drop at s ≡ tablesBytes tables ++ rest → classesVerdict f s end k at (length tables) ≡ fine
 unfolding classesVerdict tablesSize

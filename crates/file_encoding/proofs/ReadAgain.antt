@@ -6,7 +6,7 @@ use native.Mathlib.Nat.{add-zero}
 use native.Mathlib.Omega.{arith}
 use lib.ListN.{length, drop}
 use lib.Seq.{drop-length}
-use Rattle.timetable.specs.Timetable.{longest}
+use Rattle.timetable.specs.Timetable.{maximumDelay}
 use Rattle.file_layout.specs.declared.Trailer.{Trailer}
 use Rattle.numbers.specs.Bytes.{Bytes}
 use Rattle.numbers.specs.Numbers.{u16At, u32At, u16Bytes, u32Bytes}
@@ -55,7 +55,7 @@ table-again : (s : List ℕ) (at : ℕ) → Bytes s → blockEnd s at ≤ length
 unfolding tableBytes tableAt blockEnd
 table-again s at b h =
     let shares = sharesFrom s (at + 2) (suc (u16At s at)) in
-    let delay : longest shares ≡ u16At s at = ap pred (shares-length s (at + 2) (suc (u16At s at))) in
+    let delay : maximumDelay shares ≡ u16At s at = ap pred (shares-length s (at + 2) (suc (u16At s at))) in
     ap (λ (m : ℕ). u16Bytes m ++ sharesBytes shares ++ drop (at + 2 + 2 * suc (u16At s at)) s) delay
     ∙ append-assoc (u16Bytes (u16At s at)) (sharesBytes shares) (drop (at + 2 + 2 * suc (u16At s at)) s)
     ∙ u16-again s at (at + 2) b refl (omega arith) (shares-again s (at + 2) (suc (u16At s at)) b h)

@@ -10,9 +10,9 @@ use lib.Dec.{lit<}
 use lib.ListN.{length, getD}
 use borrow.Author.Tests.{le-leb, eq-eqb}
 use Rattle.laws.proofs.Tests.{both}
-use Rattle.timetable.specs.Timetable.{longest, sharesOf}
+use Rattle.timetable.specs.Timetable.{maximumDelay, sharesOf}
 use Rattle.timetable.specs.Verdict.{fine}
-use Rattle.timetable.specs.Classes.{sum, whole, lastShare, sharesRule}
+use Rattle.timetable.specs.Classes.{sum, shareTotal, lastShare, sharesRule}
 use Rattle.timetable.specs.Rows.{rowsVerdict}
 use Rattle.file_layout.specs.declared.Format.{Format}
 use Rattle.file_layout.specs.declared.Trailer.{Trailer}
@@ -121,9 +121,9 @@ size-kept f s p sound join =
 
 rule-kept : (f : Format) (shares : List ℕ) → SharesSound f shares → sharesRule shares ≡ true
 unfolding sharesRule
-rule-kept f shares c = both (eq-eqb (sum shares) whole (c .shares-whole)) (le-leb 1 (lastShare shares) (c .last-counts))
+rule-kept f shares c = both (eq-eqb (sum shares) shareTotal (c .shares-whole)) (le-leb 1 (lastShare shares) (c .last-counts))
 
-delay-kept : (f : Format) (shares : List ℕ) → SharesSound f shares → longest shares ≤ f .delay
+delay-kept : (f : Format) (shares : List ℕ) → SharesSound f shares → maximumDelay shares ≤ f .delay
 delay-kept f shares c = let h : pred (length shares) ≤ f .delay = omega (arith, c .few-shares) in h
 
 pub sound-within : (f : Format) (s : List ℕ) → Plain f → Readable f → fileVerdict f s ≡ fine → WithinLimits f (decode f s)

@@ -4,7 +4,7 @@ use mathlib.Core.List.{List, [], _∷_, _++_}
 use mathlib.Core.Path.{_≡_, refl}
 use native.Mathlib.Omega.{arith}
 use lib.ListN.{length, length-append}
-use Rattle.timetable.specs.Timetable.{Timetable, longest}
+use Rattle.timetable.specs.Timetable.{Timetable, maximumDelay}
 use Rattle.timetable.specs.declared.Row.{Row}
 use Rattle.file_layout.specs.declared.Format.{Format}
 use Rattle.numbers.specs.Numbers.{u16Bytes, u32Bytes}
@@ -35,7 +35,7 @@ pub table-size : (shares : List ℕ) → length (tableBytes shares) ≡ blockSiz
 unfolding tableBytes blockSize
 table-size shares =
     omega
-    (arith, length-append (u16Bytes (longest shares)) (sharesBytes shares), u16-size (longest shares), shares-size shares)
+    (arith, length-append (u16Bytes (maximumDelay shares)) (sharesBytes shares), u16-size (maximumDelay shares), shares-size shares)
 
 pub tables-size : (tables : List (List ℕ)) → length (tablesBytes tables) ≡ tablesSize tables
 unfolding tablesBytes tablesSize

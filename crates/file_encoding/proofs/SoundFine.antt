@@ -10,7 +10,7 @@ use lib.ListN.{length}
 use borrow.Author.Tests.{le-leb, eq-eqb}
 use Rattle.laws.proofs.Tests.{ifb, both}
 use Rattle.timetable.specs.Verdict.{fine, orElse, unless}
-use Rattle.timetable.specs.Classes.{sum, whole, lastShare, sharesRule}
+use Rattle.timetable.specs.Classes.{sum, shareTotal, lastShare, sharesRule}
 use Rattle.timetable.specs.Rows.{rowsVerdict}
 use Rattle.timetable.proofs.Verdicts.{both-fine, holding-fine}
 use Rattle.timetable.proofs.RowsFine.{rows-fine}
@@ -34,9 +34,9 @@ trailer-rule-kept f s h range =
     (le-leb (h .stops) mostStops (range .stops-most))) (le-leb (h .rows) mostRows (range .rows-most)))
     (le-leb fewestClasses (h .classes) (range .classes-least))) (le-leb (h .classes) mostClasses (range .classes-most))
 
-shares-rule-kept : (shares : List ℕ) → sum shares ≡ whole → 1 ≤ lastShare shares → sharesRule shares ≡ true
+shares-rule-kept : (shares : List ℕ) → sum shares ≡ shareTotal → 1 ≤ lastShare shares → sharesRule shares ≡ true
 unfolding sharesRule
-shares-rule-kept shares total last = both (eq-eqb (sum shares) whole total) (le-leb 1 (lastShare shares) last)
+shares-rule-kept shares total last = both (eq-eqb (sum shares) shareTotal total) (le-leb 1 (lastShare shares) last)
 
 class-fine : (f : Format) (s : List ℕ) (end k at : ℕ) → ClassSound f s end at → classVerdict f s end k at ≡ fine
 unfolding classVerdict

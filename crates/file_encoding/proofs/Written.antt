@@ -6,7 +6,7 @@ use native.Mathlib.Nat.{add-zero, add-assoc, zero-lt-suc, suc-pred-eq-of-pos}
 use native.Mathlib.Omega.{arith}
 use lib.ListN.{length, getD, drop}
 use Rattle.laws.proofs.Lists.{drop-past}
-use Rattle.timetable.specs.Timetable.{longest, rowOf, sharesOf}
+use Rattle.timetable.specs.Timetable.{maximumDelay, rowOf, sharesOf}
 use Rattle.timetable.specs.declared.Row.{Row}
 use Rattle.file_layout.specs.Small.{SmallRow}
 use Rattle.numbers.specs.Numbers.{u16At, u16Bytes}
@@ -102,7 +102,7 @@ shares-written (p ∷ shares) s at rest small e =
 
 -- a class block at `at`: what it says, and where it ends
 pub record BlockAt (s : List ℕ) (at : ℕ) (shares rest : List ℕ) : Type 0 where
-  pub delay : u16At s at ≡ longest shares
+  pub delay : u16At s at ≡ maximumDelay shares
   pub table : tableAt s at ≡ shares
   pub ends : blockEnd s at ≡ at + blockSize shares
   pub behind : drop (blockEnd s at) s ≡ rest
@@ -111,17 +111,17 @@ pub table-written : (shares : List ℕ) (s : List ℕ) (at : ℕ) (rest : List �
     → WritableTable shares → drop at s ≡ tableBytes shares ++ rest → BlockAt s at shares rest
 unfolding tableBytes tableAt blockEnd blockSize
 table-written shares s at rest w e =
-    let here : drop at s ≡ u16Bytes (longest shares) ++ (sharesBytes shares ++ rest) =
-    e ∙ append-assoc (u16Bytes (longest shares)) (sharesBytes shares) rest
+    let here : drop at s ≡ u16Bytes (maximumDelay shares) ++ (sharesBytes shares ++ rest) =
+    e ∙ append-assoc (u16Bytes (maximumDelay shares)) (sharesBytes shares) rest
     in
-    let delay = u16-there s at (longest shares) (sharesBytes shares ++ rest) (w .delay) here in
+    let delay = u16-there s at (maximumDelay shares) (sharesBytes shares ++ rest) (w .delay) here in
     let count : suc (u16At s at) ≡ length shares = ap suc delay ∙ suc-pred-eq-of-pos (w .some) in
     let ends : at + 2 + 2 * suc (u16At s at) ≡ at + (2 + 2 * length shares) = omega (arith, count) in
     record {
       delay = delay;
       table =
           ap (sharesFrom s (at + 2)) count
-          ∙ shares-written shares s (at + 2) rest (w .each-share) (past-u16 s at (longest shares) (sharesBytes shares ++ rest) here);
+          ∙ shares-written shares s (at + 2) rest (w .each-share) (past-u16 s at (maximumDelay shares) (sharesBytes shares ++ rest) here);
       ends = ends;
       behind =
           ap

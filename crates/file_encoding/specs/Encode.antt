@@ -2,7 +2,7 @@
 use Prim.Native.Nat.{ℕ, _+_, _*_}
 use mathlib.Core.List.{List, [], _∷_, _++_}
 use lib.ListN.{length}
-use Rattle.timetable.specs.Timetable.{Timetable, longest}
+use Rattle.timetable.specs.Timetable.{Timetable, maximumDelay}
 use Rattle.timetable.specs.declared.Row.{Row}
 use Rattle.file_layout.specs.declared.Format.{Format}
 use Rattle.numbers.specs.Numbers.{u16Bytes, u32Bytes}
@@ -22,7 +22,7 @@ sharesBytes (p ∷ shares) = u16Bytes p ++ sharesBytes shares
 
 -- a class block: M, then its M + 1 shares
 unfoldable pub tableBytes : List ℕ → List ℕ
-tableBytes shares = u16Bytes (longest shares) ++ sharesBytes shares
+tableBytes shares = u16Bytes (maximumDelay shares) ++ sharesBytes shares
 
 unfoldable pub tablesBytes : List (List ℕ) → List ℕ
 tablesBytes [] = []

@@ -4,7 +4,7 @@ use mathlib.Core.Bool.{true}
 use mathlib.Core.List.{List, [], _∷_}
 use mathlib.Core.Path.{_≡_}
 use lib.ListN.{length, getD}
-use Rattle.timetable.specs.Timetable.{Timetable, longest, rowOf, sharesOf}
+use Rattle.timetable.specs.Timetable.{Timetable, maximumDelay, rowOf, sharesOf}
 use Rattle.timetable.specs.Classes.{sharesRule}
 use Rattle.file_layout.specs.declared.Format.{Format}
 use Rattle.file_layout.specs.declared.Trailer.{Trailer}
@@ -14,7 +14,7 @@ use Rattle.file_layout.specs.Small.{SmallRow}
 -- a class has a share at least, and its maximum delay and its shares are u16
 pub record WritableTable (shares : List ℕ) : Type 0 where
   pub some : 0 < length shares
-  pub delay : longest shares < 65536
+  pub delay : maximumDelay shares < 65536
   pub each-share : (v : ℕ) → v < length shares → getD shares v 0 < 65536
 
 -- the versions that it writes: a trailer of 16 bytes, rows of six numbers and no more
@@ -64,5 +64,5 @@ pub record WithinLimits (f : Format) (t : Timetable) : Type 0 where
   pub few-rows : length (t .rows) ≤ mostRows
   pub enough-classes : fewestClasses ≤ length (t .tables)
   pub few-classes : length (t .tables) ≤ mostClasses
-  pub delays : (k : ℕ) → k < length (t .tables) → longest (sharesOf (t .tables) k) ≤ f .delay
+  pub delays : (k : ℕ) → k < length (t .tables) → maximumDelay (sharesOf (t .tables) k) ≤ f .delay
   pub shares : (k : ℕ) → k < length (t .tables) → sharesRule (sharesOf (t .tables) k) ≡ true

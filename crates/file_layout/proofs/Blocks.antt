@@ -9,7 +9,7 @@ use lib.ListN.{length, getD}
 use borrow.Author.Tests.{leb-true, eqb-true}
 use Rattle.laws.proofs.Tests.{both-left, both-right}
 use Rattle.timetable.specs.Verdict.{fine, orElse, unless}
-use Rattle.timetable.specs.Classes.{sum, whole, lastShare, sharesRule}
+use Rattle.timetable.specs.Classes.{sum, shareTotal, lastShare, sharesRule}
 use Rattle.timetable.proofs.Verdicts.{first-fine, second-fine, rule-holds}
 use Rattle.file_layout.specs.declared.Format.{Format}
 use Rattle.numbers.specs.Numbers.{u16At}
@@ -27,11 +27,11 @@ pub table-has : (s : List ℕ) (at : ℕ) → length (tableAt s at) ≡ suc (u16
 unfolding tableAt
 table-has s at = shares-length s (at + 2) (suc (u16At s at))
 
-pub shares-kept : (shares : List ℕ) → sharesRule shares ≡ true → (sum shares ≡ whole) × (1 ≤ lastShare shares)
+pub shares-kept : (shares : List ℕ) → sharesRule shares ≡ true → (sum shares ≡ shareTotal) × (1 ≤ lastShare shares)
 unfolding sharesRule
 shares-kept shares e = (
-  eqb-true (sum shares) whole (both-left (eqb (sum shares) whole) (leb 1 (lastShare shares)) e),
-  leb-true 1 (lastShare shares) (both-right (eqb (sum shares) whole) (leb 1 (lastShare shares)) e),
+  eqb-true (sum shares) shareTotal (both-left (eqb (sum shares) shareTotal) (leb 1 (lastShare shares)) e),
+  leb-true 1 (lastShare shares) (both-right (eqb (sum shares) shareTotal) (leb 1 (lastShare shares)) e),
 )
 
 -- what a fine verdict on one class tells

@@ -4,3 +4,4 @@ pub mod Decode
 pub mod Small
 pub mod Check
 pub mod Sound
+pub mod CaseW

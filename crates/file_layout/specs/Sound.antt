@@ -5,7 +5,7 @@ use mathlib.Core.Logic.{_⊎_}
 use mathlib.Core.Path.{_≡_}
 use lib.ListN.{length, getD}
 use Rattle.numbers.specs.Numbers.{u16At}
-use Rattle.timetable.specs.Classes.{sum, whole, lastShare}
+use Rattle.timetable.specs.Classes.{sum, shareTotal, lastShare}
 use Rattle.timetable.specs.Limits.{fewestStops, mostStops, mostRows, fewestClasses, mostClasses}
 use Rattle.timetable.specs.Sound.{RowsSound}
 use Rattle.timetable.specs.Timetable.{sharesOf, rowOf}
@@ -25,7 +25,7 @@ pub record ClassSound (f : Format) (s : List ℕ) (end at : ℕ) : Type 0 where
   pub delay-small : u16At s at ≤ f .delay
   pub block-inside : blockEnd s at ≤ end
   pub table-length : length (tableAt s at) ≡ suc (u16At s at)
-  pub shares-whole : sum (tableAt s at) ≡ whole
+  pub shares-whole : sum (tableAt s at) ≡ shareTotal
   pub last-counts : 1 ≤ lastShare (tableAt s at)
 
 -- file length and the trailer's numbers inside their ranges (1)
@@ -62,7 +62,7 @@ pub record TrailerSound (f : Format) (s : List ℕ) : Type 0 where
 pub record SharesSound (f : Format) (shares : List ℕ) : Type 0 where
   pub some-shares : 1 ≤ length shares
   pub few-shares : length shares ≤ suc (f .delay)
-  pub shares-whole : sum shares ≡ whole
+  pub shares-whole : sum shares ≡ shareTotal
   pub last-counts : 1 ≤ lastShare shares
 
 -- a file without a fault, and the timetable that it decodes to

@@ -7,7 +7,7 @@ use native.Mathlib.Omega.{arith}
 use borrow.Author.Tests.{eq-eqb, ne-eqb}
 use lib.Dec.{leb}
 use lib.ListN.{length, getD}
-use Rattle.timetable.specs.Classes.{whole, sum, lastShare, sharesRule}
+use Rattle.timetable.specs.Classes.{shareTotal, sum, lastShare, sharesRule}
 use Rattle.numbers.specs.Numbers.{u16At}
 use Rattle.file_layout.specs.Decode.{sharesFrom, tableAt}
 
@@ -56,10 +56,10 @@ module _ (s : List ℕ) (at delay total : ℕ) (read : delay ≡ u16At s at) (su
   table-last : (last : ℕ) → last ≡ u16At s (at + 2 + 2 * delay) → lastShare (tableAt s at) ≡ last
   table-last last e = last-at s at ∙ ap (λ m. u16At s (at + 2 + 2 * m)) (sym read) ∙ sym e
 
-  pub sum-breaks : (total ≡ whole → ⊥) → sharesRule (tableAt s at) ≡ false
+  pub sum-breaks : (total ≡ shareTotal → ⊥) → sharesRule (tableAt s at) ≡ false
   unfolding sharesRule
   sum-breaks no' = simp (table-sum, ne-eqb _ _ no')
 
-  pub last-decides : total ≡ whole → (last : ℕ) → last ≡ u16At s (at + 2 + 2 * delay) → leb 1 last ≡ sharesRule (tableAt s at)
+  pub last-decides : total ≡ shareTotal → (last : ℕ) → last ≡ u16At s (at + 2 + 2 * delay) → leb 1 last ≡ sharesRule (tableAt s at)
   unfolding sharesRule
   last-decides full last e = sym (simp (table-sum, eq-eqb _ _ full, table-last last e))

@@ -8,8 +8,8 @@ use native.Mathlib.Nat.{add-sub-of-le}
 use lib.ListN.{length, getD}
 use borrow.Author.Tests.{eq-eqb, le-leb}
 use Rattle.laws.proofs.Tests.{both}
-use Rattle.timetable.specs.Timetable.{longest}
-use Rattle.timetable.specs.Classes.{whole, sum, lastShare, sharesRule}
+use Rattle.timetable.specs.Timetable.{maximumDelay}
+use Rattle.timetable.specs.Classes.{shareTotal, sum, lastShare, sharesRule}
 use Rattle.house.specs.Rising.{Rising, MadeOf, differences, sharesOfCumulative, runningSums, cumulativeOfShares}
 
 -- no entry is below the one ahead of it, nor the first below `ahead`
@@ -36,7 +36,7 @@ running-differences (step {c = c} {cs = cs} h rises) =
     ap (λ (k : ℕ). k ∷ runningSums k (differences c cs)) (add-sub-of-le h) ∙ ap (λ (l : List ℕ). c ∷ l) (running-differences rises)
 
 sum-differences : {ahead : ℕ} (cs : List ℕ) → RisesFrom ahead cs → 0 < length cs
-    → ahead + sum (differences ahead cs) ≡ getD cs (longest cs) 0
+    → ahead + sum (differences ahead cs) ≡ getD cs (maximumDelay cs) 0
 unfolding differences sum
 sum-differences [] rises more = absurd (let z : ⊥ = omega arith in z)
 sum-differences (c ∷ []) (step h rises) more = omega arith
@@ -51,7 +51,7 @@ differences-at ahead (c ∷ e ∷ cs) zero h = refl
 differences-at ahead (c ∷ e ∷ cs) (suc x) h = differences-at c (e ∷ cs) x (omega arith)
 
 -- the list has an entry, since it ends at 4,096
-some-entry : (cs : List ℕ) → getD cs (longest cs) 0 ≡ whole → 0 < length cs
+some-entry : (cs : List ℕ) → getD cs (maximumDelay cs) 0 ≡ shareTotal → 0 < length cs
 some-entry [] ends = absurd (let z : ⊥ = omega arith in z)
 some-entry (c ∷ cs) ends = omega arith
 
@@ -67,7 +67,7 @@ last-step (c ∷ e ∷ cs) rising =
 pub rising-table-accepted : (cs : List ℕ) → Rising cs → MadeOf cs (sharesOfCumulative cs)
 unfolding sharesRule sharesOfCumulative cumulativeOfShares
 rising-table-accepted cs rising = record {
-  accepted = both (eq-eqb (sum (differences 0 cs)) whole sums) (le-leb _ _ (last-step cs rising));
+  accepted = both (eq-eqb (sum (differences 0 cs)) shareTotal sums) (le-leb _ _ (last-step cs rising));
   one-each = length-differences 0 cs;
   sums-back = running-differences rises;
 }
@@ -75,5 +75,5 @@ rising-table-accepted cs rising = record {
     rises : RisesFrom 0 cs
     rises = rises-from 0 cs (λ more. omega arith) (rising .never-falls)
 
-    sums : sum (differences 0 cs) ≡ whole
+    sums : sum (differences 0 cs) ≡ shareTotal
     sums = omega (arith, sum-differences cs rises (some-entry cs (rising .ends-whole)), rising .ends-whole)

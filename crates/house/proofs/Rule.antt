@@ -8,32 +8,32 @@ use lib.Dec.{leb}
 use borrow.Author.Tests.{leb-true, leb-false, le-leb, lt-leb, ne-eqb}
 use Rattle.laws.proofs.Tests.{ifb, cond-true, cond-false}
 use Rattle.laws.proofs.Quotients.{quotient-rises, quotient-below}
-use Rattle.timetable.specs.Classes.{whole}
+use Rattle.timetable.specs.Classes.{shareTotal}
 use Rattle.house.specs.House.{upToChange, pastChange, between, cumulative}
 
 -- the share rises up to the change time
 up-rises : (m x : ℕ) → suc x ≤ m → upToChange m x ≤ upToChange m (suc x)
 up-rises m x h =
-    quotient-rises (whole * (2 * x)) (6 * m - 3 * x) (whole * (2 * suc x)) (6 * m - 3 * suc x) (omega arith) (omega arith)
+    quotient-rises (shareTotal * (2 * x)) (6 * m - 3 * x) (shareTotal * (2 * suc x)) (6 * m - 3 * suc x) (omega arith) (omega arith)
     (mul-le-mul (omega arith) (omega arith))
 
 -- it rises over the change time
 change-rises : (m d : ℕ) → 0 < m → upToChange m m ≤ pastChange d 1
 change-rises m d some =
-    quotient-rises (whole * (2 * m)) (6 * m - 3 * m) (whole * (31 * 1 + 2 * d)) (30 * 1 + 3 * d) (omega arith) (omega arith)
+    quotient-rises (shareTotal * (2 * m)) (6 * m - 3 * m) (shareTotal * (31 * 1 + 2 * d)) (30 * 1 + 3 * d) (omega arith) (omega arith)
     (let three : 6 * m - 3 * m ≡ 3 * m = omega arith in rw three (omega arith))
 
 -- and past it
 past-rises : (d y : ℕ) → 0 < y → pastChange d y ≤ pastChange d (suc y)
 past-rises d y some =
-    quotient-rises (whole * (31 * y + 2 * d)) (30 * y + 3 * d) (whole * (31 * suc y + 2 * d)) (30 * suc y + 3 * d) (omega arith)
+    quotient-rises (shareTotal * (31 * y + 2 * d)) (30 * y + 3 * d) (shareTotal * (31 * suc y + 2 * d)) (30 * suc y + 3 * d) (omega arith)
     (omega arith) (omega arith)
 
-up-below : (m x : ℕ) → x ≤ m → 0 < m → upToChange m x < whole
-up-below m x h some = quotient-below (whole * (2 * x)) (6 * m - 3 * x) whole (omega arith) (omega arith)
+up-below : (m x : ℕ) → x ≤ m → 0 < m → upToChange m x < shareTotal
+up-below m x h some = quotient-below (shareTotal * (2 * x)) (6 * m - 3 * x) shareTotal (omega arith) (omega arith)
 
-past-below : (d y : ℕ) → y < d → pastChange d y < whole
-past-below d y h = quotient-below (whole * (31 * y + 2 * d)) (30 * y + 3 * d) whole (omega arith) (omega arith)
+past-below : (d y : ℕ) → y < d → pastChange d y < shareTotal
+past-below d y h = quotient-below (shareTotal * (31 * y + 2 * d)) (30 * y + 3 * d) shareTotal (omega arith) (omega arith)
 
 -- the cumulative share where it is by the distribution: 0 < x < M
 inner : (m d x : ℕ) → 0 < x → x < m + d → cumulative m d x ≡ between m d x
@@ -49,9 +49,9 @@ between-past : (m d x : ℕ) → m < x → between m d x ≡ pastChange d (x - m
 unfolding between
 between-past m d x h = cond-false _ _ (lt-leb x m h)
 
-between-below : (m d x : ℕ) → 0 < x → x < m + d → between m d x < whole
+between-below : (m d x : ℕ) → 0 < x → x < m + d → between m d x < shareTotal
 between-below m d x some h =
-    ifb (λ (_ : Bool). between m d x < whole) (leb x m)
+    ifb (λ (_ : Bool). between m d x < shareTotal) (leb x m)
     (λ up. rw (between-up m d x (leb-true x m up)) (up-below m x (leb-true x m up) (omega (arith, leb-true x m up))))
     (λ past. rw (between-past m d x (leb-false x m past)) (past-below d (x - m) (omega (arith, leb-false x m past))))
 
@@ -80,12 +80,12 @@ unfolding cumulative
 at-zero m d h = cond-false _ _ (lt-leb (m + d) 0 h)
 
 -- at x = M it is 4,096 always
-pub at-latest : (m d x : ℕ) → m + d ≤ x → cumulative m d x ≡ whole
+pub at-latest : (m d x : ℕ) → m + d ≤ x → cumulative m d x ≡ shareTotal
 unfolding cumulative
 at-latest m d x h = cond-true _ _ (le-leb (m + d) x h)
 
 -- before M the share is below 4,096
-pub cumulative-below : (m d x : ℕ) → x < m + d → cumulative m d x < whole
+pub cumulative-below : (m d x : ℕ) → x < m + d → cumulative m d x < shareTotal
 cumulative-below m d zero h = rw (at-zero m d h) (omega arith)
 cumulative-below m d (suc x) h = rw (inner m d (suc x) (omega arith) h) (between-below m d (suc x) (omega arith) h)
 

@@ -4,7 +4,7 @@ use mathlib.Core.Path.{_≡_, refl, ap, _∙_}
 use mathlib.Core.List.{List, _∷_}
 use native.Mathlib.Omega.{arith}
 use lib.ListN.{length, getD}
-use Rattle.timetable.specs.Timetable.{longest}
+use Rattle.timetable.specs.Timetable.{maximumDelay}
 use Rattle.file_layout.specs.Format.{versionOne}
 use Rattle.house.specs.House.{maximum, pairOf, housePairs, cumulative}
 use Rattle.house.specs.Rising.{Rising, MadeOf, valuesFrom, houseCumulatives, houseTable}
@@ -44,7 +44,7 @@ house-rising m d = record {
       rw (last, house-at m d (pred (m + d)) (omega (arith, more))) (cumulative-below m d (pred (m + d)) more);
 }
   where
-    last : longest (houseCumulatives m d) ≡ m + d
+    last : maximumDelay (houseCumulatives m d) ≡ m + d
     last = ap pred (house-length m d)
 
 -- every change time and parameter give a table that the rule of a class's shares accepts

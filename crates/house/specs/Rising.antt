@@ -4,15 +4,15 @@ use mathlib.Core.Path.{_≡_}
 use mathlib.Core.Bool.{true}
 use mathlib.Core.List.{List, [], _∷_}
 use lib.ListN.{length, getD}
-use Rattle.timetable.specs.Timetable.{longest}
-use Rattle.timetable.specs.Classes.{whole, sharesRule}
+use Rattle.timetable.specs.Timetable.{maximumDelay}
+use Rattle.timetable.specs.Classes.{shareTotal, sharesRule}
 use Rattle.house.specs.House.{cumulative}
 
 -- cumulative shares of delays 0, 1, .. M that never fall, end at 4,096, and rise with the last step
 pub record Rising (cs : List ℕ) : Type 0 where
   pub never-falls : (x : ℕ) → suc x < length cs → getD cs x 0 ≤ getD cs (suc x) 0
-  pub ends-whole : getD cs (longest cs) 0 ≡ whole
-  pub rises-last : 0 < longest cs → getD cs (pred (longest cs)) 0 < whole
+  pub ends-whole : getD cs (maximumDelay cs) 0 ≡ shareTotal
+  pub rises-last : 0 < maximumDelay cs → getD cs (pred (maximumDelay cs)) 0 < shareTotal
 
 -- A share is the difference of neighbours; `ahead` is the cumulative share of the delay before
 unfoldable pub differences : ℕ → List ℕ → List ℕ

@@ -6,7 +6,7 @@ use mathlib.Core.List.{List}
 use mathlib.Core.Logic.{inr, ⊎-elim}
 use mathlib.Core.Path.{_≡_, refl, sym, ap, subst, _∙_}
 use lib.ListN.{length}
-use Rattle.timetable.specs.Timetable.{Timetable, sharesOf, longest, rowOf}
+use Rattle.timetable.specs.Timetable.{Timetable, sharesOf, maximumDelay, rowOf}
 use Rattle.timetable.specs.declared.Row.{Row}
 use Rattle.plans.specs.Rides.{Ride, rideOf, IsRide, landsBy}
 use Rattle.plans.specs.Sound.{Timely}
@@ -23,7 +23,7 @@ below-suc P j i h less same = ⊎-elim same less (eq-or-lt-of-le (let z : j ≤ 
 
 -- a + M of a row
 abbrev pub landing : Timetable → ℕ → ℕ
-landing t i = rowOf (t .rows) i .arrival + longest (sharesOf (t .tables) (rowOf (t .rows) i .class))
+landing t i = rowOf (t .rows) i .arrival + maximumDelay (sharesOf (t .tables) (rowOf (t .rows) i .class))
 
 -- what the sweep uses of a timetable: its minutes, and that its numbers fit the cells
 pub record Seaworthy (t : Timetable) : Type 0 where

@@ -6,7 +6,7 @@ use mathlib.Core.Path.{_≡_, sym, ap, ap₂, subst, _∙_}
 use native.Mathlib.Nat.{add-zero}
 use native.Mathlib.Omega.{arith}
 use lib.ListN.{length, getD}
-use Rattle.timetable.specs.Timetable.{sharesOf, longest, rowOf}
+use Rattle.timetable.specs.Timetable.{sharesOf, maximumDelay, rowOf}
 use Rattle.plans.specs.Rides.{landsBy}
 use Rattle.plans.specs.Worth.{Valued}
 use Rattle.plan_cells.specs.Cells.{pairCells}
@@ -45,7 +45,7 @@ module _ {file : List ℕ} {s : Sailings} {tables work : List ℕ} (stand : File
       ap₂ (λ a b. a + b) (sym (k .arrives))
       (ap (λ j. getD tables j 0) (add-zero (256 * row .class))
       ∙ blocks .held (row .class) (let z : row .class < length (tablesIn file s) = omega (arith, stand .tables-count, fits .class) in z) .longest-held
-      ∙ ap longest (sym (k .shares))) in
+      ∙ ap maximumDelay (sym (k .shares))) in
       record {
         leaves = pair .1;
         worth = pair .0;
@@ -56,6 +56,6 @@ module _ {file : List ℕ} {s : Sailings} {tables work : List ℕ} (stand : File
         class = (let z : row .class < 16 = omega (arith, fits .class, stand .few-classes) in z);
         lands = lands;
         minute =
-            (let a : longest (v .ride .shares) ≡ longest (sharesOf (tablesIn file s) (row .class)) = ap longest (k .shares) in
-            let z : v .ride .arrives + longest (v .ride .shares) < 65536 = omega (arith, fits .lands, k .arrives) in z);
+            (let a : maximumDelay (v .ride .shares) ≡ maximumDelay (sharesOf (tablesIn file s) (row .class)) = ap maximumDelay (k .shares) in
+            let z : v .ride .arrives + maximumDelay (v .ride .shares) < 65536 = omega (arith, fits .lands, k .arrives) in z);
       }

@@ -8,7 +8,7 @@ use native.Mathlib.Omega.{arith}
 use lib.ListN.{length, take}
 use lib.Seq.{length-take-le, getD-take}
 use Rattle.timetable.specs.Timetable.{Timetable, sharesOf, rowOf, noRow}
-use Rattle.timetable.specs.Classes.{sum, whole}
+use Rattle.timetable.specs.Classes.{sum, shareTotal}
 use Rattle.timetable.specs.declared.Row.{Row}
 use Rattle.plans.specs.Rides.{Ride, IsRide}
 use Rattle.plans.specs.Sound.{Timely}
@@ -48,7 +48,7 @@ module _ (file : List ℕ) (s : Sailings) (stand : FileReadable file s) (end : �
             subst (λ (r : Row). r .departure < r .arrival) (sym (timed-row i b)) (stand .row-fits i (omega arith) .onward);
         shared = λ i below.
             let b : i < end = omega (arith, timed-length) in
-            subst (λ (r : Row). sum (sharesOf (tablesIn file s) (r .class)) ≡ whole) (sym (timed-row i b))
+            subst (λ (r : Row). sum (sharesOf (tablesIn file s) (r .class)) ≡ shareTotal) (sym (timed-row i b))
             (stand .shares-fit (rowOf (rowsIn file s) i .class) (stand .row-fits i (omega arith) .class) .shares-whole);
       }
 

@@ -11,14 +11,15 @@ use lib.Dec.{leb}
 use lib.ListN.{length, getD}
 use Rattle.laws.proofs.Tests.{ifb, cond-true, cond-false}
 use Rattle.laws.proofs.Places.{member-at}
-use Rattle.timetable.specs.Classes.{whole}
-use Rattle.timetable.specs.Timetable.{longest}
+use Rattle.timetable.specs.Classes.{shareTotal}
+use Rattle.timetable.specs.Timetable.{maximumDelay}
 use Rattle.timetable.specs.declared.Row.{Row}
 use Rattle.plan_cells.specs.Cells.{cellOf, missing}
 use Rattle.plan_stacks.specs.Stacks.{stackStart, stackSize, Falling, FirstOpenAt, entryDeparture, entryWorth}
 use Rattle.plans.specs.declared.Goal.{Goal}
 use Rattle.plans.specs.Journeys.{within}
-use Rattle.plans.specs.Worth.{Valued, firstOpen, caught, worthOr, weigh, up, arrivalWorth, changeWorth}
+use Rattle.timetable.specs.Ticks.{quotientUp}
+use Rattle.plans.specs.Worth.{Valued, firstOpen, caught, worthOr, weigh, arrivalWorth, changeWorth}
 use Rattle.plans.specs.Chosen.{offInTicks, whenSafe}
 use Rattle.plan_landing.specs.Landing.{Ready, rideOff}
 use Rattle.plan_stacks.specs.Chosen.{EntryFits, atStop}
@@ -127,7 +128,7 @@ module _ {row : Row} {tables work shares : List ℕ} {chosen : List Valued} (rea
         subst (λ m. m < minute) (departs i (size - suc i) there) (left k minute after missed (size - suc i) (omega arith) (omega arith))))
         ∙ sym (worths down k place)
 
-    pub boarding : (landing : ℕ) → landing ≡ row .arrival + longest shares → landing ≤ entryDeparture work (stackStart work (row .land)) 0
+    pub boarding : (landing : ℕ) → landing ≡ row .arrival + maximumDelay shares → landing ≤ entryDeparture work (stackStart work (row .land)) 0
         → Boarding work tables (stackStart work (row .land)) (found .place) (row .arrival) landing (256 * row .class + 2) shares
         (λ minute. caught chosen (row .land) minute)
     boarding landing lands late =
@@ -154,7 +155,7 @@ module _ {row : Row} {tables work shares : List ℕ} {chosen : List Valued} (rea
       let total : weigh shares 0 (λ v. v) ≤ 1040384 = omega (arith, ready .shares-fit .shares-whole) in
       omega (arith, ready .lands, ready .block .expected-held)
 
-  module _ (goal : Goal) (landing : ℕ) (lands : landing ≡ row .arrival + longest shares) where
+  module _ (goal : Goal) (landing : ℕ) (lands : landing ≡ row .arrival + maximumDelay shares) where
     pub off-late : row .land ≡ goal .target → within (goal .bound) landing ≡ false → missing ≡ cellOf (offInTicks goal (rideOff row shares) chosen)
     unfolding offInTicks
     off-late there late =
@@ -173,7 +174,7 @@ module _ {row : Row} {tables work shares : List ℕ} {chosen : List Valued} (rea
 
     elsewhere : (row .land ≡ goal .target → ⊥)
         → offInTicks goal (rideOff row shares) chosen
-        ≡ whenSafe (firstOpen chosen (row .land) (row .arrival + longest shares)) (changeWorth (rideOff row shares) chosen)
+        ≡ whenSafe (firstOpen chosen (row .land) (row .arrival + maximumDelay shares)) (changeWorth (rideOff row shares) chosen)
     unfolding offInTicks
     elsewhere other = cond-false _ _ (ne-eqb (row .land) (goal .target) other)
 
@@ -188,7 +189,7 @@ module _ {row : Row} {tables work shares : List ℕ} {chosen : List Valued} (rea
 
     pub off-changing : (row .land ≡ goal .target → ⊥) → 0 < stackSize work (row .land)
         → landing ≤ entryDeparture work (stackStart work (row .land)) 0
-        → up whole (weigh shares (row .arrival) (λ minute. caught chosen (row .land) minute))
+        → quotientUp shareTotal (weigh shares (row .arrival) (λ minute. caught chosen (row .land) minute))
         ≡ cellOf (offInTicks goal (rideOff row shares) chosen)
     unfolding changeWorth
     off-changing other filled late =

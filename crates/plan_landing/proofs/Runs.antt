@@ -6,13 +6,13 @@ use native.Mathlib.Nat.{add-zero, mul-le-mul-left}
 use native.Mathlib.Omega.{arith}
 use lib.ListN.{length, take, drop, take-append-drop, length-drop}
 use lib.Seq.{take-add, take-length, drop-length, drop-drop}
-use Rattle.timetable.specs.Timetable.{longest}
+use Rattle.timetable.specs.Timetable.{maximumDelay}
 use Rattle.timetable.specs.Classes.{sum}
 use Rattle.plans.specs.Worth.{weigh}
 use Rattle.plans.proofs.Weighing.{sum-append}
 
 -- there is one share more than the maximum delay
-pub longest-on : (xs : List ℕ) → 1 ≤ length xs → suc (longest xs) ≡ length xs
+pub longest-on : (xs : List ℕ) → 1 ≤ length xs → suc (maximumDelay xs) ≡ length xs
 longest-on [] h = absurd (let z : ⊥ = omega arith in z)
 longest-on (x ∷ xs) h = refl
 

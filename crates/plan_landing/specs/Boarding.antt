@@ -3,7 +3,7 @@ use Prim.Native.Nat.{ℕ, suc, _+_, _*_, _≤_, _<_}
 use mathlib.Core.List.{List}
 use mathlib.Core.Path.{_≡_}
 use lib.ListN.{length, getD, take}
-use Rattle.timetable.specs.Timetable.{longest}
+use Rattle.timetable.specs.Timetable.{maximumDelay}
 use Rattle.timetable.specs.Classes.{sum}
 use Rattle.plan_rows.specs.Reading.{SharesFit}
 use Rattle.plan_stacks.specs.Stacks.{entryDeparture, entryWorth}
@@ -15,7 +15,7 @@ pub record Boarding (work tables : List ℕ) (start first arrival landing cell :
   pub room : cell + length shares ≤ length tables
   pub held : (v : ℕ) → v < length shares → getD tables (cell + v) 0 ≡ sum (take (suc v) shares)
   pub shares-fit : SharesFit shares
-  pub lands : landing ≡ arrival + longest shares
+  pub lands : landing ≡ arrival + maximumDelay shares
   pub falls : (k l : ℕ) → k < l → l ≤ first → entryDeparture work start l < entryDeparture work start k
   pub opens : arrival ≤ entryDeparture work start first
   pub safe : landing ≤ entryDeparture work start 0

@@ -2,10 +2,11 @@
 ghost use mathlib.Core.Path.{_≡_};
 ghost use mathlib.Core.List.{List};
 ghost use Prim.Native.Nat.{ℕ, _+_, _*_, _/_, _<_};
-ghost use Rattle.timetable.specs.Classes.{whole};
+ghost use Rattle.timetable.specs.Classes.{shareTotal};
 ghost use Rattle.plans.specs.declared.Goal.{Goal};
 ghost use Rattle.plans.specs.Journeys.{within};
-ghost use Rattle.plans.specs.Worth.{Valued, up, weigh};
+ghost use Rattle.timetable.specs.Ticks.{quotientUp};
+ghost use Rattle.plans.specs.Worth.{Valued, weigh};
 ghost use Rattle.plans.specs.Chosen.{offInTicks};
 ghost use Rattle.plan_cells.specs.Cells.{cellOf};
 ghost use Rattle.plan_landing.specs.Landing.{Ready, SomeReady, rideOff};
@@ -76,7 +77,7 @@ fn changing(
     requires { ⌜ SomeBoarding (now work) (now tables) at arrival landing shares ⌝ }
     ensures { λ r. ⌜ ((start first : ℕ) (held : List ℕ) (caught : ℕ → ℕ) → at ≡ start + 2 * first
         → Boarding (now (work .entry)) (now (tables .entry)) start first arrival landing shares held caught
-        → r ≡ up whole (weigh held arrival caught)) ⌝ }
+        → r ≡ quotientUp shareTotal (weigh held arrival caught)) ⌝ }
 {
     let mut entry = at;
     let mut departure = departure_of(work[entry]);

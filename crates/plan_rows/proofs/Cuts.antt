@@ -22,7 +22,7 @@ use Rattle.plans.specs.Sound.{Timely}
 use Rattle.plans.specs.Rides.{landsBy}
 use Rattle.plans.specs.Journeys.{goalOf, within}
 use Rattle.plans.specs.Worth.{Valued, firstOpen}
-use Rattle.plans.specs.Chosen.{Aim, inTicks, Scan, scan, bestOf, choose, nextOf, least, getOff, stayOn, rowRide}
+use Rattle.plans.specs.Chosen.{Aim, inTicks, Scan, scan, bestOf, choose, nextOf, leastOf, getOff, stayOn, rowRide}
 use Rattle.plans.specs.Plan.{upTo, extract, ridesFrom, chosenFor}
 use Rattle.plans.proofs.FromRow.{chosenFrom, bestAt, nextFrom, chosen-row, chosen-end, next-row, next-end}
 use Rattle.plans.proofs.Choice.{choice}
@@ -87,7 +87,7 @@ module _ (aim : Aim) (t : Timetable) where
         in
         let best : bestOf aim (t .tables) i r later ≡ bestAt aim t i =
         ap₂
-        (λ (vs : List Valued) (o : Option Valued). least (getOff (rowRide (t .tables) i r) (aim .off (rowRide (t .tables) i r) vs)) (stayOn i r o))
+        (λ (vs : List Valued) (o : Option Valued). leastOf (getOff (rowRide (t .tables) i r) (aim .off (rowRide (t .tables) i r) vs)) (stayOn i r o))
         (same .0) (same .1 (r .trip))
         in (
           ap (λ (sc : Scan). sc .chosen) cut ∙ ap₂ (λ (o : Option Valued) (vs : List Valued). choose aim o vs) best (same .0)

@@ -5,7 +5,7 @@ use mathlib.Core.Option.{Option, none, some}
 use mathlib.Core.Path.{_≡_, refl, ap, ap₂, _∙_}
 use native.Mathlib.Omega.{arith}
 use lib.ListN.{length}
-use Rattle.timetable.specs.Timetable.{Timetable, sharesOf, longest, rowOf}
+use Rattle.timetable.specs.Timetable.{Timetable, sharesOf, maximumDelay, rowOf}
 use Rattle.timetable.specs.declared.Row.{Row}
 use Rattle.file_layout.specs.declared.Format.{Format}
 use Rattle.file_layout.specs.Format.{versionOne}
@@ -68,7 +68,7 @@ same-plan f s q =
     ∙ before-same (decode f s) (timetableIn s (sailingsOf f (trailerOf f s))) (same-rows f s) (same-tables f s) q
     (earliest (timetableIn s (sailingsOf f (trailerOf f s))) q)
 
-pub longest-small : (shares : List ℕ) (most : ℕ) → length shares ≤ suc most → longest shares ≤ most
+pub longest-small : (shares : List ℕ) (most : ℕ) → length shares ≤ suc most → maximumDelay shares ≤ most
 longest-small [] most h = omega arith
 longest-small (p ∷ shares) most h = omega arith
 

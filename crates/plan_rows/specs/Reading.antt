@@ -3,13 +3,14 @@ use Prim.Native.Nat.{ℕ, suc, _+_, _*_, _≤_, _<_}
 use mathlib.Core.List.{List}
 use mathlib.Core.Path.{_≡_}
 use lib.ListN.{length, getD, take}
-use Rattle.timetable.specs.Timetable.{Timetable, sharesOf, longest, rowOf}
-use Rattle.timetable.specs.Classes.{whole, sum}
+use Rattle.timetable.specs.Timetable.{Timetable, sharesOf, maximumDelay, rowOf}
+use Rattle.timetable.specs.Classes.{shareTotal, sum}
 use Rattle.timetable.specs.declared.Row.{Row}
 use Rattle.timetable.specs.Limits.{mostStops, mostRows, mostTrips, mostClasses}
 use Rattle.file_layout.specs.Decode.{rowAt, tableAt, rowsFrom, tablesFrom}
 use Rattle.file_layout.specs.Sound.{blockAt}
-use Rattle.plans.specs.Worth.{up, weigh}
+use Rattle.timetable.specs.Ticks.{quotientUp}
+use Rattle.plans.specs.Worth.{weigh}
 use Rattle.plan_rows.specs.declared.Sailings.{Sailings}
 
 abbrev pub rowsIn : List ℕ → Sailings → List Row
@@ -29,13 +30,13 @@ pub record RowFits (classes : ℕ) (tables : List (List ℕ)) (r : Row) : Type 0
   pub onward : r .departure < r .arrival
   pub trip : r .trip < mostTrips
   pub class : r .class < classes
-  pub lands : r .arrival + longest (sharesOf tables (r .class)) < 65536
+  pub lands : r .arrival + maximumDelay (sharesOf tables (r .class)) < 65536
 
 -- a class whose shares are whole and fit a block of 256 cells
 pub record SharesFit (shares : List ℕ) : Type 0 where
   pub some-shares : 1 ≤ length shares
   pub few-shares : length shares ≤ 254
-  pub shares-whole : sum shares ≡ whole
+  pub shares-whole : sum shares ≡ shareTotal
 
 -- the rows and tables stand in the file, and keep what planning uses of the rules
 pub record FileReadable (file : List ℕ) (s : Sailings) : Type 0 where
@@ -74,8 +75,8 @@ abbrev pub tableCells : ℕ
 tableCells = blockCell mostClasses
 
 pub record BlockHeld (cells : List ℕ) (class : ℕ) (shares : List ℕ) : Type 0 where
-  pub longest-held : getD cells (blockCell class) 0 ≡ longest shares
-  pub expected-held : getD cells (blockCell class + 1) 0 ≡ up 16 (weigh shares 0 (λ v. v))
+  pub longest-held : getD cells (blockCell class) 0 ≡ maximumDelay shares
+  pub expected-held : getD cells (blockCell class + 1) 0 ≡ quotientUp 16 (weigh shares 0 (λ v. v))
   pub cumulative-held : (v : ℕ) → v < length shares → getD cells (blockCell class + 2 + v) 0 ≡ sum (take (suc v) shares)
 
 pub record TablesHeld (cells : List ℕ) (tables : List (List ℕ)) : Type 0 where

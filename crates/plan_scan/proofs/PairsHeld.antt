@@ -13,7 +13,7 @@ use Rattle.laws.proofs.Tests.{ifb, cond-true, cond-false}
 use Rattle.timetable.specs.declared.Row.{Row}
 use Rattle.plans.specs.Rides.{Ride}
 use Rattle.plans.specs.Worth.{Valued}
-use Rattle.plans.specs.Chosen.{Scan, least, getOff, stayOn, nextOf, boardedAt}
+use Rattle.plans.specs.Chosen.{Scan, leastOf, getOff, stayOn, nextOf, boardedAt}
 use Rattle.plan_cells.specs.Cells.{pairCells, tripCells, stopCells, used, missing, cellOf, pairCell, paired}
 use Rattle.plan_cells.specs.Outside.{SameOutside}
 use Rattle.plan_cells.proofs.Outside.{outside-then, outside-set}
@@ -45,8 +45,8 @@ pair-same w w' j best front behind h =
 module _ (i : ℕ) (row : Row) (r : Ride) (at-row : r .leave ≡ i) where
   pub least-off :
       (o : Option ℕ) (next : Option Valued) (on leave : ℕ) → ((x : ℕ) → o ≡ some x → x < missing) → Holds on leave next → cellOf o < on
-      → Holds (cellOf o) i (least (getOff r o) (stayOn i row next))
-  unfolding least getOff stayOn
+      → Holds (cellOf o) i (leastOf (getOff r o) (stayOn i row next))
+  unfolding leastOf getOff stayOn
   least-off none none on leave fits h below = absurd (let z : ⊥ = omega arith in z)
   least-off none (some v) on leave fits h below = absurd (let z : ⊥ = omega (arith, h .0, h .2) in z)
   least-off (some x) none on leave fits h below = (refl, sym at-row, fits x refl)
@@ -56,8 +56,8 @@ module _ (i : ℕ) (row : Row) (r : Ride) (at-row : r .leave ≡ i) where
 
   pub least-on :
       (o : Option ℕ) (next : Option Valued) (on leave : ℕ) → ((x : ℕ) → o ≡ some x → x < missing) → Holds on leave next → on ≤ cellOf o
-      → Holds on leave (least (getOff r o) (stayOn i row next))
-  unfolding least getOff stayOn
+      → Holds on leave (leastOf (getOff r o) (stayOn i row next))
+  unfolding leastOf getOff stayOn
   least-on none none on leave fits h below = h
   least-on none (some v) on leave fits h below = h
   least-on (some x) none on leave fits h below = absurd (let fit : x < missing = fits x refl in let z : ⊥ = omega arith in z)
@@ -161,17 +161,17 @@ module _ (w : List ℕ) (n i end : ℕ) (row : Row) (trip : row .trip < 2000) (b
   pub pairs-weighed :
       (w' : List ℕ) (r : Ride) (o : Option ℕ) (later : Scan) (chosen : List Valued) → r .leave ≡ i → ((x : ℕ) → o ≡ some x → x < missing)
       → PairsHeld w n (suc i) end later → Weighs row i (cellOf o) w w'
-      → PairsHeld w' n i end (inFront row (least (getOff r o) (stayOn i row (nextOf (later .weighed) (row .trip)))) later chosen)
+      → PairsHeld w' n i end (inFront row (leastOf (getOff r o) (stayOn i row (nextOf (later .weighed) (row .trip)))) later chosen)
   pairs-weighed w' r o later chosen at-row fits held (gets-off less e) =
       let next = held .next (row .trip) trip in
-      let best = least (getOff r o) (stayOn i row (nextOf (later .weighed) (row .trip))) in
+      let best = leastOf (getOff r o) (stayOn i row (nextOf (later .weighed) (row .trip))) in
       subst (λ (l : List ℕ). PairsHeld l n i end (inFront row best later chosen)) (sym e)
       (stored later held best chosen (cellOf o) i
       (least-off i row r at-row o (nextOf (later .weighed) (row .trip)) (getD w (nextPair w (row .trip)) 0) (getD w (nextPair w (row .trip) + 1) 0) fits
       (pair-holds w (getD w (tripCells + row .trip) 0) (nextOf (later .weighed) (row .trip)) (next .holds)) less))
   pairs-weighed w' r o later chosen at-row fits held (stays-on less e) =
       let next = held .next (row .trip) trip in
-      let best = least (getOff r o) (stayOn i row (nextOf (later .weighed) (row .trip))) in
+      let best = leastOf (getOff r o) (stayOn i row (nextOf (later .weighed) (row .trip))) in
       let on = getD w (nextPair w (row .trip)) 0 in
       subst (λ (l : List ℕ). PairsHeld l n i end (inFront row best later chosen))
       (sym (e ∙ ap (λ leave. paired (entered w (row .trip) i) i on leave) (leave-read on (next .later))))

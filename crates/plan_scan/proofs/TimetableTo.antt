@@ -7,12 +7,12 @@ use native.Mathlib.Omega.{arith}
 use lib.ListN.{length, take}
 use lib.Seq.{length-take-le, getD-take}
 use Rattle.timetable.specs.Timetable.{Timetable, sharesOf, rowOf, noRow}
-use Rattle.timetable.specs.Classes.{whole, sum}
+use Rattle.timetable.specs.Classes.{shareTotal, sum}
 use Rattle.timetable.specs.declared.Row.{Row}
 use Rattle.plans.specs.Rides.{Ride, landsBy}
 use Rattle.plans.specs.Sound.{Timely}
 use Rattle.plans.specs.Worth.{Valued}
-use Rattle.plans.specs.Chosen.{inTicks, offInTicks, rowRide, choose, nextOf, least, getOff, stayOn}
+use Rattle.plans.specs.Chosen.{inTicks, offInTicks, rowRide, choose, nextOf, leastOf, getOff, stayOn}
 use Rattle.plans.proofs.FromRow.{scanFrom, chosenFrom, bestAt, nextFrom, offAt, scan-row, best-row}
 use Rattle.plans.proofs.BestRides.{best-boards, chosen-picked, each-best}
 use Rattle.plans.proofs.Order.{Ordered}
@@ -52,7 +52,7 @@ module _ (file : List ℕ) (s : Sailings) (goal : Goal) (end : ℕ) (stand : Fil
   to-fits : (i : ℕ) → i < end → RowFits (s .classes) (tablesIn file s) (rowOf (take end (rowsIn file s)) i)
   to-fits i h = subst (λ (r : Row). RowFits (s .classes) (tablesIn file s) r) (sym (to-row i h)) (stand .row-fits i (omega arith))
 
-  to-shares : (i : ℕ) → i < end → sum (sharesOf (tablesIn file s) (rowOf (take end (rowsIn file s)) i .class)) ≡ whole
+  to-shares : (i : ℕ) → i < end → sum (sharesOf (tablesIn file s) (rowOf (take end (rowsIn file s)) i .class)) ≡ shareTotal
   to-shares i h = stand .shares-fit (rowOf (take end (rowsIn file s)) i .class) (to-fits i h .class) .shares-whole
 
   to-timely : Timely (timetableTo file s end)
@@ -87,12 +87,12 @@ module _ (file : List ℕ) (s : Sailings) (goal : Goal) (end : ℕ) (stand : Fil
 
   pub best-step :
       (i : ℕ) → i < end → bestRow file s goal end i
-      ≡ least (getOff (ownRide file s i) (offInTicks goal (ownRide file s i) (scanIn file s goal (suc i) end .chosen)))
+      ≡ leastOf (getOff (ownRide file s i) (offInTicks goal (ownRide file s i) (scanIn file s goal (suc i) end .chosen)))
       (stayOn i (rowOf (rowsIn file s) i) (nextOf (scanIn file s goal (suc i) end .weighed) (rowOf (rowsIn file s) i .trip)))
   unfolding scanFrom chosenFrom offAt nextFrom
   best-step i h =
       best-row (inTicks goal) (timetableTo file s end) i
-      ∙ ap (λ (r : Row). least (getOff (rowRide (tablesIn file s) i r) (offInTicks goal (rowRide (tablesIn file s) i r) (scanIn file s goal (suc i) end .chosen)))
+      ∙ ap (λ (r : Row). leastOf (getOff (rowRide (tablesIn file s) i r) (offInTicks goal (rowRide (tablesIn file s) i r) (scanIn file s goal (suc i) end .chosen)))
       (stayOn i r (nextOf (scanIn file s goal (suc i) end .weighed) (r .trip)))) (to-row i h)
 
   -- it boards at row i

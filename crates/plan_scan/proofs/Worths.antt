@@ -9,11 +9,12 @@ use native.Mathlib.Omega.{arith}
 use lib.Dec.{eqb}
 use lib.ListN.{length}
 use Rattle.laws.proofs.Tests.{ifb}
-use Rattle.timetable.specs.Timetable.{longest}
-use Rattle.timetable.specs.Classes.{whole, sum}
+use Rattle.timetable.specs.Timetable.{maximumDelay}
+use Rattle.timetable.specs.Classes.{shareTotal, sum}
 use Rattle.plans.specs.declared.Goal.{Goal}
 use Rattle.plans.specs.Rides.{Ride, landsBy}
-use Rattle.plans.specs.Worth.{Valued, ticks, up, weigh, firstOpen, caught, worthOr, arrivalWorth, changeWorth, landWorth}
+use Rattle.timetable.specs.Ticks.{ticksAMinute, quotientUp}
+use Rattle.plans.specs.Worth.{Valued, weigh, firstOpen, caught, worthOr, arrivalWorth, changeWorth, landWorth}
 use Rattle.plans.specs.Chosen.{offInTicks}
 use Rattle.plans.proofs.Open.{found-member}
 use Rattle.plans.proofs.InTicks.{off-is, off-worth}
@@ -34,13 +35,13 @@ sixteenth x l h = let z : (x + 15) / 16 < 256 * l + 1 = div-lt-iff-lt-mul (let z
 mean : (x b : ℕ) → x ≤ 4096 * b → (x + 4095) / 4096 ≤ b
 mean x b h = let z : (x + 4095) / 4096 < b + 1 = div-lt-iff-lt-mul (let z : 0 < 4096 = omega arith in z) .1 (omega arith) in omega arith
 
-pub arrival-most : (r : Ride) → sum (r .shares) ≡ whole → arrivalWorth r ≤ ticks * landsBy r
+pub arrival-most : (r : Ride) → sum (r .shares) ≡ shareTotal → arrivalWorth r ≤ ticksAMinute * landsBy r
 unfolding arrivalWorth
-arrival-most r whole' =
-    let each : weigh (r .shares) 0 (λ v. v) ≤ sum (r .shares) * longest (r .shares) = weigh-most (r .shares) 0 (λ v. v) (longest (r .shares)) (λ m a b. le-pred-of-lt (let z : m < length (r .shares) = omega arith in z)) in
-    let all : sum (r .shares) * longest (r .shares) ≡ 4096 * longest (r .shares) = ap (λ k. k * longest (r .shares)) whole' in
-    let late : up 16 (weigh (r .shares) 0 (λ v. v)) ≤ 256 * longest (r .shares) = sixteenth (weigh (r .shares) 0 (λ v. v)) (longest (r .shares)) (omega arith) in
-    let z : 256 * r .arrives + up 16 (weigh (r .shares) 0 (λ v. v)) ≤ 256 * (r .arrives + longest (r .shares)) = omega arith in z
+arrival-most r whole =
+    let each : weigh (r .shares) 0 (λ v. v) ≤ sum (r .shares) * maximumDelay (r .shares) = weigh-most (r .shares) 0 (λ v. v) (maximumDelay (r .shares)) (λ m a b. le-pred-of-lt (let z : m < length (r .shares) = omega arith in z)) in
+    let all : sum (r .shares) * maximumDelay (r .shares) ≡ 4096 * maximumDelay (r .shares) = ap (λ k. k * maximumDelay (r .shares)) whole in
+    let late : quotientUp 16 (weigh (r .shares) 0 (λ v. v)) ≤ 256 * maximumDelay (r .shares) = sixteenth (weigh (r .shares) 0 (λ v. v)) (maximumDelay (r .shares)) (omega arith) in
+    let z : 256 * r .arrives + quotientUp 16 (weigh (r .shares) 0 (λ v. v)) ≤ 256 * (r .arrives + maximumDelay (r .shares)) = omega arith in z
 
 worth-most : (o : Option Valued) (most : ℕ) → ((v : Valued) → o ≡ some v → v .worth ≤ most) → worthOr 0 o ≤ most
 unfolding worthOr
@@ -52,23 +53,23 @@ unfolding caught
 caught-most behind most each s m = worth-most (firstOpen behind s m) most (λ v e. each v (found-member behind s m e))
 
 pub change-most :
-    (r : Ride) (behind : List Valued) (most : ℕ) → sum (r .shares) ≡ whole → ((v : Valued) → List·Memᴰ v behind → v .worth ≤ most)
+    (r : Ride) (behind : List Valued) (most : ℕ) → sum (r .shares) ≡ shareTotal → ((v : Valued) → List·Memᴰ v behind → v .worth ≤ most)
     → changeWorth r behind ≤ most
 unfolding changeWorth
-change-most r behind most whole' each =
+change-most r behind most whole each =
     let all : weigh (r .shares) (r .arrives) (λ minute. caught behind (r .to) minute) ≤ sum (r .shares) * most =
     weigh-most (r .shares) (r .arrives) (λ minute. caught behind (r .to) minute) most (λ m a b. caught-most behind most each (r .to) m) in
-    let shared : sum (r .shares) * most ≡ 4096 * most = ap (λ k. k * most) whole' in
+    let shared : sum (r .shares) * most ≡ 4096 * most = ap (λ k. k * most) whole in
     mean (weigh (r .shares) (r .arrives) (λ minute. caught behind (r .to) minute)) most (omega arith)
 
 -- getting off, where the ride lands by a minute and no ride behind is worth more than that minute
 pub off-most :
-    (goal : Goal) (r : Ride) (behind : List Valued) (minute : ℕ) → sum (r .shares) ≡ whole → landsBy r ≤ minute
-    → ((v : Valued) → List·Memᴰ v behind → v .worth ≤ ticks * minute) → (w : ℕ) → offInTicks goal r behind ≡ some w → w ≤ ticks * minute
+    (goal : Goal) (r : Ride) (behind : List Valued) (minute : ℕ) → sum (r .shares) ≡ shareTotal → landsBy r ≤ minute
+    → ((v : Valued) → List·Memᴰ v behind → v .worth ≤ ticksAMinute * minute) → (w : ℕ) → offInTicks goal r behind ≡ some w → w ≤ ticksAMinute * minute
 unfolding landWorth
-off-most goal r behind minute whole' lands each w e =
-    subst (λ x. x ≤ ticks * minute) (off-worth goal r behind w (off-is goal r behind w e))
-    (ifb (λ b. cond b (arrivalWorth r) (changeWorth r behind) ≤ ticks * minute) (eqb (r .to) (goal .target))
-    (λ _. let most : arrivalWorth r ≤ 256 * landsBy r = arrival-most r whole' in
+off-most goal r behind minute whole lands each w e =
+    subst (λ x. x ≤ ticksAMinute * minute) (off-worth goal r behind w (off-is goal r behind w e))
+    (ifb (λ b. cond b (arrivalWorth r) (changeWorth r behind) ≤ ticksAMinute * minute) (eqb (r .to) (goal .target))
+    (λ _. let most : arrivalWorth r ≤ 256 * landsBy r = arrival-most r whole in
     let z : arrivalWorth r ≤ 256 * minute = omega arith in z)
-    (λ _. change-most r behind (ticks * minute) whole' each))
+    (λ _. change-most r behind (ticksAMinute * minute) whole each))

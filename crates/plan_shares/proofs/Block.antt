@@ -1,16 +1,17 @@
--- A class's block of cells: its running sums, then its longest and its expected delay. Assumes nothing.
+-- A class's block of cells: its running sums, then its maximum and its expected delay. Assumes nothing.
 use Prim.Native.Nat.{ℕ, suc, pred, _+_, _*_, _/_, _≤_, _<_}
 use mathlib.Core.List.{List}
 use mathlib.Core.Path.{_≡_, sym, ap, subst, _∙_}
 use native.Mathlib.Omega.{arith}
 use lib.ListN.{length, getD, set, length-set}
 use lib.Seq.{getD-set-same, getD-set-other}
-use Rattle.timetable.specs.Timetable.{longest}
-use Rattle.timetable.specs.Classes.{whole, sum}
+use Rattle.timetable.specs.Timetable.{maximumDelay}
+use Rattle.timetable.specs.Classes.{shareTotal, sum}
 use Rattle.file_layout.specs.Decode.{sharesFrom, tableAt, blockEnd}
 use Rattle.numbers.specs.Numbers.{u16At}
 use Rattle.file_layout.proofs.Blocks.{table-has}
-use Rattle.plans.specs.Worth.{up, weigh}
+use Rattle.timetable.specs.Ticks.{quotientUp}
+use Rattle.plans.specs.Worth.{weigh}
 use Rattle.plan_cells.specs.Outside.{SameOutside}
 use Rattle.plan_cells.proofs.Outside.{outside-then, outside-wider, outside-set}
 use Rattle.plan_rows.specs.Reading.{blockCell, BlockHeld}
@@ -33,7 +34,7 @@ module _
         getD-set-other (set cells' (blockCell k + 0) longest-cell) (blockCell k + 1) i expected-cell 0 not-second
         ∙ getD-set-other cells' (blockCell k + 0) i longest-cell 0 not-first
 
-    pub block-held : longest-cell ≡ longest shares → expected-cell ≡ up 16 (weigh shares 0 (λ v. v))
+    pub block-held : longest-cell ≡ maximumDelay shares → expected-cell ≡ quotientUp 16 (weigh shares 0 (λ v. v))
         → BlockHeld (set (set cells' (blockCell k + 0) longest-cell) (blockCell k + 1) expected-cell) k shares
     block-held l e =
         let first : blockCell k ≡ blockCell k + 0 = omega arith in
@@ -95,7 +96,7 @@ module _
     late-of-table = summed-late ∙ ap (λ xs. weigh xs 0 (λ v. v)) same-shares
 
     -- the sum of delay × share is no more than 254 wholes
-    pub late-small : late ≤ 254 * whole
+    pub late-small : late ≤ 254 * shareTotal
     late-small =
         omega (
           arith,

@@ -7,7 +7,7 @@ use native.Mathlib.Nat.{eq-or-lt-of-le, mul-le-mul-left, add-zero, zero-add, add
 use native.Mathlib.Omega.{arith}
 use lib.ListN.{length, getD, take, set}
 use lib.Seq.{getD-set-same, getD-set-other}
-use Rattle.timetable.specs.Classes.{whole, sum}
+use Rattle.timetable.specs.Classes.{shareTotal, sum}
 use Rattle.file_layout.specs.Decode.{sharesFrom}
 use Rattle.numbers.specs.Numbers.{u16At}
 use Rattle.file_layout.proofs.Blocks.{shares-length}
@@ -69,72 +69,72 @@ summed-more cells cells' into shares k total h e s =
     at v (inr l) = getD-set-other cells' (into + k) (into + v) total 0 (λ q. let z : ⊥ = omega arith in z) ∙ s .sums v l
 
 -- after `minute` shares: their sum, the sum of delay × share, and the cells
-pub record SoFar (file : List ℕ) (at longest into : ℕ) (cells cells' : List ℕ) (minute total late : ℕ) : Type 0 where
-  pub not-past : minute ≤ suc longest
-  pub total-sum : total ≡ sum (take minute (sharesFrom file at (suc longest)))
-  pub late-sum : late ≡ weigh (take minute (sharesFrom file at (suc longest))) 0 (λ v. v)
+pub record SoFar (file : List ℕ) (at maximum into : ℕ) (cells cells' : List ℕ) (minute total late : ℕ) : Type 0 where
+  pub not-past : minute ≤ suc maximum
+  pub total-sum : total ≡ sum (take minute (sharesFrom file at (suc maximum)))
+  pub late-sum : late ≡ weigh (take minute (sharesFrom file at (suc maximum))) 0 (λ v. v)
   pub late-small : late ≤ 254 * total
-  pub summed : Summed cells cells' into (sharesFrom file at (suc longest)) minute
+  pub summed : Summed cells cells' into (sharesFrom file at (suc maximum)) minute
 
-pub so-far-none : (file : List ℕ) (at longest into : ℕ) (cells : List ℕ) → SoFar file at longest into cells cells 0 0 0
+pub so-far-none : (file : List ℕ) (at maximum into : ℕ) (cells : List ℕ) → SoFar file at maximum into cells cells 0 0 0
 unfolding sum weigh
-so-far-none file at longest into cells =
+so-far-none file at maximum into cells =
     record {
       not-past = omega arith;
       total-sum = refl;
       late-sum = refl;
       late-small = omega arith;
-      summed = summed-none cells into (sharesFrom file at (suc longest));
+      summed = summed-none cells into (sharesFrom file at (suc maximum));
     }
 
 -- one share more
 module _
     (file : List ℕ)
-    (at longest into : ℕ)
+    (at maximum into : ℕ)
     (cells cells' : List ℕ)
     (minute total late share : ℕ)
-    (so-far : SoFar file at longest into cells cells' minute total late)
-    (inside : minute ≤ longest)
+    (so-far : SoFar file at maximum into cells cells' minute total late)
+    (inside : minute ≤ maximum)
     (here : share ≡ u16At file (at + 2 * minute))
   where
-    below : minute < length (sharesFrom file at (suc longest))
-    below = omega (arith, shares-length file at (suc longest))
+    below : minute < length (sharesFrom file at (suc maximum))
+    below = omega (arith, shares-length file at (suc maximum))
 
-    next-share : getD (sharesFrom file at (suc longest)) minute 0 ≡ share
-    next-share = share-of-file file at (suc longest) minute (omega arith) ∙ sym here
+    next-share : getD (sharesFrom file at (suc maximum)) minute 0 ≡ share
+    next-share = share-of-file file at (suc maximum) minute (omega arith) ∙ sym here
 
-    pub total-next : total + share ≡ sum (take (suc minute) (sharesFrom file at (suc longest)))
+    pub total-next : total + share ≡ sum (take (suc minute) (sharesFrom file at (suc maximum)))
     total-next =
         sym
-        (sum-more (sharesFrom file at (suc longest)) minute below
-        ∙ ap (λ n. sum (take minute (sharesFrom file at (suc longest))) + n) next-share
+        (sum-more (sharesFrom file at (suc maximum)) minute below
+        ∙ ap (λ n. sum (take minute (sharesFrom file at (suc maximum))) + n) next-share
         ∙ ap (λ n. n + share) (sym (so-far .total-sum)))
 
-    pub total-whole : sum (sharesFrom file at (suc longest)) ≤ whole → total + share ≤ whole
-    total-whole w = omega (arith, total-next, sum-part (sharesFrom file at (suc longest)) (suc minute))
+    pub total-whole : sum (sharesFrom file at (suc maximum)) ≤ shareTotal → total + share ≤ shareTotal
+    total-whole w = omega (arith, total-next, sum-part (sharesFrom file at (suc maximum)) (suc minute))
 
-    late-next : late + share * minute ≡ weigh (take (suc minute) (sharesFrom file at (suc longest))) 0 (λ v. v)
+    late-next : late + share * minute ≡ weigh (take (suc minute) (sharesFrom file at (suc maximum))) 0 (λ v. v)
     late-next =
         sym
-        (weigh-more (sharesFrom file at (suc longest)) 0 minute (λ v. v) below
-        ∙ ap (λ n. weigh (take minute (sharesFrom file at (suc longest))) 0 (λ v. v) + getD (sharesFrom file at (suc longest)) minute 0 * n)
+        (weigh-more (sharesFrom file at (suc maximum)) 0 minute (λ v. v) below
+        ∙ ap (λ n. weigh (take minute (sharesFrom file at (suc maximum))) 0 (λ v. v) + getD (sharesFrom file at (suc maximum)) minute 0 * n)
         (zero-add minute)
-        ∙ ap (λ n. weigh (take minute (sharesFrom file at (suc longest))) 0 (λ v. v) + n * minute) next-share
+        ∙ ap (λ n. weigh (take minute (sharesFrom file at (suc maximum))) 0 (λ v. v) + n * minute) next-share
         ∙ ap (λ n. n + share * minute) (sym (so-far .late-sum)))
 
-    pub product-small : longest < 254 → share * minute ≤ 254 * share
+    pub product-small : maximum < 254 → share * minute ≤ 254 * share
     product-small few = omega (arith, mul-le-mul-left {m = minute} {n = 254} share (omega arith))
 
-    pub so-far-more : longest < 254 → into + longest < length cells
-        → SoFar file at longest into cells (set cells' (into + minute) (total + share)) (minute + 1) (total + share) (late + share * minute)
+    pub so-far-more : maximum < 254 → into + maximum < length cells
+        → SoFar file at maximum into cells (set cells' (into + minute) (total + share)) (minute + 1) (total + share) (late + share * minute)
     so-far-more few room =
         let one : suc minute ≡ minute + 1 = omega arith in
         record {
           not-past = omega arith;
-          total-sum = total-next ∙ ap (λ n. sum (take n (sharesFrom file at (suc longest)))) one;
-          late-sum = late-next ∙ ap (λ n. weigh (take n (sharesFrom file at (suc longest))) 0 (λ v. v)) one;
+          total-sum = total-next ∙ ap (λ n. sum (take n (sharesFrom file at (suc maximum)))) one;
+          late-sum = late-next ∙ ap (λ n. weigh (take n (sharesFrom file at (suc maximum))) 0 (λ v. v)) one;
           late-small = omega (arith, product-small few, so-far .late-small);
           summed =
-              subst (Summed cells (set cells' (into + minute) (total + share)) into (sharesFrom file at (suc longest))) one
-              (summed-more cells cells' into (sharesFrom file at (suc longest)) minute (total + share) (omega arith) total-next (so-far .summed));
+              subst (Summed cells (set cells' (into + minute) (total + share)) into (sharesFrom file at (suc maximum))) one
+              (summed-more cells cells' into (sharesFrom file at (suc maximum)) minute (total + share) (omega arith) total-next (so-far .summed));
         }

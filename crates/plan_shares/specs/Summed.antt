@@ -3,16 +3,16 @@ use Prim.Native.Nat.{ℕ, suc, _+_, _*_, _≤_, _<_}
 use mathlib.Core.List.{List}
 use mathlib.Core.Path.{_≡_}
 use lib.ListN.{length, getD, take}
-use Rattle.timetable.specs.Classes.{whole, sum}
+use Rattle.timetable.specs.Classes.{shareTotal, sum}
 use Rattle.file_layout.specs.Decode.{sharesFrom, tableAt, blockEnd}
 use Rattle.plan_cells.specs.Outside.{SameOutside}
 use Rattle.plan_rows.specs.Reading.{SharesFit}
 
--- shares of delays 0 to `longest` stand in the file from byte `at` on, and sum to no more than the whole
-pub record SharesStand (file : List ℕ) (at longest : ℕ) : Type 0 where
-  pub inside : at + 2 * suc longest ≤ length file
-  pub few : longest < 254
-  pub not-more : sum (sharesFrom file at (suc longest)) ≤ whole
+-- shares of delays 0 to `maximum` stand in the file from byte `at` on, and sum to no more than the whole
+pub record SharesStand (file : List ℕ) (at maximum : ℕ) : Type 0 where
+  pub inside : at + 2 * suc maximum ≤ length file
+  pub few : maximum < 254
+  pub not-more : sum (sharesFrom file at (suc maximum)) ≤ shareTotal
 
 -- a class block stands in the file
 pub record BlockStands (file : List ℕ) (at : ℕ) : Type 0 where

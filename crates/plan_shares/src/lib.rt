@@ -35,25 +35,25 @@ fn read_table(file: &[u8], at: usize, k: usize, tables: &mut [u32]) -> usize
     ensures { λ r. ⌜ (r ≡ blockEnd (now (file .entry)) at) × BlockHeld (now (tables .exit)) k (tableAt (now (file .entry)) at)
         × SameOutside (blockCell k) (blockCell (suc k)) (now (tables .entry)) (now (tables .exit)) ⌝ }
 {
-    let longest = u16_at(file, at);
+    let maximum = u16_at(file, at);
     let into = BLOCK * k;
-    let late = read_shares(file, at + 2, longest, into + SHARES, tables);
-    tables[into + MAX_DELAY] = cell(longest);
+    let late = read_shares(file, at + 2, maximum, into + SHARES, tables);
+    tables[into + MAX_DELAY] = cell(maximum);
     tables[into + EXPECTED] = cell((late + 15) / 16);
-    at + 4 + 2 * longest
+    at + 4 + 2 * maximum
 }
 
-// The cumulative shares of delays 0 to `longest`, from byte `at` on, into the cells from `into` on; the
+// The cumulative shares of delays 0 to `maximum`, from byte `at` on, into the cells from `into` on; the
 // sum of delay x share.
-fn read_shares(file: &[u8], at: usize, longest: usize, into: usize, tables: &mut [u32]) -> usize
-    requires { ⌜ SharesStand (now file) at longest × (into + longest < length (now tables)) ⌝ }
-    ensures { λ r. ⌜ (r ≡ weigh (sharesFrom (now (file .entry)) at (suc longest)) 0 (λ v. v))
-        × Summed (now (tables .entry)) (now (tables .exit)) into (sharesFrom (now (file .entry)) at (suc longest)) (suc longest) ⌝ }
+fn read_shares(file: &[u8], at: usize, maximum: usize, into: usize, tables: &mut [u32]) -> usize
+    requires { ⌜ SharesStand (now file) at maximum × (into + maximum < length (now tables)) ⌝ }
+    ensures { λ r. ⌜ (r ≡ weigh (sharesFrom (now (file .entry)) at (suc maximum)) 0 (λ v. v))
+        × Summed (now (tables .entry)) (now (tables .exit)) into (sharesFrom (now (file .entry)) at (suc maximum)) (suc maximum) ⌝ }
 {
     let mut minute = 0;
     let mut total = 0;
     let mut late = 0;
-    while minute <= longest {
+    while minute <= maximum {
         let share = u16_at(file, at + 2 * minute);
         total += share;
         late += share * minute;

@@ -21,7 +21,7 @@ use Rattle.plan_whole.specs.Steps.{KeptBehind}
 pub no-plan-answers : (o : Option Plan) (r : Planned) (plan : List ℕ) → o ≡ none → r ≡ NoPlan 8 0 → Answers o r plan plan
 unfolding answerFor sliceAfter
 no-plan-answers o r plan e told =
-    subst (λ (x : Option Plan). Answers x r plan plan) (sym e) (record { answer = told; written = refl })
+    subst (λ (x : Option Plan). Answers x r plan plan) (sym e) (record { answer = told; slice-left = refl })
 
 -- a plan by its numbers
 pub plan-answers : (o : Option Plan) (p : Plan) (rides expected latest bound : ℕ) (plan after : List ℕ) → o ≡ some p → rides ≡ length (p .rides)
@@ -34,7 +34,7 @@ plan-answers o p rides expected latest bound plan after e a b c d w =
       answer =
           ap (λ n. AsPlan n expected latest bound) a ∙ ap (λ n. AsPlan (length (p .rides)) n latest bound) b
           ∙ ap (λ n. AsPlan (length (p .rides)) (p .expected) n bound) c ∙ ap (AsPlan (length (p .rides)) (p .expected) (p .latest)) d;
-      written = w;
+      slice-left = w;
     })
 
 -- work cleared where only its first cells were used

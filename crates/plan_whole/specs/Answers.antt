@@ -22,4 +22,4 @@ sliceAfter (some p) plan = over (written (p .rides)) plan
 
 pub record Answers (o : Option Plan) (r : Planned) (plan plan' : List ℕ) : Type 0 where
   pub answer : r ≡ answerFor o
-  pub written : plan' ≡ sliceAfter o plan
+  pub slice-left : plan' ≡ sliceAfter o plan

@@ -71,7 +71,7 @@ module _ (f : Format) (file : List ℕ) (q : Query) (work plan : List ℕ) where
       let o = answered-outcome e in (
         answers .answer ∙ sym (ap (λ (x : PlanOutcome). x .answer) o),
         clear ∙ sym (ap (λ (x : PlanOutcome). x .work) o),
-        answers .written ∙ sym (ap (λ (x : PlanOutcome). x .plan) o),
+        answers .slice-left ∙ sym (ap (λ (x : PlanOutcome). x .plan) o),
       )
 
 -- an answer and the slice that it leaves, by the outcome that they are

@@ -5,14 +5,14 @@ use mathlib.Core.List.{List, [], _∷_, _++_}
 use mathlib.Core.Path.{_≡_, refl}
 use lib.ListN.{take, replicate}
 use Rattle.timetable.specs.Classes.{sum, sharesRule}
-use Rattle.timetable.specs.Rows.{rowsVerdict}
+use Rattle.timetable.specs.Rows.{ownRule, departureRule, lastOfTrip, follows, tripRule, rowVerdict, rowsVerdict}
 use Rattle.numbers.specs.Numbers.{u16At, u32At}
 use Rattle.file_layout.specs.declared.Trailer.{Trailer}
 use Rattle.file_layout.specs.Format.{versionOne}
-use Rattle.file_layout.specs.Decode.{decode, trailerOf, trailerAt, trailerStart, rowsFrom, tablesFrom, tableAt, sharesFrom, blockEnd, tablesEnd}
+use Rattle.file_layout.specs.Decode.{decode, trailerOf, trailerAt, trailerStart, rowsFrom, rowAt, tablesFrom, tableAt, sharesFrom, blockEnd, tablesEnd}
 use Rattle.file_layout.specs.Check.{fileVerdict, sectionsVerdict, lengthRule, trailerRule, classVerdict, classesVerdict, joined, sectionsJoin}
 use Rattle.query.specs.Query.{queryOf, journeyRule, codeRule, queryRule}
-use Rattle.plans.specs.Chosen.{scan, scanned, worthOf}
+use Rattle.plans.specs.Chosen.{offInMinutes, nextOf, getOff, stayOn, leastOf, firstAt, leads, others, choose, bestOf, scan, scanned, worthOf}
 use Rattle.plans.specs.Plan.{earliest, planned, planBefore}
 use Rattle.plans.specs.Worth.{firstOpen}
 use Rattle.plan_whole.specs.Answers.{answerFor, sliceAfter}
@@ -44,6 +44,23 @@ stops-line = (refl, refl)
 -- the shortest sound file: two stops, no row, one class of M 0
 abbrev shortest : List ℕ
 shortest = 0 ∷ 0 ∷ 0 ∷ 16 ∷ 1 ∷ 0 ∷ 2 ∷ 0 ∷ 0 ∷ 0 ∷ 1 ∷ 0 ∷ 4 ∷ 0 ∷ 0 ∷ 0 ∷ 0 ∷ 0 ∷ 0 ∷ 0 ∷ []
+
+-- one row more: stop 0 to stop 1 at minute 0
+abbrev oneRow : List ℕ
+oneRow =
+    0 ∷ 0 ∷ 1 ∷ 0 ∷ 0 ∷ 0 ∷ 1 ∷ 0 ∷ 0 ∷ 0 ∷ 0 ∷ 0
+    ∷ 0 ∷ 0 ∷ 0 ∷ 16 ∷ 1 ∷ 0 ∷ 2 ∷ 0 ∷ 1 ∷ 0 ∷ 1 ∷ 0 ∷ 0 ∷ 0 ∷ 0 ∷ 0 ∷ 12 ∷ 0 ∷ 0 ∷ 0 ∷ []
+
+-- n = 1: the first 2,504 work numbers are 0 and the rest unchanged, though the planning had no use for them
+pub four-a-row : (planOutcome versionOne oneRow (queryOf 1 0 0 0) (replicate 2506 7) (5 ∷ 5 ∷ 5 ∷ [])
+    ≡ refusedPlan 8 0 (replicate 2504 0 ++ (7 ∷ 7 ∷ [])) (5 ∷ 5 ∷ 5 ∷ []))
+    × (earliestOutcome versionOne oneRow (queryOf 1 0 0 0) (replicate 2506 7) ≡ refusedEarliest 8 0 (replicate 2504 0 ++ (7 ∷ 7 ∷ [])))
+unfolding planOutcome earliestOutcome admission callVerdict enough queryRule journeyRule codeRule fileVerdict sectionsVerdict lengthRule trailerRule
+    classVerdict classesVerdict joined sectionsJoin decode trailerOf trailerAt trailerStart rowsFrom rowAt tablesFrom tableAt sharesFrom blockEnd
+    tablesEnd u16At u32At sum sharesRule rowsVerdict rowVerdict ownRule departureRule tripRule follows lastOfTrip planAnswered answerFor sliceAfter
+    planned planBefore earliestAnswered earliest worthOf firstOpen scanned scan bestOf choose nextOf getOff stayOn leastOf offInMinutes firstAt leads
+    others cleared
+four-a-row = (refl, refl)
 
 -- n = 0: refusal 8; the first 2,500 work numbers are 0 and the rest unchanged, the plan slice not at all. 1 before 6 before 7, and no slice changes
 pub in-order :

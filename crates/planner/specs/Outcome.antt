@@ -64,7 +64,7 @@ earliestOutcome f file q work =
 
 -- each case by document 01's number, place and values
 unfoldable pub planAnswer : Planned → Answer
-planAnswer (AsPlan rides expected last bound) = record { number = 0; place = 0; values = rides ∷ expected ∷ last ∷ bound ∷ [] }
+planAnswer (AsPlan rides expected latest bound) = record { number = 0; place = 0; values = rides ∷ expected ∷ latest ∷ bound ∷ [] }
 planAnswer (NoPlan number place) = record { number = number; place = place; values = [] }
 
 unfoldable pub earliestAnswer : Earliest → Answer

@@ -10,7 +10,7 @@ use borrow.Author.Tests.{ltb-true, ltb-false}
 use Rattle.laws.proofs.Options.{absent, same-thing}
 use Rattle.laws.proofs.Tests.{ifb}
 use Rattle.plans.specs.Worth.{Valued}
-use Rattle.plans.specs.Chosen.{least}
+use Rattle.plans.specs.Chosen.{leastOf}
 
 pub data AtMost : Option Valued → ℕ → Type 0 where
   at-most : {v : Valued} {w : ℕ} → v .worth ≤ w → AtMost (some v) w
@@ -28,15 +28,15 @@ pub worth-at-most : {o : Option Valued} {w : ℕ} → AtMost o w → (v : Valued
 worth-at-most {w = w} a v e = found-at-most (v .worth ≤ w) a (λ u q h. subst (λ (x : Valued). x .worth ≤ w) (same-thing (sym q ∙ e)) h)
 
 -- the least of two is at most each, and is one of them
-pub least-left : {off : Option Valued} (on : Option Valued) {w : ℕ} → AtMost off w → AtMost (least off on) w
-unfolding least
+pub least-left : {off : Option Valued} (on : Option Valued) {w : ℕ} → AtMost off w → AtMost (leastOf off on) w
+unfolding leastOf
 least-left none (at-most h) = at-most h
 least-left (some on) (at-most {v = off} {w} h) =
     ifb (λ b. AtMost (cond b (some off) (some on)) w) (ltb (off .worth) (on .worth)) (λ _. at-most h)
     (λ e. at-most (let g : on .worth ≤ off .worth = ltb-false (off .worth) (on .worth) e in omega arith))
 
-pub least-right : (off : Option Valued) {on : Option Valued} {w : ℕ} → AtMost on w → AtMost (least off on) w
-unfolding least
+pub least-right : (off : Option Valued) {on : Option Valued} {w : ℕ} → AtMost on w → AtMost (leastOf off on) w
+unfolding leastOf
 least-right none (at-most h) = at-most h
 least-right (some off) (at-most {v = on} {w} h) =
     ifb (λ b. AtMost (cond b (some off) (some on)) w) (ltb (off .worth) (on .worth))
@@ -44,9 +44,9 @@ least-right (some off) (at-most {v = on} {w} h) =
 
 -- getting off only where staying on is dearer
 pub least-either :
-    (off on : Option Valued) {v : Valued} → least off on ≡ some v
+    (off on : Option Valued) {v : Valued} → leastOf off on ≡ some v
     → ((off ≡ some v) × ((u : Valued) → on ≡ some u → v .worth < u .worth)) ⊎ (on ≡ some v)
-unfolding least
+unfolding leastOf
 least-either none on e = inr e
 least-either (some off) none e = inl (e, λ u q. absent q)
 least-either (some off) (some on) {v} e =

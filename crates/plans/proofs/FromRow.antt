@@ -11,7 +11,7 @@ use lib.ListN.{length, getD, drop, drop-of-length-le}
 use lib.Seq.{drop-cons}
 use Rattle.timetable.specs.Timetable.{Timetable, rowOf, noRow}
 use Rattle.plans.specs.Worth.{Valued}
-use Rattle.plans.specs.Chosen.{Aim, Weighed, Scan, scan, scanned, bestOf, choose, nextOf, least, getOff, stayOn, rowRide}
+use Rattle.plans.specs.Chosen.{Aim, Weighed, Scan, scan, scanned, bestOf, choose, nextOf, leastOf, getOff, stayOn, rowRide}
 
 module _ (aim : Aim) (t : Timetable) where
   unfoldable pub scanFrom : ℕ → Scan
@@ -69,7 +69,7 @@ module _ (aim : Aim) (t : Timetable) where
 
   pub best-row :
       (i : ℕ) → bestAt i
-      ≡ least (getOff (rowRide (t .tables) i (rowOf (t .rows) i)) (offAt i))
+      ≡ leastOf (getOff (rowRide (t .tables) i (rowOf (t .rows) i)) (offAt i))
       (stayOn i (rowOf (t .rows) i) (nextFrom (suc i) (rowOf (t .rows) i .trip)))
   unfolding bestAt bestOf offAt nextFrom chosenFrom
   best-row i = refl

@@ -8,7 +8,7 @@ use mathlib.Core.Option.{some}
 use mathlib.Core.Path.{_≡_, refl, sym, ap, _∙_}
 use lib.ListN.{length}
 use Rattle.laws.proofs.Tests.{ifb}
-use Rattle.timetable.specs.Timetable.{longest}
+use Rattle.timetable.specs.Timetable.{maximumDelay}
 use Rattle.plans.specs.Rides.{Ride, landsBy}
 use Rattle.plans.specs.Worth.{Valued, ridesOf, firstOpen, landWorth, valued}
 use Rattle.plans.specs.Chosen.{others}
@@ -19,7 +19,7 @@ use Rattle.plans.proofs.Weighing.{land-same}
 -- a ride takes time, and has a delay
 pub record Moves (r : Ride) : Type 0 where
   pub forward : r .departs < r .arrives
-  pub delays : length (r .shares) ≡ suc (longest (r .shares))
+  pub delays : length (r .shares) ≡ suc (maximumDelay (r .shares))
 
 pub data OwnWorth (target : ℕ) : List Valued → Type 0 where
   nobody : OwnWorth target []

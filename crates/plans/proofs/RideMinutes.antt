@@ -7,8 +7,8 @@ use mathlib.Core.List.{List, [], _∷_}
 use mathlib.Core.Logic.{_≢_}
 use mathlib.Core.Path.{_≡_, sym, ap, subst, _∙_}
 use lib.ListN.{length}
-use Rattle.timetable.specs.Timetable.{Timetable, rowOf, longest}
-use Rattle.timetable.specs.Classes.{sum, whole}
+use Rattle.timetable.specs.Timetable.{Timetable, rowOf, maximumDelay}
+use Rattle.timetable.specs.Classes.{sum, shareTotal}
 use Rattle.plans.specs.Sound.{Timely}
 use Rattle.plans.specs.Rides.{Ride, IsRide, boards}
 use Rattle.plans.specs.Worth.{firstOpen}
@@ -20,16 +20,16 @@ use Rattle.plans.proofs.BestRides.{best-boards}
 use Rattle.plans.proofs.FirstLeast.{first-least}
 
 -- shares that sum to something are not empty
-pub shares-stand : (shares : List ℕ) → sum shares ≡ whole → length shares ≡ suc (longest shares)
+pub shares-stand : (shares : List ℕ) → sum shares ≡ shareTotal → length shares ≡ suc (maximumDelay shares)
 unfolding sum
 shares-stand [] e = absurd (let z : ⊥ = omega arith in z)
 shares-stand (p ∷ shares) e = let z : suc (length shares) ≡ suc (pred (suc (length shares))) = omega arith in z
 
 module _ (t : Timetable) (timely : Timely t) where
-  pub ride-shares : (r : Ride) → IsRide t r → sum (r .shares) ≡ whole
+  pub ride-shares : (r : Ride) → IsRide t r → sum (r .shares) ≡ shareTotal
   ride-shares r is = ap (λ (x : Ride). sum (x .shares)) (is .as-timed) ∙ timely .shared (r .leave) (is .inside)
 
-  pub ride-delays : (r : Ride) → IsRide t r → length (r .shares) ≡ suc (longest (r .shares))
+  pub ride-delays : (r : Ride) → IsRide t r → length (r .shares) ≡ suc (maximumDelay (r .shares))
   ride-delays r is = shares-stand (r .shares) (ride-shares r is)
 
   pub leaves-before : (r : Ride) → IsRide t r → rowOf (t .rows) (r .leave) .departure < r .arrives

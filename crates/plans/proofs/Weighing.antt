@@ -7,10 +7,11 @@ use mathlib.Core.List.{List, [], _∷_, _++_}
 use mathlib.Core.Path.{_≡_, refl, ap, ap₂}
 use lib.Dec.{eqb}
 use lib.ListN.{length}
-use Rattle.timetable.specs.Timetable.{longest}
-use Rattle.timetable.specs.Classes.{sum, whole}
+use Rattle.timetable.specs.Timetable.{maximumDelay}
+use Rattle.timetable.specs.Classes.{sum, shareTotal}
 use Rattle.plans.specs.Rides.{Ride, landsBy}
-use Rattle.plans.specs.Worth.{Valued, weigh, up, firstOpen, caught, worthOr, changeWorth, arrivalWorth, landWorth}
+use Rattle.timetable.specs.Ticks.{quotientUp}
+use Rattle.plans.specs.Worth.{Valued, weigh, firstOpen, caught, worthOr, changeWorth, arrivalWorth, landWorth}
 
 pub sum-append : (xs ys : List ℕ) → sum (xs ++ ys) ≡ sum xs + sum ys
 unfolding sum
@@ -31,14 +32,14 @@ weigh-less (p ∷ shares) a f g less =
 
 -- what is caught at a minute, and so what a change is worth
 pub change-same :
-    (r : Ride) (vs us : List Valued) → length (r .shares) ≡ suc (longest (r .shares))
+    (r : Ride) (vs us : List Valued) → length (r .shares) ≡ suc (maximumDelay (r .shares))
     → ((m : ℕ) → r .arrives ≤ m → m ≤ landsBy r → firstOpen vs (r .to) m ≡ firstOpen us (r .to) m) → changeWorth r vs ≡ changeWorth r us
 unfolding changeWorth caught
 change-same r vs us stand same =
-    ap (up whole) (weigh-same (r .shares) (r .arrives) _ _ (λ m h k. ap (worthOr 0) (same m h (let z : m ≤ landsBy r = omega arith in z))))
+    ap (quotientUp shareTotal) (weigh-same (r .shares) (r .arrives) _ _ (λ m h k. ap (worthOr 0) (same m h (let z : m ≤ landsBy r = omega arith in z))))
 
 pub change-less :
-    (r : Ride) (vs us : List Valued) → length (r .shares) ≡ suc (longest (r .shares))
+    (r : Ride) (vs us : List Valued) → length (r .shares) ≡ suc (maximumDelay (r .shares))
     → ((m : ℕ) → r .arrives ≤ m → m ≤ landsBy r → caught vs (r .to) m ≤ caught us (r .to) m) → changeWorth r vs ≤ changeWorth r us
 unfolding changeWorth
 change-less r vs us stand less = omega (
@@ -48,7 +49,7 @@ change-less r vs us stand less = omega (
 )
 
 pub land-same :
-    (target : ℕ) (r : Ride) (vs us : List Valued) → length (r .shares) ≡ suc (longest (r .shares))
+    (target : ℕ) (r : Ride) (vs us : List Valued) → length (r .shares) ≡ suc (maximumDelay (r .shares))
     → ((m : ℕ) → r .arrives ≤ m → m ≤ landsBy r → firstOpen vs (r .to) m ≡ firstOpen us (r .to) m) → landWorth target r vs ≡ landWorth target r us
 unfolding landWorth
 land-same target r vs us stand same = ap (λ x. cond (eqb (r .to) target) (arrivalWorth r) x) (change-same r vs us stand same)

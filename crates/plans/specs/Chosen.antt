@@ -89,10 +89,10 @@ stayOn i r none = none
 stayOn i r (some v) = some (record { ride = boardedAt i r (v .ride); worth = v .worth })
 
 -- A row's worth is the least over getting off and staying on; the ride stays aboard while the next row's worth equals the boarded row's
-unfoldable pub least : Option Valued → Option Valued → Option Valued
-least none on = on
-least (some off) none = some off
-least (some off) (some on) = cond (ltb (off .worth) (on .worth)) (some off) (some on)
+unfoldable pub leastOf : Option Valued → Option Valued → Option Valued
+leastOf none on = on
+leastOf (some off) none = some off
+leastOf (some off) (some on) = cond (ltb (off .worth) (on .worth)) (some off) (some on)
 
 unfoldable pub firstAt : List Valued → ℕ → Option Valued
 firstAt [] stop = none
@@ -124,7 +124,7 @@ pub record Scan : Type 0 where
 
 unfoldable pub bestOf : Aim → List (List ℕ) → ℕ → Row → Scan → Option Valued
 bestOf aim tables i r later =
-    least (getOff (rowRide tables i r) (aim .off (rowRide tables i r) (later .chosen)))
+    leastOf (getOff (rowRide tables i r) (aim .off (rowRide tables i r) (later .chosen)))
     (stayOn i r (nextOf (later .weighed) (r .trip)))
 
 unfoldable pub scan : Aim → List (List ℕ) → ℕ → List Row → Scan

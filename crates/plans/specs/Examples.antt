@@ -32,8 +32,8 @@ told (some p) = length (p .rides) ∷ p .expected ∷ p .latest ∷ p .bound ∷
 abbrev pub query : (source target minute code : ℕ) → Query
 query source target minute code = queryOf source target minute code
 
-abbrev pub planOf : Timetable → Query → List ℕ
-planOf t q = told (planned t q)
+abbrev pub planTold : Timetable → Query → List ℕ
+planTold t q = told (planned t q)
 
 abbrev pub row : (board land departure arrival trip class : ℕ) → Row
 row board land departure arrival trip class =

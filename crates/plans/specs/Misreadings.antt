@@ -2,7 +2,7 @@
 -- must-fail/ make each reading in turn, and are refused here.
 use mathlib.Core.List.{List, [], _∷_}
 use Rattle.timetable.specs.Timetable.{Timetable}
-use Rattle.plans.specs.Examples.{Case, query, planOf, row, onTime, upToTen, timetable, wWith, w, wTwice, wPlan}
+use Rattle.plans.specs.Examples.{Case, query, planTold, row, onTime, upToTen, timetable, wWith, w, wTwice, wPlan}
 
 -- a late boat with an early planned arrival, and one on time
 abbrev pub lateOrOnTime : Timetable
@@ -23,34 +23,34 @@ neverOnTime = timetable (row 0 1 10 20 0 1 ∷ row 1 2 20 31 1 0 ∷ row 1 2 30 
 unfoldable pub misreadings : List Case
 misreadings =
     -- a boat that leaves at the landing minute treated as missed: no plan
-    record { answered = planOf (wWith 640) (query 0 2 590 0); expected = wPlan 0 }
+    record { answered = planTold (wWith 640) (query 0 2 590 0); expected = wPlan 0 }
     -- one minute earlier as caught: a plan
-    ∷ record { answered = planOf (wWith 639) (query 0 2 590 0); expected = [] }
+    ∷ record { answered = planTold (wWith 639) (query 0 2 590 0); expected = [] }
     -- E by planned arrival, 20 for 25: bounding too early, no plan within it
     ∷ record {
-      answered = planOf lateOrOnTime (query 0 2 0 4);
+      answered = planTold lateOrOnTime (query 0 2 0 4);
       expected = 1 ∷ 6400 ∷ 25 ∷ 25 ∷ 1 ∷ 1 ∷ 6400 ∷ [];
     }
     -- the next ride after a safe one at exactly a + M added
     ∷ record {
-      answered = planOf safeAndNext (query 0 2 590 0);
+      answered = planTold safeAndNext (query 0 2 590 0);
       expected = 2 ∷ 168960 ∷ 660 ∷ 0 ∷ 0 ∷ 0 ∷ 168960 ∷ 1 ∷ 1 ∷ 168960 ∷ [];
     }
     -- each product rounded, not the sum
     ∷ record {
-      answered = planOf twoProducts (query 0 2 0 0);
+      answered = planTold twoProducts (query 0 2 0 0);
       expected = 3 ∷ 7939 ∷ 43 ∷ 0 ∷ 0 ∷ 0 ∷ 7939 ∷ 1 ∷ 1 ∷ 7937 ∷ 2 ∷ 2 ∷ 10497 ∷ [];
     }
     -- a ride caught only at delays of share 0 left out
     ∷ record {
-      answered = planOf neverOnTime (query 0 2 0 0);
+      answered = planTold neverOnTime (query 0 2 0 0);
       expected = 3 ∷ 10496 ∷ 41 ∷ 0 ∷ 0 ∷ 0 ∷ 10496 ∷ 1 ∷ 1 ∷ 7936 ∷ 2 ∷ 2 ∷ 10496 ∷ [];
     }
     -- the lowest row deciding among equals
     ∷ record {
-      answered = planOf wTwice (query 0 2 590 0);
+      answered = planTold wTwice (query 0 2 590 0);
       expected = 3 ∷ 172800 ∷ 690 ∷ 0 ∷ 0 ∷ 0 ∷ 172800 ∷ 1 ∷ 1 ∷ 168960 ∷ 4 ∷ 4 ∷ 176640 ∷ [];
     }
     -- the bound rounded up, 715 for 714: T 591, E 690 and q 5 give 591 + 123 and three quarters
-    ∷ record { answered = planOf w (query 0 2 591 5); expected = wPlan 714 }
+    ∷ record { answered = planTold w (query 0 2 591 5); expected = wPlan 714 }
     ∷ []

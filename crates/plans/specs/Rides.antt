@@ -5,7 +5,7 @@ use mathlib.Core.List.{List}
 use mathlib.Core.Path.{_≡_}
 use lib.Dec.{leb, eqb}
 use lib.ListN.{length}
-use Rattle.timetable.specs.Timetable.{Timetable, sharesOf, longest, rowOf}
+use Rattle.timetable.specs.Timetable.{Timetable, sharesOf, maximumDelay, rowOf}
 
 -- the rows where it boards and leaves; from which stop, when, to which stop, when; the shares of its delays
 pub record Ride : Type 0 where
@@ -39,7 +39,7 @@ pub record IsRide (t : Timetable) (r : Ride) : Type 0 where
 
 -- a + M, the last minute at which the ride lands
 abbrev pub landsBy : Ride → ℕ
-landsBy r = r .arrives + longest (r .shares)
+landsBy r = r .arrives + maximumDelay (r .shares)
 
 -- one who stands at `stop` at `minute` can board what leaves `from` at `departs`: an equal minute is caught
 abbrev pub opens : (from departs stop minute : ℕ) → Bool

@@ -3,7 +3,7 @@ use Prim.Native.Nat.{ℕ, _≤_, _<_}
 use mathlib.Core.Path.{_≡_}
 use lib.ListN.{length}
 use Rattle.timetable.specs.Timetable.{Timetable, sharesOf, rowOf}
-use Rattle.timetable.specs.Classes.{whole, sum}
+use Rattle.timetable.specs.Classes.{shareTotal, sum}
 
 pub record Timely (t : Timetable) : Type 0 where
   -- Departures never fall from row to row
@@ -11,4 +11,4 @@ pub record Timely (t : Timetable) : Type 0 where
   -- departure is less than arrival
   pub forward : (i : ℕ) → i < length (t .rows) → rowOf (t .rows) i .departure < rowOf (t .rows) i .arrival
   -- Shares sum to 4,096
-  pub shared : (i : ℕ) → i < length (t .rows) → sum (sharesOf (t .tables) (rowOf (t .rows) i .class)) ≡ whole
+  pub shared : (i : ℕ) → i < length (t .rows) → sum (sharesOf (t .tables) (rowOf (t .rows) i .class)) ≡ shareTotal

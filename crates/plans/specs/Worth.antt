@@ -1,19 +1,12 @@
 -- Document 01, "Expected arrival in ticks": what a ride is worth, given what the rides behind it are worth.
-use Prim.Native.Nat.{ℕ, suc, pred, _+_, _*_, _/_}
+use Prim.Native.Nat.{ℕ, suc, _+_, _*_}
 use mathlib.Core.Bool.{cond}
 use mathlib.Core.List.{List, [], _∷_, map}
 use mathlib.Core.Option.{Option, none, some}
 use lib.Dec.{eqb}
-use Rattle.timetable.specs.Classes.{whole}
+use Rattle.timetable.specs.Classes.{shareTotal}
+use Rattle.timetable.specs.Ticks.{ticksAMinute, quotientUp}
 use Rattle.plans.specs.Rides.{Ride, boards}
-
--- A tick is 1/256 minute
-abbrev pub ticks : ℕ
-ticks = 256
-
--- n / d, rounded up
-abbrev pub up : ℕ → ℕ → ℕ
-up d n = (n + pred d) / d
 
 -- the sum over delays v of share(v) × f (minute + v)
 unfoldable pub weigh : List ℕ → ℕ → (ℕ → ℕ) → ℕ
@@ -44,11 +37,11 @@ caught vs stop minute = worthOr 0 (firstOpen vs stop minute)
 
 -- A ride ending at the target is worth 256a plus (sum of delay × share)/16, rounded up
 unfoldable pub arrivalWorth : Ride → ℕ
-arrivalWorth r = ticks * r .arrives + up 16 (weigh (r .shares) 0 (λ v. v))
+arrivalWorth r = ticksAMinute * r .arrives + quotientUp 16 (weigh (r .shares) 0 (λ v. v))
 
 -- Any other ride is worth (sum over v of share(v) × worth of the ride caught after v)/4,096, rounded up once
 unfoldable pub changeWorth : Ride → List Valued → ℕ
-changeWorth r behind = up whole (weigh (r .shares) (r .arrives) (λ minute. caught behind (r .to) minute))
+changeWorth r behind = quotientUp shareTotal (weigh (r .shares) (r .arrives) (λ minute. caught behind (r .to) minute))
 
 unfoldable pub landWorth : ℕ → Ride → List Valued → ℕ
 landWorth target r behind = cond (eqb (r .to) target) (arrivalWorth r) (changeWorth r behind)

@@ -29,14 +29,14 @@ use Rattle.plan_slice.proofs.ReadBack.{read-back}
 use Rattle.planner.specs.Admission.{noRoom, admission}
 use Rattle.planner.proofs.Admitting.{refused-number}
 use Rattle.sayurimpak.specs.Desk.{DeskOutcome, refused, planBytes, deskAnswered, byteRoom, deskOutcome}
-use Rattle.sayurimpak.specs.Host.{numbersIn}
+use Rattle.sayurimpak.specs.Host.{numbersIn, NumbersFit}
 use Rattle.sayurimpak.proofs.sayurimpak_plan.Kinds as kinds
 use Rattle.sayurimpak.proofs.sayurimpak_plan.Reads as reads
 use Rattle.promises.specs.Returned.{Booked}
 use Rattle.promises.proofs.Admitted.{is-timely, is-sound, no-plan-exactly}
 use Rattle.promises.proofs.Minutes.{plan-minutes}
 use Rattle.promises.proofs.PlanCall.{demanded-rides}
-use Rattle.promises.proofs.HostReads.{NumbersFit, host-reads, length-bytes, few-rides}
+use Rattle.promises.proofs.HostReads.{host-reads, length-bytes, few-rides}
 
 module _ (file : List ℕ) (q : Query) (out : List ℕ) where
   -- refusals 1 to 7, room below 12 bytes a row being 7

@@ -11,13 +11,7 @@ use Rattle.plans.specs.Worth.{Valued}
 use Rattle.demands.specs.SafePlan.{ByBoardingRow, no-rides, before-all}
 use Rattle.plan_slice.specs.Slice.{written}
 use Rattle.sayurimpak.specs.Desk.{rideBytes, planBytes}
-use Rattle.sayurimpak.specs.Host.{numbersIn}
-
--- a ride's numbers are u32
-pub record NumbersFit (v : Valued) : Type 0 where
-  pub board : v .ride .board < 4294967296
-  pub leave : v .ride .leave < 4294967296
-  pub worth : v .worth < 4294967296
+use Rattle.sayurimpak.specs.Host.{numbersIn, NumbersFit}
 
 pub host-reads : (rides : List Valued) (rest : List ℕ) → ((v : Valued) → List·Memᴰ v rides → NumbersFit v)
     → numbersIn (3 * length rides) (planBytes rides ++ rest) ≡ written rides

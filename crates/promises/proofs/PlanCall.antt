@@ -38,7 +38,7 @@ use Rattle.planner.proofs.plan.Reads as reads
 use Rattle.promises.proofs.Admitted.{is-timely, no-plan-exactly}
 
 -- a refusal is no plan, and two equal plan answers have equal numbers
-pub refused-not-plan : {number place rides expected last bound : ℕ} → NoPlan number place ≡ AsPlan rides expected last bound → ⊥
+pub refused-not-plan : {number place rides expected latest bound : ℕ} → NoPlan number place ≡ AsPlan rides expected latest bound → ⊥
 refused-not-plan e = let z : _≡_ {A = ℕ} 0 1 = cc in let y : ⊥ = omega arith in y
 
 same-plan : {a b c d a' b' c' d' : ℕ} → AsPlan a b c d ≡ AsPlan a' b' c' d' → (a ≡ a') × (b ≡ b') × (c ≡ c') × (d ≡ d')
@@ -51,7 +51,7 @@ eight-is none e = refl
 eight-is (some p) e = absurd (refused-not-plan (sym e))
 
 -- each ride of a plan demanded is a ride
-pub demanded-rides : {t : Timetable} {q : Query} {rides : List Valued} {expected last bound : ℕ} → Demanded t q rides expected last bound
+pub demanded-rides : {t : Timetable} {q : Query} {rides : List Valued} {expected latest bound : ℕ} → Demanded t q rides expected latest bound
     → (v : Valued) → List·Memᴰ v rides → IsRide t (v .ride)
 demanded-rides d v m = d .safe .are-rides (v .ride) (mapped (λ (u : Valued). u .ride) m)
 
@@ -68,17 +68,17 @@ module _ (file : List ℕ) (q : Query) (work plan : List ℕ) where
   answered e = ap (λ (o : PlanOutcome). o .answer) (answered-outcome versionOne file q work plan e)
 
   -- a plan that is answered is the one of the definitions, and the call was admitted
-  pub record Given (rides expected last bound : ℕ) : Type 0 where
+  pub record Given (rides expected latest bound : ℕ) : Type 0 where
     pub admitted : verdict ≡ fine
     pub the-plan : Plan
     pub is-planned : planned (decode versionOne file) q ≡ some the-plan
-    pub numbers : (length (the-plan .rides) ≡ rides) × (the-plan .expected ≡ expected) × (the-plan .latest ≡ last) × (the-plan .bound ≡ bound)
+    pub numbers : (length (the-plan .rides) ≡ rides) × (the-plan .expected ≡ expected) × (the-plan .latest ≡ latest) × (the-plan .bound ≡ bound)
 
-  pub given-plan : (rides expected last bound : ℕ) → outcome .answer ≡ AsPlan rides expected last bound → Given rides expected last bound
+  pub given-plan : (rides expected latest bound : ℕ) → outcome .answer ≡ AsPlan rides expected latest bound → Given rides expected latest bound
   unfolding answerFor
-  given-plan rides expected last bound told = by verdict refl (planned (decode versionOne file) q) refl
+  given-plan rides expected latest bound told = by verdict refl (planned (decode versionOne file) q) refl
     where
-      by : (v : Verdict) → verdict ≡ v → (o : Option Plan) → planned (decode versionOne file) q ≡ o → Given rides expected last bound
+      by : (v : Verdict) → verdict ≡ v → (o : Option Plan) → planned (decode versionOne file) q ≡ o → Given rides expected latest bound
       by (fault number place) e o is =
           absurd (refused-not-plan
           (sym (ap (λ (x : PlanOutcome). x .answer) (refused-outcome versionOne file q work plan number place e)) ∙ told))
@@ -93,11 +93,11 @@ module _ (file : List ℕ) (q : Query) (work plan : List ℕ) where
       ap (λ (o : PlanOutcome). o .plan) (answered-outcome versionOne file q work plan e) ∙ ap (λ (o : Option Plan). sliceAfter o plan) is
 
   -- the rides read back from the slice's first numbers are the plan demanded, and the numbers beyond are as they were
-  pub reads-back : (rides expected last bound : ℕ) → Given rides expected last bound
-      → Demanded (decode versionOne file) q (ridesIn (decode versionOne file) (take (3 * rides) (outcome .plan))) expected last bound
+  pub reads-back : (rides expected latest bound : ℕ) → Given rides expected latest bound
+      → Demanded (decode versionOne file) q (ridesIn (decode versionOne file) (take (3 * rides) (outcome .plan))) expected latest bound
       × (length (ridesIn (decode versionOne file) (take (3 * rides) (outcome .plan))) ≡ rides)
       × (drop (3 * rides) (outcome .plan) ≡ drop (3 * rides) plan)
-  reads-back rides expected last bound g =
+  reads-back rides expected latest bound g =
       let p = g .the-plan in
       let n = g .numbers in
       let t = decode versionOne file in
@@ -107,8 +107,8 @@ module _ (file : List ℕ) (q : Query) (work plan : List ℕ) where
       ap (λ k. ridesIn t (take (3 * k) (outcome .plan))) (sym (n .0)) ∙ ap (λ l. ridesIn t (take (3 * length (p .rides)) l)) slice
       ∙ slice-read-back t (p .rides) (drop (length (written (p .rides))) plan) (demanded-rides demanded)
       in (
-        subst (λ (l : List Valued). Demanded t q l expected last bound) (sym back)
-            (subst (λ x. Demanded t q (p .rides) x last bound) (n .1)
+        subst (λ (l : List Valued). Demanded t q l expected latest bound) (sym back)
+            (subst (λ x. Demanded t q (p .rides) x latest bound) (n .1)
             (subst (λ l. Demanded t q (p .rides) (p .expected) l bound) (n .2)
             (subst (Demanded t q (p .rides) (p .expected) (p .latest)) (n .3) demanded))),
         ap length back ∙ n .0,
@@ -153,16 +153,16 @@ module _ (κs : Lfts 3) (arguments : Dens κs kinds.ps) (answer : resT kinds.r �
       )
 
   -- where a plan is answered: of as many rides, read back from the slice's first numbers, what demands 2 and 3 ask
-  pub delivers : (rides expected last bound : ℕ) → answer ≡ AsPlan rides expected last bound
-      → Demanded t q (ridesIn t (take (3 * rides) plan′)) expected last bound × (length (ridesIn t (take (3 * rides) plan′)) ≡ rides)
+  pub delivers : (rides expected latest bound : ℕ) → answer ≡ AsPlan rides expected latest bound
+      → Demanded t q (ridesIn t (take (3 * rides) plan′)) expected latest bound × (length (ridesIn t (take (3 * rides) plan′)) ≡ rides)
       × (drop (3 * rides) plan′ ≡ drop (3 * rides) plan)
-  delivers rides expected last bound told =
+  delivers rides expected latest bound told =
       subst
-      (λ (l : List ℕ). Demanded t q (ridesIn t (take (3 * rides) l)) expected last bound × (length (ridesIn t (take (3 * rides) l)) ≡ rides)
+      (λ (l : List ℕ). Demanded t q (ridesIn t (take (3 * rides) l)) expected latest bound × (length (ridesIn t (take (3 * rides) l)) ≡ rides)
       × (drop (3 * rides) l ≡ drop (3 * rides) plan))
       (sym (permitted .2))
-      (reads-back file q work plan rides expected last bound
-      (given-plan file q work plan rides expected last bound (sym (permitted .0) ∙ told)))
+      (reads-back file q work plan rides expected latest bound
+      (given-plan file q work plan rides expected latest bound (sym (permitted .0) ∙ told)))
 
   module _ (admitted : verdict file q work plan ≡ fine) where
     told-for : answer ≡ answerFor (planned t q)
@@ -176,11 +176,11 @@ module _ (κs : Lfts 3) (arguments : Dens κs kinds.ps) (answer : resT kinds.r �
         (λ told. exactly .0 (eight-is (planned t q) (sym told-for ∙ told)), λ gone. told-for ∙ ap answerFor (exactly .1 gone))
 
     -- otherwise a plan
-    pub else-a-plan : (answer ≡ NoPlan 8 0 → ⊥) → (rides expected last bound : ℕ) × (answer ≡ AsPlan rides expected last bound)
+    pub else-a-plan : (answer ≡ NoPlan 8 0 → ⊥) → (rides expected latest bound : ℕ) × (answer ≡ AsPlan rides expected latest bound)
     unfolding answerFor
     else-a-plan not-eight = by (planned t q) refl
       where
-        by : (o : Option Plan) → planned t q ≡ o → (rides expected last bound : ℕ) × (answer ≡ AsPlan rides expected last bound)
+        by : (o : Option Plan) → planned t q ≡ o → (rides expected latest bound : ℕ) × (answer ≡ AsPlan rides expected latest bound)
         by none is = absurd (not-eight (told-for ∙ ap answerFor is))
         by (some p) is = (length (p .rides), p .expected, p .latest, p .bound, told-for ∙ ap answerFor is)
 

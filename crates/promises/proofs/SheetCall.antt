@@ -29,10 +29,10 @@ use Rattle.sheet_text.specs.declared.Sheeted.{Sheeted}
 use Rattle.sheet_text.specs.declared.Sheeted.the-variants.{Text, NoRoom}
 use Rattle.sheet_text.specs.Room.{sheetRoom}
 use Rattle.sheet_text.specs.Sheet.{refusedText, firstText, ridesText, planText, plannedText, askedText, sheetText}
-use Rattle.sheet_text.specs.Outcome.{SheetOutcome, written, sheetOutcome}
+use Rattle.sheet_text.specs.Outcome.{SheetOutcome, textGiven, sheetOutcome}
 use Rattle.sheet_text.proofs.sheet.Kinds as kinds
 use Rattle.sheet_text.proofs.sheet.Reads as reads
-use Rattle.promises.specs.Returned.{Printed}
+use Rattle.promises.specs.Returned.{SheetShows}
 use Rattle.promises.proofs.Admitted.{is-timely, no-plan-exactly}
 
 -- too little room is no text, and two equal texts end alike
@@ -43,9 +43,9 @@ same-end : {one other : ℕ} → Text one ≡ Text other → one ≡ other
 same-end e = cc
 
 -- a text that is answered stands in the bytes up to its end
-text-there : (room : Bool) (text out : List ℕ) (end : ℕ) → cond room (written text out) (record { answer = NoRoom; out = out }) .answer ≡ Text end
-    → take end (cond room (written text out) (record { answer = NoRoom; out = out }) .out) ≡ text
-unfolding written
+text-there : (room : Bool) (text out : List ℕ) (end : ℕ) → cond room (textGiven text out) (record { answer = NoRoom; out = out }) .answer ≡ Text end
+    → take end (cond room (textGiven text out) (record { answer = NoRoom; out = out }) .out) ≡ text
+unfolding textGiven
 text-there false text out end told = absurd (no-room-no-text told)
 text-there true text out end told =
     ap (λ k. take k (text ++ drop (length text) out)) (sym (same-end told)) ∙ take-append-seam text (drop (length text) out)
@@ -76,7 +76,7 @@ module _ (sailings : List ℕ) (q : Query) where
   eight-told none e = refl
   eight-told (some p) e = absurd (plan-not-refused p 8 e)
 
-  printed : (text : List ℕ) → verdict ≡ fine → (o : Option Plan) → planned t q ≡ o → text ≡ plannedText o → (text ≡ refusedText 8 → ⊥) → Printed t q text
+  printed : (text : List ℕ) → verdict ≡ fine → (o : Option Plan) → planned t q ≡ o → text ≡ plannedText o → (text ≡ refusedText 8 → ⊥) → SheetShows t q text
   unfolding plannedText planText
   printed text e none is says not-eight = absurd (not-eight says)
   printed text e (some p) is says not-eight =
@@ -125,6 +125,6 @@ module _ (κs : Lfts 3) (arguments : Dens κs kinds.ps) (answer : resT kinds.r �
         )
 
     -- otherwise its lines are the rides that demands 2 and 3 ask
-    pub delivers : (text ≡ refusedText 8 → ⊥) → Printed (decode versionOne sailings) q text
+    pub delivers : (text ≡ refusedText 8 → ⊥) → SheetShows (decode versionOne sailings) q text
     delivers not-eight =
         printed sailings q text admitted (planned (decode versionOne sailings) q) refl (text-is ∙ planned-text sailings q admitted) not-eight

@@ -21,7 +21,7 @@ pub record Booked (t : Timetable) (q : Query) (out : List ℕ) (answer : ℕ) (b
   pub beyond : drop (12 * answer) bytes ≡ drop (12 * answer) out
 
 -- the text's lines are a plan's: the first line, then a line a ride
-pub record Printed (t : Timetable) (q : Query) (text : List ℕ) : Type 0 where
+pub record SheetShows (t : Timetable) (q : Query) (text : List ℕ) : Type 0 where
   pub rides : List Valued
   pub expected : ℕ
   pub latest : ℕ

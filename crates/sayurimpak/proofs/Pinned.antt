@@ -11,7 +11,7 @@ use Rattle.file_layout.specs.Check.{fileVerdict, sectionsVerdict, lengthRule, t
 use Rattle.query.specs.Query.{queryOf, journeyRule, codeRule, queryRule}
 use Rattle.numbers.specs.Numbers.{u16Bytes, u32Bytes, u16At, u32At}
 use Rattle.plans.specs.Worth.{Valued, weigh, firstOpen, worthOr, caught, arrivalWorth, changeWorth}
-use Rattle.plans.specs.Chosen.{whenSafe, offInTicks, worthOf, offInMinutes, nextOf, getOff, stayOn, least, firstAt, leads, others, choose, bestOf, scan, scanned}
+use Rattle.plans.specs.Chosen.{whenSafe, offInTicks, worthOf, offInMinutes, nextOf, getOff, stayOn, leastOf, firstAt, leads, others, choose, bestOf, scan, scanned}
 use Rattle.plans.specs.Plan.{earliest, chosenFor, inWindow, wanted, upTo, windowsOf, extract, ridesFrom, latestOf, planWithin, planBefore, planned}
 use Rattle.planner.specs.Admission.{enough, callVerdict, admission}
 use Rattle.sayurimpak.specs.Desk.{refused, rideBytes, planBytes, deskAnswered, deskOutcome}
@@ -48,6 +48,6 @@ pub desk-line :
 unfolding deskOutcome deskAnswered planBytes rideBytes u32Bytes u16Bytes admission callVerdict enough queryRule journeyRule codeRule fileVerdict
     sectionsVerdict lengthRule trailerRule classVerdict classesVerdict joined sectionsJoin decode trailerOf trailerAt trailerStart rowsFrom rowAt tablesFrom
     tableAt sharesFrom blockEnd tablesEnd u16At u32At ownRule departureRule lastOfTrip follows tripRule rowVerdict rowsVerdict sum sharesRule planned
-    planBefore earliest weigh firstOpen worthOr caught arrivalWorth changeWorth whenSafe offInTicks worthOf offInMinutes nextOf getOff stayOn least firstAt
+    planBefore earliest weigh firstOpen worthOr caught arrivalWorth changeWorth whenSafe offInTicks worthOf offInMinutes nextOf getOff stayOn leastOf firstAt
     leads others choose bestOf scan scanned chosenFor inWindow wanted upTo windowsOf extract ridesFrom latestOf planWithin
 desk-line = (refl, refl, refl, refl, refl)

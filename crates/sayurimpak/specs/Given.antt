@@ -9,10 +9,10 @@ use Rattle.plan_whole.specs.declared.Planned.the-variants.{Plan as AsPlan, Refu
 use Rattle.sayurimpak.specs.Desk.{DeskOutcome, refused}
 
 unfoldable pub given : Planned → List ℕ → List ℕ → DeskOutcome
-given (AsPlan rides expected last bound) numbers out = record { answer = rides; bytes = over (bytesOf (take (3 * rides) numbers)) out }
+given (AsPlan rides expected latest bound) numbers out = record { answer = rides; bytes = over (bytesOf (take (3 * rides) numbers)) out }
 given (NoPlan number place) numbers out = refused number out
 
 -- the plan is all there and has room; a refusal's number is one of document 01's
 unfoldable pub Fitting : Planned → (numbers out : List ℕ) → Type 0
-Fitting (AsPlan rides expected last bound) numbers out = (3 * rides ≤ length numbers) × (12 * rides ≤ length out)
+Fitting (AsPlan rides expected latest bound) numbers out = (3 * rides ≤ length numbers) × (12 * rides ≤ length out)
 Fitting (NoPlan number place) numbers out = number ≤ 8

@@ -53,18 +53,18 @@ refusal-when fine (some p) cells work plan e = absurd (let z : _≡_ {A = ℕ} 0
 refusal-when (fault n p) found cells work plan {number} e = let same : number ≡ n = cc in ap refusedText same
 
 -- a plan that was answered: the numbers are its own, and the slice holds its rides
-record Told (v : Verdict) (found : Option Plan) (rides expected last : ℕ) (plan after : List ℕ) : Type 0 where
+record Told (v : Verdict) (found : Option Plan) (rides expected latest : ℕ) (plan after : List ℕ) : Type 0 where
   told : Plan
   admits : v ≡ fine
   is-found : found ≡ some told
   count : rides ≡ length (told .rides)
   expects : expected ≡ told .expected
-  ends : last ≡ told .latest
+  ends : latest ≡ told .latest
   laid : after ≡ over (written (told .rides)) plan
 
-plan-when : (v : Verdict) (found : Option Plan) (cells work plan after : List ℕ) {rides expected last bound : ℕ}
-    → AsPlan rides expected last bound ≡ answeredTo v found cells work plan .answer → after ≡ answeredTo v found cells work plan .plan
-    → Told v found rides expected last plan after
+plan-when : (v : Verdict) (found : Option Plan) (cells work plan after : List ℕ) {rides expected latest bound : ℕ}
+    → AsPlan rides expected latest bound ≡ answeredTo v found cells work plan .answer → after ≡ answeredTo v found cells work plan .plan
+    → Told v found rides expected latest plan after
 unfolding planAnswered answerFor sliceAfter
 plan-when fine none cells work plan after e laid = absurd (let z : _≡_ {A = ℕ} 0 1 = cc in let y : ⊥ = omega arith in y)
 plan-when fine (some p) cells work plan after e laid =
@@ -77,8 +77,8 @@ module _ (t : Timetable) (p : Plan) {rides : ℕ} (count : rides ≡ length (p .
   rides-told : RidesFit (length (t .rows)) after rides
   rides-told = rw (laid, count) (rides-fit t (p .rides) (drop (length (written (p .rides))) plan) are)
 
-  lines-told : {expected last : ℕ} → expected ≡ p .expected → last ≡ p .latest
-      → firstText rides expected last ++ ridesText (ridesIn t (take (3 * rides) after)) ≡ planText p
+  lines-told : {expected latest : ℕ} → expected ≡ p .expected → latest ≡ p .latest
+      → firstText rides expected latest ++ ridesText (ridesIn t (take (3 * rides) after)) ≡ planText p
   unfolding planText
   lines-told expects ends =
       rw (laid, count, expects, ends)
@@ -126,9 +126,9 @@ module _ (f : Format) (file : List ℕ) (trailer : Trailer) (q : Query) (work pl
   unfolding askedText
   refusal-text e = refusal-when given (planned (decode f file) q) (workAfter f file work) work plan (e ∙ ap (λ o. o .answer) outcome)
 
-  module _ {rides expected last bound : ℕ} {after : List ℕ} (answered : AsPlan rides expected last bound ≡ planOutcome f file q work plan .answer)
+  module _ {rides expected latest bound : ℕ} {after : List ℕ} (answered : AsPlan rides expected latest bound ≡ planOutcome f file q work plan .answer)
       (laid : after ≡ planOutcome f file q work plan .plan) where
-    told : Told given (planned (decode f file) q) rides expected last plan after
+    told : Told given (planned (decode f file) q) rides expected latest plan after
     told =
         plan-when given (planned (decode f file) q) (workAfter f file work) work plan after (answered ∙ ap (λ o. o .answer) outcome)
         (laid ∙ ap (λ o. o .plan) outcome)
@@ -144,7 +144,7 @@ module _ (f : Format) (file : List ℕ) (trailer : Trailer) (q : Query) (work pl
         subst (λ n. RidesFit n after rides) (holds .rows-count ∙ sym (ap (λ h. h .rows) trailer-read))
         (rides-told (decode f file) (told .told) (told .count) are-rides plan (told .laid))
 
-    pub plan-lines : firstText rides expected last ++ ridesText (ridesIn (decode f file) (take (3 * rides) after)) ≡ askedText f file q
+    pub plan-lines : firstText rides expected latest ++ ridesText (ridesIn (decode f file) (take (3 * rides) after)) ≡ askedText f file q
     unfolding askedText plannedText
     plan-lines =
         lines-told (decode f file) (told .told) (told .count) are-rides plan (told .laid) (told .expects) (told .ends)

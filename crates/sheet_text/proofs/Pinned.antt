@@ -10,10 +10,10 @@ use Rattle.file_layout.specs.Check.{fileVerdict, sectionsVerdict, lengthRule, t
 use Rattle.file_layout.specs.Format.{versionOne}
 use Rattle.query.specs.Query.{journeyRule, codeRule, queryRule, queryIn}
 use Rattle.plans.specs.Worth.{weigh, firstOpen, worthOr, caught, arrivalWorth, changeWorth}
-use Rattle.plans.specs.Chosen.{whenSafe, offInTicks, worthOf, offInMinutes, nextOf, getOff, stayOn, least, firstAt, leads, others, choose, bestOf, scan, scanned}
+use Rattle.plans.specs.Chosen.{whenSafe, offInTicks, worthOf, offInMinutes, nextOf, getOff, stayOn, leastOf, firstAt, leads, others, choose, bestOf, scan, scanned}
 use Rattle.plans.specs.Plan.{earliest, chosenFor, inWindow, wanted, upTo, windowsOf, extract, ridesFrom, latestOf, planWithin, planBefore, planned}
 use Rattle.plans.specs.Examples.{Case, Hold}
-use Rattle.file_encoding.proofs.CaseW.{caseW}
+use Rattle.file_layout.specs.CaseW.{caseW}
 use Rattle.planner.specs.Admission.{admission, callVerdict, enough}
 use Rattle.clock.specs.Clock.{dayOf, dayStart, sinceMidnight, hourOf, minuteOfHour, roundedUp}
 use Rattle.text.specs.Decimal.{digitsOnto, decimal, numberText}
@@ -47,7 +47,7 @@ printedCases =
     ∷ []
 
 pub cases-print : Hold printedCases
-unfolding sheetText askedText plannedText planText firstText ridesText rideText lineText callText refusedText numberText queryIn queryRule journeyRule codeRule admission callVerdict enough timeText faceText decimal digitsOnto dayOf dayStart sinceMidnight hourOf minuteOfHour roundedUp u16At u32At fileVerdict sectionsVerdict lengthRule trailerRule classVerdict classesVerdict joined sectionsJoin decode trailerOf trailerAt trailerStart rowsFrom rowAt tablesFrom tableAt sharesFrom blockEnd tablesEnd ownRule departureRule lastOfTrip follows tripRule rowVerdict rowsVerdict sum sharesRule planned planBefore earliest weigh firstOpen worthOr caught arrivalWorth changeWorth whenSafe offInTicks worthOf offInMinutes nextOf getOff stayOn least firstAt leads others choose bestOf scan scanned chosenFor inWindow wanted upTo windowsOf extract ridesFrom latestOf planWithin
+unfolding sheetText askedText plannedText planText firstText ridesText rideText lineText callText refusedText numberText queryIn queryRule journeyRule codeRule admission callVerdict enough timeText faceText decimal digitsOnto dayOf dayStart sinceMidnight hourOf minuteOfHour roundedUp u16At u32At fileVerdict sectionsVerdict lengthRule trailerRule classVerdict classesVerdict joined sectionsJoin decode trailerOf trailerAt trailerStart rowsFrom rowAt tablesFrom tableAt sharesFrom blockEnd tablesEnd ownRule departureRule lastOfTrip follows tripRule rowVerdict rowsVerdict sum sharesRule planned planBefore earliest weigh firstOpen worthOr caught arrivalWorth changeWorth whenSafe offInTicks worthOf offInMinutes nextOf getOff stayOn leastOf firstAt leads others choose bestOf scan scanned chosenFor inWindow wanted upTo windowsOf extract ridesFrom latestOf planWithin
 cases-print = (refl, (refl, (refl, (refl, (refl, tt)))))
 
 -- `refused 4`

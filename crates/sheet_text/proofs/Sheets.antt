@@ -24,7 +24,7 @@ use Rattle.sheet_text.specs.declared.Sheeted.{Sheeted}
 use Rattle.sheet_text.specs.declared.Sheeted.the-variants.{Text, NoRoom}
 use Rattle.sheet_text.specs.Sheet.{refusedText, plannedText, askedText, sheetText}
 use Rattle.sheet_text.specs.Room.{sheetRoom}
-use Rattle.sheet_text.specs.Outcome.{written, sheetOutcome}
+use Rattle.sheet_text.specs.Outcome.{textGiven, sheetOutcome}
 
 module _ (f : Format) (sailings query : List ℕ) where
   pub refused-sheet : (answer : Checked) {number place shown : ℕ} → answer ≡ checkedAs f sailings → answer ≡ Refused number place
@@ -46,15 +46,15 @@ module _ (f : Format) (sailings query : List ℕ) where
   pub no-room : (out : List ℕ) → length out < sheetRoom → Answers out NoRoom out
   unfolding sheetOutcome
   no-room out short =
-      let e = cond-false (written (sheetText f sailings query) out) _ (lt-leb sheetRoom (length out) short) in
+      let e = cond-false (textGiven (sheetText f sailings query) out) _ (lt-leb sheetRoom (length out) short) in
       (sym (ap (λ o. o .answer) e), sym (ap (λ o. o .out) e))
 
   pub sheet-written : (out : List ℕ) → sheetRoom ≤ length out → {text after : List ℕ} {next : ℕ} → Put out 0 text after next
       → next ≤ length out → text ≡ sheetText f sailings query → Answers out (Text next) after
-  unfolding sheetOutcome written
+  unfolding sheetOutcome textGiven
   sheet-written out room {text} {after} {next} p inside same =
       let fits : 0 + length text ≤ length out = omega (arith, p .ends) in
-      let e = cond-true (written (sheetText f sailings query) out) _ (le-leb sheetRoom (length out) room) in (
+      let e = cond-true (textGiven (sheetText f sailings query) out) _ (le-leb sheetRoom (length out) room) in (
         ap Text (p .ends ∙ zero-add (length text) ∙ ap length same) ∙ sym (ap (λ o. o .answer) e),
         p .says ∙ sets-eq text out 0 fits ∙ ap (λ k. text ++ drop k out) (zero-add (length text)) ∙ ap (λ t. t ++ drop (length t) out) same
             ∙ sym (ap (λ o. o .out) e),

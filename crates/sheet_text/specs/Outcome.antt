@@ -17,10 +17,10 @@ pub record SheetOutcome : Type 0 where
   pub out : List ℕ
 
 -- where the text ends, the text and then the bytes beyond it unchanged
-unfoldable pub written : List ℕ → List ℕ → SheetOutcome
-written text out = record { answer = Text (length text); out = over text out }
+unfoldable pub textGiven : List ℕ → List ℕ → SheetOutcome
+textGiven text out = record { answer = Text (length text); out = over text out }
 
 -- too little room changes nothing
 unfoldable pub sheetOutcome : Format → (sailings query out : List ℕ) → SheetOutcome
 sheetOutcome f sailings query out =
-    cond (leb sheetRoom (length out)) (written (sheetText f sailings query) out) (record { answer = NoRoom; out = out })
+    cond (leb sheetRoom (length out)) (textGiven (sheetText f sailings query) out) (record { answer = NoRoom; out = out })

@@ -52,10 +52,10 @@ ridesText [] = []
 ridesText (v ∷ rides) = rideText v ++ ridesText rides
 
 -- First line: rides, expected, latest
-unfoldable pub firstText : (rides expected last : ℕ) → List ℕ
-firstText rides expected last =
+unfoldable pub firstText : (rides expected latest : ℕ) → List ℕ
+firstText rides expected latest =
     planWord
-    ++ (blank ∷ (numberText rides ++ (blank ∷ (expectedText expected ++ (blank ∷ (timeText last ++ (newline ∷ [])))))))
+    ++ (blank ∷ (numberText rides ++ (blank ∷ (expectedText expected ++ (blank ∷ (timeText latest ++ (newline ∷ [])))))))
 
 unfoldable pub planText : Plan → List ℕ
 planText p = firstText (length (p .rides)) (p .expected) (p .latest) ++ ridesText (p .rides)

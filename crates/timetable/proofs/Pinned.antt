@@ -6,9 +6,10 @@ use mathlib.Core.Option.{none, some}
 use mathlib.Core.Path.{_≡_, refl}
 use Rattle.timetable.specs.declared.Row.{Row}
 use Rattle.timetable.specs.declared.Ranges.{Ranges}
-use Rattle.timetable.specs.Timetable.{rowOf, sharesOf, longest, noRow}
+use Rattle.timetable.specs.Timetable.{rowOf, sharesOf, maximumDelay, noRow}
 use Rattle.timetable.specs.Verdict.{fine, fault}
 use Rattle.timetable.specs.Classes.{sum, lastShare, sharesRule}
+use Rattle.timetable.specs.Ticks.{ticksAMinute, quotientUp}
 use Rattle.timetable.specs.Rows.{ownRule, departureRule, lastOfTrip, follows, tripRule, rowVerdict, rowsVerdict}
 
 -- a row by its six numbers, in the file's order
@@ -111,5 +112,12 @@ last-share-counts = (refl, refl, refl, refl, refl)
 -- places and classes count from 0, and a class has M + 1 shares
 pub places-from-zero : (rowOf (row 0 1 600 640 7 1 ∷ row 1 2 640 660 7 0 ∷ []) 1 ≡ row 1 2 640 660 7 0)
     × (rowOf [] 0 ≡ noRow) × (sharesOf ((4096 ∷ []) ∷ (2048 ∷ 2048 ∷ []) ∷ []) 1 ≡ 2048 ∷ 2048 ∷ [])
-    × (longest (2048 ∷ 1024 ∷ 1024 ∷ []) ≡ 2)
+    × (maximumDelay (2048 ∷ 1024 ∷ 1024 ∷ []) ≡ 2)
 places-from-zero = (refl, refl, refl, refl)
+
+-- A tick is 1/256 minute; a quotient with a rest is rounded up, one without is not
+pub a-tick : ticksAMinute ≡ 256
+a-tick = refl
+
+pub quotients-up : quotientUp 16 0 ∷ quotientUp 16 1 ∷ quotientUp 16 16 ∷ quotientUp 16 17 ∷ [] ≡ 0 ∷ 1 ∷ 1 ∷ 2 ∷ []
+quotients-up = refl

@@ -4,11 +4,11 @@ use mathlib.Core.Bool.{Bool, _&&_}
 use mathlib.Core.List.{List, [], _∷_}
 use lib.Dec.{leb, eqb}
 use lib.ListN.{getD}
-use Rattle.timetable.specs.Timetable.{longest}
+use Rattle.timetable.specs.Timetable.{maximumDelay}
 
 -- a share counts 4,096ths
-abbrev pub whole : ℕ
-whole = 4096
+abbrev pub shareTotal : ℕ
+shareTotal = 4096
 
 unfoldable pub sum : List ℕ → ℕ
 sum [] = 0
@@ -16,8 +16,8 @@ sum (x ∷ xs) = x + sum xs
 
 -- the share of the longest delay
 abbrev pub lastShare : List ℕ → ℕ
-lastShare shares = getD shares (longest shares) 0
+lastShare shares = getD shares (maximumDelay shares) 0
 
 -- Shares sum to 4,096. The last is at least 1; others may be 0
 unfoldable pub sharesRule : List ℕ → Bool
-sharesRule shares = eqb (sum shares) whole && leb 1 (lastShare shares)
+sharesRule shares = eqb (sum shares) shareTotal && leb 1 (lastShare shares)

@@ -5,4 +5,5 @@ pub mod Verdict
 pub mod Places
 pub mod Rows
 pub mod Classes
+pub mod Ticks
 pub mod Sound

@@ -15,8 +15,8 @@ abbrev pub sharesOf : List (List ℕ) → ℕ → List ℕ
 sharesOf tables class = getD tables class []
 
 -- M, the maximum delay: a class has M + 1 shares
-abbrev pub longest : List ℕ → ℕ
-longest shares = pred (length shares)
+abbrev pub maximumDelay : List ℕ → ℕ
+maximumDelay shares = pred (length shares)
 
 -- what stands for a row past the last
 abbrev pub noRow : Row

@@ -6,8 +6,8 @@ use native.Mathlib.Nat.{mul-le-mul-left}
 use native.Mathlib.Omega.{arith}
 use borrow.Author.Tests.{leb-true, leb-false, not-true, not-false}
 use lib.ListN.{getD}
-use Rattle.timetable.specs.Classes.{whole}
-use Rattle.plans.specs.Worth.{up}
+use Rattle.timetable.specs.Classes.{shareTotal}
+use Rattle.timetable.specs.Ticks.{quotientUp}
 use Rattle.plan_stacks.specs.Stacks.{keyStep}
 use Rattle.plan_landing.specs.Boarding.{Boarding}
 use Rattle.plan_landing.proofs.Turns.{Turn, Room, MoreRoom, begins, room, more-room, turns, ends}
@@ -230,8 +230,8 @@ returns c =
     let a = c .before .before .before .before .before .before .before .before .before .before .args in
     let l = c .before .before .before .before .before .loop in
     c .short .ensures
-    ∙ ap (λ w. up whole (l .sum + (4096 - l .done) * w)) (c .before .long3 .ensures .0)
-    ∙ ap (up whole) (sym (ends boarding (l .inv start first held caught stands boarding) (late (c .before .before .before))))
+    ∙ ap (λ w. quotientUp shareTotal (l .sum + (4096 - l .done) * w)) (c .before .long3 .ensures .0)
+    ∙ ap (quotientUp shareTotal) (sym (ends boarding (l .inv start first held caught stands boarding) (late (c .before .before .before))))
 
 pub changing-spec : {M : Type 1} → statement M
 changing-spec =

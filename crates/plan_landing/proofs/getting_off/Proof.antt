@@ -7,7 +7,7 @@ use native.Mathlib.Omega.{arith}
 use lib.ListN.{getD}
 use borrow.Author.Needs.{needs}
 use borrow.Author.Tests.{leb-true, leb-false, not-true, not-false}
-use Rattle.timetable.specs.Timetable.{longest}
+use Rattle.timetable.specs.Timetable.{maximumDelay}
 use Rattle.plan_stacks.specs.Stacks.{keyStep, stackStart, stackSize, Falling, FirstOpenAt, entryDeparture}
 use Rattle.plans.specs.Worth.{Valued, caught}
 use Rattle.plan_landing.specs.Landing.{Ready}
@@ -40,7 +40,7 @@ landing c = begun c .args .row .arrival + c .number .result
 
 lands : (c : tie.After-number) (shares : List ℕ) (chosen : List Valued) →
     let a = begun c .args in
-    Ready (a .row) (a .tables .now) (a .work .now) shares chosen → landing c ≡ a .row .arrival + longest shares
+    Ready (a .row) (a .tables .now) (a .work .now) shares chosen → landing c ≡ a .row .arrival + maximumDelay shares
 lands c shares chosen ready =
     let a = begun c .args in
     ap (λ m. a .row .arrival + m)

@@ -4,7 +4,7 @@ use mathlib.Core.Path.{_≡_, ap, sym, subst, _∙_}
 use native.Mathlib.Omega.{arith}
 use lib.ListN.{take, set}
 use lib.Seq.{take-all}
-use Rattle.timetable.specs.Classes.{whole}
+use Rattle.timetable.specs.Classes.{shareTotal}
 use Rattle.file_layout.specs.Decode.{sharesFrom}
 use Rattle.file_layout.proofs.Blocks.{shares-length}
 use Rattle.plans.specs.Worth.{weigh}
@@ -14,16 +14,16 @@ use Rattle.plan_shares.proofs.read_shares.Statement.{statement}
 use Rattle.plan_shares.proofs.read_shares.Tie as tie
 
 abbrev Inv-loop : tie.InvT-loop
-Inv-loop file at longest into tables₀ minute₀ total₀ late₀ tables minute total late =
-    SoFar file at longest into tables₀ tables minute total late
+Inv-loop file at maximum into tables₀ minute₀ total₀ late₀ tables minute total late =
+    SoFar file at maximum into tables₀ tables minute total late
 
 abbrev μ-loop : tie.MeasureT-loop
-μ-loop file at longest into tables₀ minute₀ total₀ late₀ tables minute total late = suc longest - minute
+μ-loop file at maximum into tables₀ minute₀ total₀ late₀ tables minute total late = suc maximum - minute
 
 loop-holds : tie.Need-loop-holds Inv-loop μ-loop
 loop-holds c =
     let a = c .before .before .args in
-    so-far-none (a .file .now) (a .at) (a .longest) (a .into) (a .tables .now)
+    so-far-none (a .file .now) (a .at) (a .maximum) (a .into) (a .tables .now)
 
 mul-u16-at : tie.Need-mul-u16-at Inv-loop μ-loop
 mul-u16-at c = omega arith
@@ -35,18 +35,18 @@ u16-at-requires : tie.Need-u16-at-requires Inv-loop μ-loop
 u16-at-requires c κs = omega arith
 
 -- the shares so far and this one are no more than the whole
-total-small : (c : tie.After-u16-at Inv-loop μ-loop) → c .before .before .loop .total + c .u16-at .result ≤ whole
+total-small : (c : tie.After-u16-at Inv-loop μ-loop) → c .before .before .loop .total + c .u16-at .result ≤ shareTotal
 total-small c =
     let a = c .before .before .before .before .before in
     let l = c .before .before .loop in
-    total-whole (a .args .file .now) (a .args .at) (a .args .longest) (a .args .into) (a .args .tables .now) (l .tables) (l .minute) (l .total)
+    total-whole (a .args .file .now) (a .args .at) (a .args .maximum) (a .args .into) (a .args .tables .now) (l .tables) (l .minute) (l .total)
     (l .late) (c .u16-at .result) (l .inv) (omega arith) (c .u16-at .ensures .0) (a .pre .0 .not-more)
 
 late-small : (c : tie.After-u16-at Inv-loop μ-loop) → c .u16-at .result * c .before .before .loop .minute ≤ 254 * c .u16-at .result
 late-small c =
     let a = c .before .before .before .before .before in
     let l = c .before .before .loop in
-    product-small (a .args .file .now) (a .args .at) (a .args .longest) (a .args .into) (a .args .tables .now) (l .tables) (l .minute) (l .total)
+    product-small (a .args .file .now) (a .args .at) (a .args .maximum) (a .args .into) (a .args .tables .now) (l .tables) (l .minute) (l .total)
     (l .late) (c .u16-at .result) (l .inv) (omega arith) (c .u16-at .ensures .0) (a .pre .0 .few)
 
 add-total : tie.Need-add-total Inv-loop μ-loop
@@ -80,10 +80,10 @@ loop-again : tie.Need-loop-again Inv-loop μ-loop
 loop-again c =
     let a = c .before .before .before .before .before .before in
     let l = c .before .before .before .loop in
-    let more = so-far-more (a .args .file .now) (a .args .at) (a .args .longest) (a .args .into) (a .args .tables .now) (l .tables) (l .minute)
+    let more = so-far-more (a .args .file .now) (a .args .at) (a .args .maximum) (a .args .into) (a .args .tables .now) (l .tables) (l .minute)
     (l .total) (l .late)
     (c .before .u16-at .result) (l .inv) (omega arith) (c .before .u16-at .ensures .0) (a .pre .0 .few) (a .pre .1) in
-    subst (λ x. SoFar (a .args .file .now) (a .args .at) (a .args .longest) (a .args .into) (a .args .tables .now)
+    subst (λ x. SoFar (a .args .file .now) (a .args .at) (a .args .maximum) (a .args .into) (a .args .tables .now)
     (set (l .tables) (a .args .into + l .minute) x) (l .minute + 1) (l .total + c .before .u16-at .result)
     (l .late + c .before .u16-at .result * l .minute))
     (sym (c .cell .ensures)) more
@@ -95,10 +95,10 @@ returns : tie.Need-returns Inv-loop μ-loop
 returns c =
     let a = c .before .before .before .before .args in
     let l = c .before .loop in
-    let shares = sharesFrom (a .file .now) (a .at) (suc (a .longest)) in
-    let all : l .minute ≡ suc (a .longest) = omega arith in
+    let shares = sharesFrom (a .file .now) (a .at) (suc (a .maximum)) in
+    let all : l .minute ≡ suc (a .maximum) = omega arith in
     let whole-list : take (l .minute) shares ≡ shares = take-all (l .minute) shares
-    (omega (arith, shares-length (a .file .now) (a .at) (suc (a .longest)))) in
+    (omega (arith, shares-length (a .file .now) (a .at) (suc (a .maximum)))) in
     (l .inv .late-sum ∙ ap (λ xs. weigh xs 0 (λ v. v)) whole-list, subst (Summed (a .tables .now) (l .tables) (a .into) shares) all (l .inv .summed))
 
 pub read-shares-spec : {M : Type 1} → statement M

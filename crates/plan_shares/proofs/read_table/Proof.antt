@@ -4,7 +4,7 @@ use mathlib.Core.Path.{sym, subst}
 use native.Mathlib.Omega.{arith}
 use borrow.Author.Needs.{needs}
 use lib.ListN.{length-set}
-use Rattle.timetable.specs.Classes.{whole}
+use Rattle.timetable.specs.Classes.{shareTotal}
 use Rattle.file_layout.specs.Decode.{blockEnd}
 use Rattle.plan_shares.specs.Summed.{SharesStand}
 use Rattle.plan_shares.proofs.Block.{block-shares, late-small, block-ends, table-held}
@@ -45,7 +45,7 @@ slice-write-tables : tie.Need-slice-write-tables
 slice-write-tables c = search needs
 
 -- the sum of delay × share, as `read_shares` gives it
-late-fits : (c : tie.After-read-shares) → c .read-shares .result ≤ 254 * whole
+late-fits : (c : tie.After-read-shares) → c .read-shares .result ≤ 254 * shareTotal
 late-fits c =
     let a = c .before .before .before .before .before in
     late-small (a .args .file .now) (a .args .at) (c .before .before .u16-at .result) (c .read-shares .result) (a .pre .0)
@@ -88,16 +88,16 @@ returns c =
     let r = c .before .before .before .before in
     let a = r .before .before .before .before .before in
     let file = a .args .file .now in
-    let longest = r .before .before .u16-at .result in
+    let maximum = r .before .before .u16-at .result in
     let late = r .read-shares .result in
     let read = r .before .before .u16-at .ensures .0 in
     let held =
-    table-held file (a .args .at) longest late (a .pre .0) read (r .read-shares .ensures .0) (a .args .tables .now)
+    table-held file (a .args .at) maximum late (a .pre .0) read (r .read-shares .ensures .0) (a .args .tables .now)
     (r .read-shares .last .1 .1 .1 .1 .0)
     (a .args .k) (c .before .cell .result) (c .cell2 .result) (a .pre .1) (a .pre .2) (r .read-shares .ensures .1) (c .before .cell .ensures)
     (c .cell2 .ensures)
     in
-    (block-ends file (a .args .at) longest late (a .pre .0) read (r .read-shares .ensures .0), held .0, held .1)
+    (block-ends file (a .args .at) maximum late (a .pre .0) read (r .read-shares .ensures .0), held .0, held .1)
 
 pub read-table-spec : {M : Type 1} → statement M
 read-table-spec =
