@@ -24,7 +24,8 @@ use Rattle.plans.specs.Plan.{chosenFor}
 use Rattle.demands.specs.Words.{bestRide, HasWorth, Chosen}
 use Rattle.plans.proofs.Open.{can-board, boards-stop, boards-minute, found-member, found-boards}
 use Rattle.plans.proofs.AtMost.{found-at-most}
-use Rattle.plans.proofs.FromRow.{scanFrom, chosen-row, weighed-at}
+use Rattle.plans.specs.FromRow.{scanFrom}
+use Rattle.plans.proofs.FromRow.{chosen-row, weighed-at}
 use Rattle.plans.proofs.Choice.{Choice, worthless, at-target, behind, added, choice, others-kept}
 use Rattle.plans.proofs.Order.{Ordered, leads-each, members-apart, first-before}
 use Rattle.plans.proofs.BestRides.{Boards, best-boards, Picked, chosen-picked}

@@ -23,7 +23,7 @@ use Rattle.plans.specs.Plan.{Plan}
 use Rattle.demands.specs.SafePlan.{SafePlan, sorted, worthsOf, expectedOf}
 use Rattle.plans.proofs.Open.{boards-stop, boards-minute, boards-earlier, found-member, found-boards, finds}
 use Rattle.plans.proofs.AtMost.{AtMost, raised, found-at-most, worth-at-most}
-use Rattle.plans.proofs.FromRow.{chosenFrom, bestAt}
+use Rattle.plans.specs.FromRow.{chosenFrom, bestAt}
 use Rattle.plans.proofs.Staying.{ride-at-most}
 use Rattle.plans.proofs.RideMinutes.{boards-behind, ride-first, ride-delays}
 use Rattle.plans.proofs.InTicks.{bestInTicks, ticks-landed, ticks-at-target, ticks-elsewhere}

@@ -23,7 +23,7 @@ use Rattle.plans.specs.Chosen.{inTicks}
 use Rattle.plans.specs.Plan.{planned, earliest, chosenFor}
 use Rattle.plans.proofs.Open.{boards-minute}
 use Rattle.plans.proofs.AtMost.{AtMost, found-at-most}
-use Rattle.plans.proofs.FromRow.{chosenFrom}
+use Rattle.plans.specs.FromRow.{chosenFrom}
 use Rattle.plans.proofs.Staying.{ride-at-most}
 use Rattle.plans.proofs.RideMinutes.{boards-behind, ride-first}
 use Rattle.plans.proofs.EarliestSafe.{onward-ride, onward-after, journey-after, earliest-is-least, no-earliest}

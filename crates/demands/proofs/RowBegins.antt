@@ -17,7 +17,7 @@ use Rattle.plans.specs.Chosen.{inTicks}
 use Rattle.demands.specs.Words.{HasWorth}
 use Rattle.plans.proofs.Open.{found-member, found-boards}
 use Rattle.plans.proofs.AtMost.{found-at-most}
-use Rattle.plans.proofs.FromRow.{offAt}
+use Rattle.plans.specs.FromRow.{offAt}
 use Rattle.plans.proofs.BestRides.{best-boards, row-is-ride, boarded-earlier, each-best}
 use Rattle.plans.proofs.RideMinutes.{board-inside}
 use Rattle.plans.proofs.EarliestSafe.{onward-ride, onward-earlier}

@@ -24,7 +24,8 @@ use Rattle.plans.specs.Trips.{NextOfTrip}
 use Rattle.demands.specs.RowWords.{OpenWay, off-at-target, off-elsewhere, staying-on, LeastWay, StaysAboard}
 use Rattle.plans.proofs.Open.{finds, found-member, found-boards}
 use Rattle.plans.proofs.AtMost.{AtMost, is-at-most, worth-at-most, found-at-most}
-use Rattle.plans.proofs.FromRow.{bestAt, nextFrom, offAt, next-row}
+use Rattle.plans.specs.FromRow.{bestAt, nextFrom, offAt}
+use Rattle.plans.proofs.FromRow.{next-row}
 use Rattle.plans.proofs.BestRides.{FirstOf, first-here, first-later, Source, off-here, stays, best-source, best-boards, best-is-ride, row-is-ride}
 use Rattle.plans.proofs.Staying.{row-off, stay-on}
 use Rattle.plans.proofs.RideMinutes.{ride-delays}

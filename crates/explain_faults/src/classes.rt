@@ -1,6 +1,5 @@
 // Refusals 2 and 3: the class blocks, one by one, and how the sections join.
 ghost use Prim.Native.Nat.{_-_, _≤_, _<_};
-ghost use lib.ListN.{length};
 ghost use Rattle.file_layout.specs.Small.{SmallTrailer};
 use crate::broken::number_at;
 use crate::broken::trailer_start;

@@ -8,4 +8,5 @@ pub mod ReadAgain
 pub mod Reencode
 pub mod Rewritten
 pub mod CaseW
+pub mod RowsFine
 pub mod SoundFine

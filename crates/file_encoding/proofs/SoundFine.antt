@@ -13,7 +13,7 @@ use Rattle.timetable.specs.Verdict.{fine, orElse, unless}
 use Rattle.timetable.specs.Classes.{sum, shareTotal, lastShare, sharesRule}
 use Rattle.timetable.specs.Rows.{rowsVerdict}
 use Rattle.timetable.proofs.Verdicts.{both-fine, holding-fine}
-use Rattle.timetable.proofs.RowsFine.{rows-fine}
+use Rattle.file_encoding.proofs.RowsFine.{rows-fine}
 use Rattle.file_layout.specs.declared.Format.{Format}
 use Rattle.file_layout.specs.declared.Trailer.{Trailer}
 use Rattle.timetable.specs.Limits.{fewestStops, mostStops, mostRows, fewestClasses, mostClasses}

@@ -1,8 +1,8 @@
 -- Class blocks, one behind the other: where the k-th starts, and what a fine verdict tells of it. Assumes nothing.
-use Prim.Native.Nat.{ℕ, zero, suc, _+_, _≤_, _<_}
+use Prim.Native.Nat.{ℕ, zero, suc, _+_, _*_, _≤_, _<_}
 use mathlib.Core.Bool.{true}
 use mathlib.Core.List.{List, []}
-use mathlib.Core.Path.{_≡_, refl, ap}
+use mathlib.Core.Path.{_≡_, refl, ap, _∙_}
 use native.Mathlib.Omega.{arith}
 use lib.Dec.{leb, eqb}
 use lib.ListN.{length, getD}
@@ -21,6 +21,15 @@ pub shares-length : (s : List ℕ) (at n : ℕ) → length (sharesFrom s at n) �
 unfolding sharesFrom
 shares-length s at zero = refl
 shares-length s at (suc n) = ap suc (shares-length s (at + 2) n)
+
+-- share v stands two bytes further on for each share ahead of it
+pub share-at : (s : List ℕ) (at n v : ℕ) → v < n → getD (sharesFrom s at n) v 0 ≡ u16At s (at + 2 * v)
+unfolding sharesFrom
+share-at s at zero v h = absurd (let z : ⊥ = omega arith in z)
+share-at s at (suc n) zero h = let here : at ≡ at + 2 * zero = omega arith in ap (u16At s) here
+share-at s at (suc n) (suc v) h =
+    let further : at + 2 + 2 * v ≡ at + 2 * suc v = omega arith in
+    share-at s (at + 2) n v (omega arith) ∙ ap (u16At s) further
 
 -- a class has M + 1 shares
 pub table-has : (s : List ℕ) (at : ℕ) → length (tableAt s at) ≡ suc (u16At s at)
@@ -86,12 +95,6 @@ pub next-block : (s : List ℕ) (at k : ℕ) → blockAt s at (suc k) ≡ blockE
 unfolding blockAt
 next-block s at zero = refl
 next-block s at (suc k) = next-block s (blockEnd s at) k
-
--- the tables end where one block more would start
-pub blocks-end : (s : List ℕ) (at k : ℕ) → tablesEnd s at k ≡ blockAt s at k
-unfolding tablesEnd blockAt
-blocks-end s at zero = refl
-blocks-end s at (suc k) = blocks-end s (blockEnd s at) k
 
 block-forward : (s : List ℕ) (at : ℕ) → at ≤ blockEnd s at
 unfolding blockEnd

@@ -1,4 +1,4 @@
--- Laws on the shares of a class block: how many there are, which is where, and their sum one by one. Assumes nothing.
+-- Laws on the shares of a class block: their sum one by one, the last of them, and their rule. Assumes nothing.
 use Prim.Native.Nat.{ℕ, zero, suc, _+_, _*_, _-_, _≤_, _<_}
 use mathlib.Core.Path.{_≡_, refl, sym, ap, _∙_}
 use mathlib.Core.List.{List}
@@ -10,6 +10,7 @@ use lib.ListN.{length, getD}
 use Rattle.timetable.specs.Classes.{shareTotal, sum, lastShare, sharesRule}
 use Rattle.numbers.specs.Numbers.{u16At}
 use Rattle.file_layout.specs.Decode.{sharesFrom, tableAt}
+use Rattle.file_layout.proofs.Blocks.{shares-length, share-at}
 
 -- with a share left, the sum is that share and the rest's sum
 pub sum-on : (s : List ℕ) (at left : ℕ) → 0 < left → sum (sharesFrom s at left) ≡ u16At s at + sum (sharesFrom s (at + 2) (left - 1))
@@ -23,20 +24,6 @@ pub sum-end : (s : List ℕ) (at left : ℕ) → left ≤ 0 → sum (sharesFrom 
 unfolding sum sharesFrom
 sum-end s at zero h = refl
 sum-end s at (suc left) h = absurd (let z : ⊥ = omega arith in z)
-
-pub shares-length : (s : List ℕ) (at n : ℕ) → length (sharesFrom s at n) ≡ n
-unfolding sharesFrom
-shares-length s at zero = refl
-shares-length s at (suc n) = ap suc (shares-length s (at + 2) n)
-
--- share v stands two bytes further on for each share ahead of it
-pub share-at : (s : List ℕ) (at n v : ℕ) → v < n → getD (sharesFrom s at n) v 0 ≡ u16At s (at + 2 * v)
-unfolding sharesFrom
-share-at s at zero v h = absurd (let z : ⊥ = omega arith in z)
-share-at s at (suc n) zero h = let here : at ≡ at + 2 * zero = omega arith in ap (u16At s) here
-share-at s at (suc n) (suc v) h =
-    let further : at + 2 + 2 * v ≡ at + 2 * suc v = omega arith in
-    share-at s (at + 2) n v (omega arith) ∙ ap (u16At s) further
 
 -- the last of M + 1 shares
 pub last-at : (s : List ℕ) (at : ℕ) → lastShare (tableAt s at) ≡ u16At s (at + 2 + 2 * u16At s at)

@@ -21,7 +21,7 @@ use timetable::FEWEST_STOPS;
 use timetable::MOST_CLASSES;
 use timetable::MOST_ROWS;
 use timetable::MOST_STOPS;
-use timetable::WHOLE;
+use timetable::SHARE_TOTAL;
 
 // A trailer whose sections join and keep the rules, or the refusal with its place.
 pub enum Sections {
@@ -185,7 +185,7 @@ fn shares_keep(file: &[u8], at: usize, delay: usize) -> bool
     requires { ⌜ (at + 4 + 2 * delay ≤ length (now file)) × (delay < 65536) × (delay ≡ u16At (now file) at) ⌝ }
     ensures { λ r. ⌜ r ≡ sharesRule (tableAt (now (file .entry)) at) ⌝ }
 {
-    if shares_sum(file, at + 2, delay + 1) != WHOLE {
+    if shares_sum(file, at + 2, delay + 1) != SHARE_TOTAL {
         return false;
     }
     1 <= u16_at(file, at + 2 + 2 * delay)

@@ -68,13 +68,13 @@ pub fn put_numbers(numbers: &[u32], count: usize, out: &mut [u8])
     let mut i = 0;
     while i < count {
         let number = numbers[i];
-        put_number(number, 4 * i, out);
+        put_u32(number, 4 * i, out);
         i += 1;
     }
 }
 
 // One number at byte `at`.
-fn put_number(number: u32, at: usize, out: &mut [u8])
+fn put_u32(number: u32, at: usize, out: &mut [u8])
     requires { ⌜ at + 4 ≤ length (now out) ⌝ }
     ensures { λ r. ⌜ now (out .exit) ≡ sets (now (out .entry)) at (u32Bytes number) ⌝ }
 {

@@ -1,4 +1,5 @@
-// Stored cases, packed one behind the other: each part is its length (u32, little-endian) and its bytes.
+// Stored cases, packed one behind the other: each part is its length, below 65,536 (u32,
+// little-endian), and its bytes.
 ghost use Rattle.io.specs.Counts.{Counts};
 
 // More than any stored part has.

@@ -23,11 +23,6 @@ pub const SIZE_CELLS: usize = 2200;
 
 pub const PAIR_CELLS: usize = 2400;
 
-// How many trips and stops there can be.
-pub const MOST_TRIPS: usize = 2000;
-
-pub const MOST_STOPS: usize = 200;
-
 // No worth, or no minute: above all that there are.
 pub const NONE: u32 = 0xffff_ffff;
 

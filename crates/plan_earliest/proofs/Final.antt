@@ -20,7 +20,7 @@ use Rattle.plan_cells.specs.Cells.{missing, cellOf}
 use Rattle.plan_rows.specs.Reading.{Cut}
 use Rattle.plan_earliest.specs.Reached.{Reached, sets-out, rides}
 use Rattle.plan_earliest.specs.Cells.{aboard, ready}
-use Rattle.plan_earliest.specs.Swept.{Boardable, Told, Swept, Found}
+use Rattle.plan_earliest.specs.Swept.{Boardable, Told, Swept, EarliestReady}
 use Rattle.plan_earliest.proofs.Arrivals.{journey-reached, reached-journey}
 use Rattle.plan_earliest.proofs.Sweep.{Seaworthy, reached-since, reached-below, ride-boardable, known}
 
@@ -61,13 +61,13 @@ module _ (t : Timetable) (ship : Seaworthy t) (source minute : ℕ) where
 
   -- all rows are swept
   pub swept-all :
-      (stop : ℕ) {work : List ℕ} → stop < 200 → Swept t source minute (length (t .rows)) work → Found t source minute stop (ready work stop)
+      (stop : ℕ) {work : List ℕ} → stop < 200 → Swept t source minute (length (t .rows)) work → EarliestReady t source minute stop (ready work stop)
   swept-all stop small sw = record { told = sw .told stop small; least = λ m k. least-of-all sw k }
 
   -- the next row departs at or after the stop's minute: whatever is caught from it on lands later
   pub swept-enough :
       (stop i : ℕ) {work : List ℕ} → stop < 200 → i < length (t .rows) → ready work stop ≤ rowOf (t .rows) i .departure
-      → Swept t source minute i work → Found t source minute stop (ready work stop)
+      → Swept t source minute i work → EarliestReady t source minute stop (ready work stop)
   swept-enough stop i {work} small inside reached sw = record { told = sw .told stop small; least = least }
     where
       departure : ℕ
@@ -80,7 +80,7 @@ module _ (t : Timetable) (ship : Seaworthy t) (source minute : ℕ) where
           (λ e _. let late : departure < m = leb-false m departure e in let z : ready work stop ≤ m = omega (arith, reached) in z) refl
 
 module _ (t : Timetable) (ship : Seaworthy t) (q : Query) (apart : q .source ≢ q .target) (small : q .minute < 65536) where
-  module _ {cell : ℕ} (found : Found t (q .source) (q .minute) (q .target) cell) where
+  module _ {cell : ℕ} (found : EarliestReady t (q .source) (q .minute) (q .target) cell) where
     some-cell : (e : ℕ) → earliest t q ≡ some e → cell ≡ e
     some-cell e h =
         let j = earliest-is-least t (ship .timely) q e h in

@@ -14,15 +14,15 @@ use Rattle.plans.specs.Sound.{Timely}
 use Rattle.plan_cells.specs.Cells.{tripCells, pairCells}
 use Rattle.plan_cells.specs.Outside.{SameOutside}
 use Rattle.plan_cells.proofs.Outside.{outside-then}
-use Rattle.plan_rows.specs.declared.Sailings.{Sailings}
+use Rattle.plan_rows.specs.declared.SectionPlaces.{SectionPlaces}
 use Rattle.plan_rows.specs.Reading.{rowsIn, tablesIn, timetableIn, RowFits, FileReadable, TablesHeld}
 use Rattle.plan_earliest.specs.Cells.{ready, landingOf, RowInCells, RowSailed}
-use Rattle.plan_earliest.specs.Swept.{Swept, Found}
+use Rattle.plan_earliest.specs.Swept.{Swept, EarliestReady}
 use Rattle.plan_earliest.proofs.Steps.{sails-step, sails-behind}
 use Rattle.plan_earliest.proofs.Sweep.{Seaworthy, landing, sweeps}
 use Rattle.plan_earliest.proofs.Final.{swept-all, swept-enough}
 
-module _ (file : List ℕ) (s : Sailings) (stand : FileReadable file s) where
+module _ (file : List ℕ) (s : SectionPlaces) (stand : FileReadable file s) where
   abbrev t : Timetable
   t = timetableIn file s
 
@@ -80,7 +80,7 @@ module _ (file : List ℕ) (s : Sailings) (stand : FileReadable file s) where
   pub stops-there :
       (i : ℕ) → i < s .rows → {read : Row} → read ≡ rowOf (rowsIn file s) i → (stop : ℕ) → stop < 200 → (work : List ℕ) {cell : ℕ}
       → cell ≡ ready work stop → leb cell (read .departure) ≡ true → (source minute : ℕ)
-      → Swept (timetableIn file s) source minute i work → Found (timetableIn file s) source minute stop (ready work stop)
+      → Swept (timetableIn file s) source minute i work → EarliestReady (timetableIn file s) source minute stop (ready work stop)
   stops-there i inside {read} as-filed stop small work {cell} e test source minute sw =
       swept-enough t seaworthy source minute stop i small (omega (arith, stand .rows-count))
       (subst (λ r. ready work stop ≤ r .departure) as-filed (omega (arith, leb-true cell (read .departure) test))) sw
@@ -88,6 +88,6 @@ module _ (file : List ℕ) (s : Sailings) (stand : FileReadable file s) where
   -- no row is left
   pub ends-there :
       (i : ℕ) → i ≡ s .rows → (stop : ℕ) → stop < 200 → (work : List ℕ) → (source minute : ℕ)
-      → Swept (timetableIn file s) source minute i work → Found (timetableIn file s) source minute stop (ready work stop)
+      → Swept (timetableIn file s) source minute i work → EarliestReady (timetableIn file s) source minute stop (ready work stop)
   ends-there i all stop small work source minute sw =
       swept-all t seaworthy source minute stop small (subst (λ k. Swept t source minute k work) (all ∙ sym (stand .rows-count)) sw)

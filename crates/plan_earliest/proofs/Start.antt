@@ -1,4 +1,4 @@
--- The cells before the first row: no trip is boarded, and only the source is reached. Assumes that there are cells for 2,000 tripCells and 200 stopCells.
+-- The cells before the first row: no trip is boarded, and only the source is reached. Assumes that there are cells for 2,000 trips and 200 stops.
 use Prim.Native.Nat.{ℕ, _+_, _≤_, _<_}
 use native.Mathlib.Omega.{arith}
 use mathlib.Core.List.{List}
@@ -12,7 +12,7 @@ use Rattle.plan_cells.proofs.Outside.{outside-then, outside-wider, outside-set,
 use Rattle.plan_earliest.specs.Cells.{aboard, ready}
 use Rattle.plan_earliest.proofs.Final.{SetOut}
 
--- all cells of tripCells and stopCells are blank
+-- all cells of trips and stops are blank
 pub record Blank (work blank : List ℕ) : Type 0 where
   pub room : 2400 ≤ length work
   pub behind : SameOutside tripCells pairCells work blank

@@ -1,4 +1,4 @@
--- What one row does to the cells, by tripCells and stopCells. Assumes that there are cells for 2,000 tripCells and 200 stopCells.
+-- What one row does to the cells, by trips and stops. Assumes that there are cells for 2,000 trips and 200 stops.
 use Prim.Native.Nat.{ℕ, _+_, _≤_, _<_}
 use native.Mathlib.Nat.{le-refl}
 use native.Mathlib.Omega.{arith}

@@ -39,6 +39,6 @@ pub record Swept (t : Timetable) (source minute i : ℕ) (work : List ℕ) : Typ
   pub not-underway : (trip : ℕ) → trip < mostTrips → aboard work trip ≡ 0 → Underway t source minute i trip → ⊥
 
 -- a stop's cell is the least minute from which on one can be there
-pub record Found (t : Timetable) (source minute stop cell : ℕ) : Type 0 where
+pub record EarliestReady (t : Timetable) (source minute stop cell : ℕ) : Type 0 where
   pub told : Told t source minute stop cell
   pub least : (m : ℕ) → Reached t source minute stop m → cell ≤ m

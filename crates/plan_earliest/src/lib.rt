@@ -10,27 +10,27 @@ ghost use Rattle.plan_cells.specs.Outside.{SameOutside};
 ghost use Rattle.plan_rows.specs.Reading.{rowsIn, tablesIn, timetableIn, tableCells, FileReadable, Cut, TablesHeld};
 ghost use Rattle.query.specs.Query.{queryOf};
 ghost use Rattle.plan_earliest.specs.Cells.{ready, landingOf, RowInCells, Boarded, Landed, RowSailed};
-ghost use Rattle.plan_earliest.specs.Swept.{Swept, Found};
+ghost use Rattle.plan_earliest.specs.Swept.{Swept, EarliestReady};
 use numbers::cell;
 use numbers::number;
-use plan_cells::MOST_STOPS;
-use plan_cells::MOST_TRIPS;
 use plan_cells::NONE;
 use plan_cells::STOP_CELLS;
 use plan_cells::TRIP_CELLS;
 use plan_cells::fill;
 use plan_rows::BLOCK;
 use plan_rows::MAX_DELAY;
-use plan_rows::Sailings;
+use plan_rows::SectionPlaces;
 use plan_rows::can_board;
 use plan_rows::nth_row;
+use timetable::MOST_STOPS;
+use timetable::MOST_TRIPS;
 use timetable::Row;
 
 // The earliest safe arrival from `source` at `minute`, over the rows from `first` on; NONE if there
 // is none.
 pub fn earliest_arrival(
     file: &[u8],
-    s: Sailings,
+    s: SectionPlaces,
     tables: &[u32],
     source: usize,
     target: usize,
@@ -53,7 +53,7 @@ pub fn earliest_arrival(
 // Row by row, until one departs when the target is reached already.
 fn sail_until(
     file: &[u8],
-    s: Sailings,
+    s: SectionPlaces,
     tables: &[u32],
     target: usize,
     first: usize,
@@ -63,7 +63,7 @@ fn sail_until(
         × (pairCells ≤ length (now work)) ⌝ }
     ensures { λ r. ⌜ SameOutside tripCells pairCells (now (work .entry)) (now (work .exit)) × ((source minute : ℕ)
         → Swept (timetableIn (now (file .entry)) s) source minute first (now (work .entry))
-        → Found (timetableIn (now (file .entry)) s) source minute target (ready (now (work .exit)) target)) ⌝ }
+        → EarliestReady (timetableIn (now (file .entry)) s) source minute target (ready (now (work .exit)) target)) ⌝ }
 {
     let mut i = first;
     while i < s.rows {

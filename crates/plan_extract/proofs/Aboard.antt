@@ -10,13 +10,13 @@ use Rattle.timetable.specs.Timetable.{sharesOf, maximumDelay, rowOf}
 use Rattle.plans.specs.Rides.{landsBy}
 use Rattle.plans.specs.Worth.{Valued}
 use Rattle.plan_cells.specs.Cells.{pairCells}
-use Rattle.plan_rows.specs.declared.Sailings.{Sailings}
+use Rattle.plan_rows.specs.declared.SectionPlaces.{SectionPlaces}
 use Rattle.plan_rows.specs.Reading.{rowsIn, tablesIn, FileReadable, TablesHeld}
 use Rattle.plans.specs.declared.Goal.{Goal}
 use Rattle.plan_scan.specs.Scanned.{scanIn, PairHolds, ScanHeld}
 use Rattle.plan_extract.proofs.Timed.{known}
 
-pub record Aboard (file : List ℕ) (s : Sailings) (tables work : List ℕ) (i : ℕ) (v : Valued) : Type 0 where
+pub record Aboard (file : List ℕ) (s : SectionPlaces) (tables work : List ℕ) (i : ℕ) (v : Valued) : Type 0 where
   pub leaves : getD work (pairCells + 2 * i + 1) 0 ≡ v .ride .leave
   pub worth : getD work (pairCells + 2 * i) 0 ≡ v .worth
   pub inside : v .ride .leave < s .rows
@@ -29,7 +29,7 @@ pub record Aboard (file : List ℕ) (s : Sailings) (tables work : List ℕ) (i :
       ≡ landsBy (v .ride)
   pub minute : landsBy (v .ride) < 65536
 
-module _ {file : List ℕ} {s : Sailings} {tables work : List ℕ} (stand : FileReadable file s) (blocks : TablesHeld tables (tablesIn file s)) (goal : Goal)
+module _ {file : List ℕ} {s : SectionPlaces} {tables work : List ℕ} (stand : FileReadable file s) (blocks : TablesHeld tables (tablesIn file s)) (goal : Goal)
     (first end : ℕ) (ahead : first ≤ end) (inside : end ≤ s .rows) (held : ScanHeld work (s .rows) first end (scanIn file s goal first end)) where
   pub aboard : (v : Valued) → List·Memᴰ v (scanIn file s goal first end .chosen) → (i : ℕ) → v .ride .board ≡ i → Aboard file s tables work i v
   aboard v m i here =

@@ -14,18 +14,19 @@ use Rattle.plans.specs.Rides.{Ride, IsRide}
 use Rattle.plans.specs.Sound.{Timely}
 use Rattle.plans.specs.Worth.{Valued}
 use Rattle.plans.specs.Chosen.{Aim, inTicks, Scan}
-use Rattle.plans.proofs.FromRow.{scanFrom, chosenFrom, bestAt, weighed-at}
+use Rattle.plans.specs.FromRow.{scanFrom, chosenFrom, bestAt}
+use Rattle.plans.proofs.FromRow.{weighed-at}
 use Rattle.plans.proofs.BestRides.{chosen-picked, best-is-ride}
 use Rattle.plans.proofs.FirstLeast.{chosen-ordered}
 use Rattle.plans.proofs.Order.{Ordered}
 use Rattle.plans.proofs.OwnWorth.{OwnWorth}
 use Rattle.plans.proofs.ChosenWorth.{chosen-own}
-use Rattle.plan_rows.specs.declared.Sailings.{Sailings}
+use Rattle.plan_rows.specs.declared.SectionPlaces.{SectionPlaces}
 use Rattle.plan_rows.specs.Reading.{rowsIn, tablesIn, FileReadable}
 use Rattle.plans.specs.declared.Goal.{Goal}
 use Rattle.plan_scan.specs.Scanned.{scanIn, bestIn}
 
-module _ (file : List ℕ) (s : Sailings) (stand : FileReadable file s) (end : ℕ) (inside : end ≤ s .rows) where
+module _ (file : List ℕ) (s : SectionPlaces) (stand : FileReadable file s) (end : ℕ) (inside : end ≤ s .rows) where
   -- the rows before `end`
   abbrev pub timed : Timetable
   timed = record { stops = 0; rows = take end (rowsIn file s); tables = tablesIn file s }

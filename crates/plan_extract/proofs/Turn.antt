@@ -12,7 +12,7 @@ use Rattle.plans.specs.Worth.{Valued}
 use Rattle.plans.proofs.Order.{Ordered}
 use Rattle.plan_cells.specs.Cells.{tripCells, stopCells, pairCells, used}
 use Rattle.plan_cells.specs.Outside.{SameOutside}
-use Rattle.plan_rows.specs.declared.Sailings.{Sailings}
+use Rattle.plan_rows.specs.declared.SectionPlaces.{SectionPlaces}
 use Rattle.plan_rows.specs.Reading.{rowsIn, tablesIn, FileReadable, TablesHeld}
 use Rattle.plans.specs.declared.Goal.{Goal}
 use Rattle.plan_scan.specs.Scanned.{scanIn, ScanHeld}
@@ -27,13 +27,13 @@ use Rattle.plan_extract.proofs.Writing.{Writing, marked-ride, lands, wr
 
 -- the pass at row i, of the plan ahead
 abbrev pub AtRow :
-    {file : List ℕ} {s : Sailings} {goal : Goal} {boarding end : ℕ} {work₀ : List ℕ} → PlanAhead file s goal boarding end work₀
+    {file : List ℕ} {s : SectionPlaces} {goal : Goal} {boarding end : ℕ} {work₀ : List ℕ} → PlanAhead file s goal boarding end work₀
     → (plan₀ work plan : List ℕ) (rides last i : ℕ) → Type 0
 AtRow {file} {s} {goal} {end = end} p plan₀ work plan rides last i =
     Writing (goal .target) (s .rows) (ridesAhead p) (scanIn file s goal (p .first) end .chosen) plan₀ work plan rides last i
 
 -- what is known there, if the row is marked
-pub record Turn (file : List ℕ) (s : Sailings) (tables : List ℕ) (goal : Goal) (boarding end : ℕ) (work₀ : List ℕ)
+pub record Turn (file : List ℕ) (s : SectionPlaces) (tables : List ℕ) (goal : Goal) (boarding end : ℕ) (work₀ : List ℕ)
     (p : PlanAhead file s goal boarding end work₀) (plan₀ work plan : List ℕ) (rides last i : ℕ) : Type 0 where
   pub stand : FileReadable file s
   pub blocks : TablesHeld tables (tablesIn file s)
@@ -46,7 +46,7 @@ pub record Turn (file : List ℕ) (s : Sailings) (tables : List ℕ) (goal : Goa
   pub at-row : AtRow p plan₀ work plan rides last i
   pub mark : getD work i 0 ≡ 1
 
-module _ {file : List ℕ} {s : Sailings} {tables : List ℕ} {goal : Goal} {boarding end : ℕ} {work₀ : List ℕ}
+module _ {file : List ℕ} {s : SectionPlaces} {tables : List ℕ} {goal : Goal} {boarding end : ℕ} {work₀ : List ℕ}
     {p : PlanAhead file s goal boarding end work₀} {plan₀ work plan : List ℕ} {rides last i : ℕ}
     (t : Turn file s tables goal boarding end work₀ p plan₀ work plan rides last i) where
   abbrev chosen : List Valued

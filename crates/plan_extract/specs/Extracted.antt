@@ -7,7 +7,7 @@ use Rattle.timetable.specs.Limits.{mostStops}
 use Rattle.plans.specs.Worth.{Valued, firstOpen}
 use Rattle.plans.specs.Plan.{upTo, extract}
 use Rattle.plans.specs.declared.Goal.{Goal}
-use Rattle.plan_rows.specs.declared.Sailings.{Sailings}
+use Rattle.plan_rows.specs.declared.SectionPlaces.{SectionPlaces}
 use Rattle.plan_scan.specs.Scanned.{scanIn, ScanHeld}
 
 -- the first chosen ride that one who stands at a stop at a minute can board: it boards at row `boarding`
@@ -24,7 +24,7 @@ abbrev pub planFrom : (target : ℕ) {chosen : List Valued} {boarding : ℕ} →
 planFrom target {chosen} f = extract target (upTo (f .stop) (f .minute) (some (f .ride))) chosen
 
 -- the cells after the scan of the rows from some row to before `end`, and the first ride of a plan among those chosen there
-pub record PlanAhead (file : List ℕ) (s : Sailings) (goal : Goal) (boarding end : ℕ) (work : List ℕ) : Type 0 where
+pub record PlanAhead (file : List ℕ) (s : SectionPlaces) (goal : Goal) (boarding end : ℕ) (work : List ℕ) : Type 0 where
   pub first : ℕ
   pub ordered : first ≤ end
   pub held : ScanHeld work (s .rows) first end (scanIn file s goal first end)
@@ -32,5 +32,5 @@ pub record PlanAhead (file : List ℕ) (s : Sailings) (goal : Goal) (boarding en
 
 -- the rides of that plan
 abbrev pub ridesAhead :
-    {file : List ℕ} {s : Sailings} {goal : Goal} {boarding end : ℕ} {work : List ℕ} → PlanAhead file s goal boarding end work → List Valued
+    {file : List ℕ} {s : SectionPlaces} {goal : Goal} {boarding end : ℕ} {work : List ℕ} → PlanAhead file s goal boarding end work → List Valued
 ridesAhead {goal = goal} p = planFrom (goal .target) (p .begins)

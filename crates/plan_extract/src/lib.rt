@@ -17,7 +17,7 @@ use plan_cells::TRIP_CELLS;
 use plan_cells::fill;
 use plan_rows::BLOCK;
 use plan_rows::MAX_DELAY;
-use plan_rows::Sailings;
+use plan_rows::SectionPlaces;
 use plan_rows::can_board;
 use plan_rows::nth_row;
 use plan_slice::write_ride;
@@ -36,7 +36,7 @@ pub struct Written {
 // The rides of the plan whose first row is `boarding`, by boarding row rising, into the plan slice.
 pub fn write_plan(
     file: &[u8],
-    s: Sailings,
+    s: SectionPlaces,
     tables: &[u32],
     goal: Goal,
     boarding: usize,
@@ -60,7 +60,7 @@ pub fn write_plan(
 // The rides of the marked rows; each marks the rows that it may be changed to, all of them further on.
 fn write_wanted(
     file: &[u8],
-    s: Sailings,
+    s: SectionPlaces,
     tables: &[u32],
     goal: Goal,
     boarding: usize,

@@ -28,7 +28,7 @@ use plans::Goal;
 use timetable::Row;
 
 // A share counts 4,096ths.
-const WHOLE: u64 = 4096;
+const SHARE_TOTAL: u64 = 4096;
 
 // What getting off is worth; NONE where it is not open.
 pub fn getting_off(row: Row, tables: &[u32], goal: Goal, work: &[u32]) -> u32
@@ -90,6 +90,6 @@ fn changing(
         entry -= 2;
         departure = departure_of(work[entry]);
     }
-    sum += (WHOLE - done) * long(work[entry + 1]);
-    short((sum + (WHOLE - 1)) / WHOLE)
+    sum += (SHARE_TOTAL - done) * long(work[entry + 1]);
+    short((sum + (SHARE_TOTAL - 1)) / SHARE_TOTAL)
 }

@@ -24,7 +24,8 @@ use Rattle.plans.specs.Journeys.{goalOf, within}
 use Rattle.plans.specs.Worth.{Valued, firstOpen}
 use Rattle.plans.specs.Chosen.{Aim, inTicks, Scan, scan, bestOf, choose, nextOf, leastOf, getOff, stayOn, rowRide}
 use Rattle.plans.specs.Plan.{upTo, extract, ridesFrom, chosenFor}
-use Rattle.plans.proofs.FromRow.{chosenFrom, bestAt, nextFrom, chosen-row, chosen-end, next-row, next-end}
+use Rattle.plans.specs.FromRow.{chosenFrom, bestAt, nextFrom}
+use Rattle.plans.proofs.FromRow.{chosen-row, chosen-end, next-row, next-end}
 use Rattle.plans.proofs.Choice.{choice}
 use Rattle.plans.proofs.BestRides.{best-boards, best-is-ride, chosen-picked}
 use Rattle.plans.proofs.RideMinutes.{departs-before}

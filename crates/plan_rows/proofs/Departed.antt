@@ -24,10 +24,6 @@ left-out : (m : ℕ) (v : Valued) (vs : List Valued) → v .ride .departs < m �
 unfolding notLeft
 left-out m v vs gone = cond-false (v ∷ notLeft m vs) (notLeft m vs) (lt-leb m (v .ride .departs) gone)
 
-kept-in : (m : ℕ) (v : Valued) (vs : List Valued) → leb m (v .ride .departs) ≡ true → notLeft m (v ∷ vs) ≡ v ∷ notLeft m vs
-unfolding notLeft
-kept-in m v vs e = cond-true (v ∷ notLeft m vs) (notLeft m vs) e
-
 -- a choice among those that have left changes none of the others
 others-left : (m : ℕ) (r : Ride) (vs : List Valued) → r .departs < m → notLeft m (others r vs) ≡ notLeft m vs
 unfolding others notLeft

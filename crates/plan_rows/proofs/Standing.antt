@@ -20,22 +20,22 @@ use Rattle.plans.specs.Worth.{Valued, firstOpen}
 use Rattle.plans.specs.Chosen.{inTicks, scan, scanned}
 use Rattle.plans.specs.Plan.{planned, planBefore, planWithin, chosenFor, ridesFrom, latestOf, earliest}
 use Rattle.plan_rows.specs.Reading.{rowsIn, tablesIn, timetableIn, RowFits, SharesFit, FileReadable, BlocksStand}
-use Rattle.plan_rows.specs.Sections.{sailingsOf, Plannable}
+use Rattle.plan_rows.specs.Sections.{placesOf, Plannable}
 
 pub version-one-plannable : Plannable versionOne
 version-one-plannable = record { readable = version-one-readable; delays-fit = omega arith; minutes-fit = omega arith }
 
 -- the rows and tables that a file decodes to are those that planning reads
-pub same-rows : (f : Format) (s : List ℕ) → decode f s .rows ≡ rowsIn s (sailingsOf f (trailerOf f s))
+pub same-rows : (f : Format) (s : List ℕ) → decode f s .rows ≡ rowsIn s (placesOf f (trailerOf f s))
 unfolding decode
 same-rows f s = refl
 
-pub same-tables : (f : Format) (s : List ℕ) → decode f s .tables ≡ tablesIn s (sailingsOf f (trailerOf f s))
+pub same-tables : (f : Format) (s : List ℕ) → decode f s .tables ≡ tablesIn s (placesOf f (trailerOf f s))
 unfolding decode
 same-tables f s = refl
 
 -- planning looks at rows and tables alone
-pub same-earliest : (f : Format) (s : List ℕ) (q : Query) → earliest (decode f s) q ≡ earliest (timetableIn s (sailingsOf f (trailerOf f s))) q
+pub same-earliest : (f : Format) (s : List ℕ) (q : Query) → earliest (decode f s) q ≡ earliest (timetableIn s (placesOf f (trailerOf f s))) q
 unfolding decode earliest scanned
 same-earliest f s q = refl
 
@@ -61,12 +61,12 @@ before-same one other rows tables q (some e) =
     tables rows
     ∙ within-same one other rows tables q (boundOf q e) (firstOpen (chosenFor other (goalOf q (boundOf q e))) (q .source) (q .minute))
 
-pub same-plan : (f : Format) (s : List ℕ) (q : Query) → planned (decode f s) q ≡ planned (timetableIn s (sailingsOf f (trailerOf f s))) q
+pub same-plan : (f : Format) (s : List ℕ) (q : Query) → planned (decode f s) q ≡ planned (timetableIn s (placesOf f (trailerOf f s))) q
 unfolding planned
 same-plan f s q =
     ap (planBefore (decode f s) q) (same-earliest f s q)
-    ∙ before-same (decode f s) (timetableIn s (sailingsOf f (trailerOf f s))) (same-rows f s) (same-tables f s) q
-    (earliest (timetableIn s (sailingsOf f (trailerOf f s))) q)
+    ∙ before-same (decode f s) (timetableIn s (placesOf f (trailerOf f s))) (same-rows f s) (same-tables f s) q
+    (earliest (timetableIn s (placesOf f (trailerOf f s))) q)
 
 pub longest-small : (shares : List ℕ) (most : ℕ) → length shares ≤ suc most → maximumDelay shares ≤ most
 longest-small [] most h = omega arith
@@ -110,7 +110,7 @@ module _ (f : Format) (plannable : Plannable f) (s : List ℕ) (sound : SoundFil
             );
       }
 
-  pub stands : FileReadable s (sailingsOf f (trailerOf f s))
+  pub stands : FileReadable s (placesOf f (trailerOf f s))
   unfolding decode
   stands =
       record {
@@ -125,7 +125,7 @@ module _ (f : Format) (plannable : Plannable f) (s : List ℕ) (sound : SoundFil
         shares-fit = shares-fit-file;
       }
 
-  pub blocks-stand : BlocksStand s (sailingsOf f (trailerOf f s))
+  pub blocks-stand : BlocksStand s (placesOf f (trailerOf f s))
   unfolding decode blockEnd
   blocks-stand =
       record {
@@ -140,6 +140,6 @@ module _ (f : Format) (plannable : Plannable f) (s : List ℕ) (sound : SoundFil
         shares-fit = shares-fit-file;
       }
 
-  pub timely : Timely (timetableIn s (sailingsOf f (trailerOf f s)))
+  pub timely : Timely (timetableIn s (placesOf f (trailerOf f s)))
   unfolding decode
   timely = record { rising = timely-file .rising; forward = timely-file .forward; shared = timely-file .shared }

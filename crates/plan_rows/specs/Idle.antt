@@ -6,7 +6,7 @@ use mathlib.Core.Path.{_≡_}
 use lib.ListN.{length}
 use Rattle.timetable.specs.Timetable.{Timetable}
 use Rattle.plans.specs.Chosen.{Aim}
-use Rattle.plans.proofs.FromRow.{chosenFrom, nextFrom}
+use Rattle.plans.specs.FromRow.{chosenFrom, nextFrom}
 
 -- rows from `end` on that are worth nothing might as well not be there
 pub record Idle (aim : Aim) (t : Timetable) (end : ℕ) : Type 0 where

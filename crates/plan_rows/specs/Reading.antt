@@ -11,16 +11,16 @@ use Rattle.file_layout.specs.Decode.{rowAt, tableAt, rowsFrom, tablesFrom}
 use Rattle.file_layout.specs.Sound.{blockAt}
 use Rattle.timetable.specs.Ticks.{quotientUp}
 use Rattle.plans.specs.Worth.{weigh}
-use Rattle.plan_rows.specs.declared.Sailings.{Sailings}
+use Rattle.plan_rows.specs.declared.SectionPlaces.{SectionPlaces}
 
-abbrev pub rowsIn : List ℕ → Sailings → List Row
+abbrev pub rowsIn : List ℕ → SectionPlaces → List Row
 rowsIn file s = rowsFrom (s .width) file (s .rowstart) (s .rows)
 
-abbrev pub tablesIn : List ℕ → Sailings → List (List ℕ)
+abbrev pub tablesIn : List ℕ → SectionPlaces → List (List ℕ)
 tablesIn file s = tablesFrom file (s .tablestart) (s .classes)
 
 -- planning looks at rows and tables alone
-abbrev pub timetableIn : List ℕ → Sailings → Timetable
+abbrev pub timetableIn : List ℕ → SectionPlaces → Timetable
 timetableIn file s = record { stops = 0; rows = rowsIn file s; tables = tablesIn file s }
 
 -- a row whose numbers are places in the lent cells, and whose last landing is a minute of 16 bits
@@ -39,7 +39,7 @@ pub record SharesFit (shares : List ℕ) : Type 0 where
   pub shares-whole : sum shares ≡ shareTotal
 
 -- the rows and tables stand in the file, and keep what planning uses of the rules
-pub record FileReadable (file : List ℕ) (s : Sailings) : Type 0 where
+pub record FileReadable (file : List ℕ) (s : SectionPlaces) : Type 0 where
   pub few-rows : s .rows ≤ mostRows
   pub few-classes : s .classes ≤ mostClasses
   pub rows-count : length (rowsIn file s) ≡ s .rows
@@ -52,7 +52,7 @@ pub record FileReadable (file : List ℕ) (s : Sailings) : Type 0 where
   pub shares-fit : (c : ℕ) → c < s .classes → SharesFit (sharesOf (tablesIn file s) c)
 
 -- each class block stands in the file
-pub record BlocksStand (file : List ℕ) (s : Sailings) : Type 0 where
+pub record BlocksStand (file : List ℕ) (s : SectionPlaces) : Type 0 where
   pub few-classes : s .classes ≤ mostClasses
   pub tables-count : length (tablesIn file s) ≡ s .classes
   pub block-readable :

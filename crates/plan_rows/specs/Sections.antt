@@ -3,10 +3,10 @@ use Prim.Native.Nat.{_+_, _≤_, _<_}
 use Rattle.file_layout.specs.declared.Format.{Format}
 use Rattle.file_layout.specs.declared.Trailer.{Trailer}
 use Rattle.file_layout.specs.Format.{Readable}
-use Rattle.plan_rows.specs.declared.Sailings.{Sailings}
+use Rattle.plan_rows.specs.declared.SectionPlaces.{SectionPlaces}
 
-abbrev pub sailingsOf : Format → Trailer → Sailings
-sailingsOf f h =
+abbrev pub placesOf : Format → Trailer → SectionPlaces
+placesOf f h =
     record { rows = h .rows; rowstart = h .rowstart; width = f .width; classes = h .classes; tablestart = h .tablestart }
 
 -- a class's shares fit a block of 256 cells, and every last landing is a minute of 16 bits

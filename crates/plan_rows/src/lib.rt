@@ -10,7 +10,7 @@ use timetable::Row;
 
 // Where a sound file's sections stand: how many rows, the first one's byte, the bytes of a row; how
 // many classes, the first one's byte.
-pub struct Sailings {
+pub struct SectionPlaces {
     pub rows: usize,
     pub rowstart: usize,
     pub width: usize,
@@ -29,7 +29,7 @@ pub const EXPECTED: usize = 1;
 pub const SHARES: usize = 2;
 
 // Row number `i`.
-pub fn nth_row(file: &[u8], s: Sailings, i: usize) -> Row
+pub fn nth_row(file: &[u8], s: SectionPlaces, i: usize) -> Row
     requires { ⌜ FileReadable (now file) s × (i < s .rows) ⌝ }
     ensures { λ r. ⌜ (r ≡ rowOf (rowsIn (now (file .entry)) s) i) × SmallRow r ⌝ }
 {
@@ -44,7 +44,7 @@ pub fn can_board(departure: usize, minute: usize) -> bool
 }
 
 // How many rows depart before `minute`: they stand ahead of all others.
-pub fn rows_before(file: &[u8], s: Sailings, minute: usize) -> usize
+pub fn rows_before(file: &[u8], s: SectionPlaces, minute: usize) -> usize
     requires { ⌜ FileReadable (now file) s ⌝ }
     ensures { λ r. ⌜ Cut (rowsIn (now (file .entry)) s) minute r ⌝ }
 {

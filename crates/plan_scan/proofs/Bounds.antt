@@ -8,7 +8,7 @@ use lib.Seq.{slice, slice-empty, length-slice}
 use Rattle.plans.specs.Chosen.{inTicks, Scan, scan, nextOf}
 use Rattle.plan_cells.specs.Cells.{tripCells, missing, pairCell}
 use Rattle.plan_stacks.specs.Stacks.{stackAt, stackStart, startPair, stackSize}
-use Rattle.plan_rows.specs.declared.Sailings.{Sailings}
+use Rattle.plan_rows.specs.declared.SectionPlaces.{SectionPlaces}
 use Rattle.plan_rows.specs.Reading.{rowsIn, tablesIn, FileReadable}
 use Rattle.plans.specs.declared.Goal.{Goal}
 use Rattle.plan_stacks.specs.Chosen.{atStop}
@@ -22,7 +22,7 @@ use Rattle.plan_scan.proofs.TimetableTo.{climbing}
 abbrev nothing : Scan
 nothing = record { weighed = []; chosen = [] }
 
-module _ (file : List ℕ) (s : Sailings) (goal : Goal) (first end : ℕ) (stand : FileReadable file s) (inside : end ≤ s .rows) where
+module _ (file : List ℕ) (s : SectionPlaces) (goal : Goal) (first end : ℕ) (stand : FileReadable file s) (inside : end ≤ s .rows) where
   scan-none : scanIn file s goal end end ≡ nothing
   unfolding scan
   scan-none = ap (scan (inTicks goal) (tablesIn file s) end) (slice-empty end (rowsIn file s))

@@ -1,4 +1,4 @@
--- Counting the rows that board at each stop: with the rows to come, the sizeCells are those of all rows. Assumes nothing.
+-- Counting the rows that board at each stop: with the rows to come, the sizes are those of all rows. Assumes nothing.
 use Prim.Native.Nat.{ℕ, _+_, _≤_, _<_}
 use mathlib.Core.List.{List, [], _∷_}
 use mathlib.Core.Path.{_≡_, refl, subst}

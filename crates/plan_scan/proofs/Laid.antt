@@ -9,7 +9,7 @@ use Rattle.plan_cells.specs.Cells.{tripCells, stopCells, sizeCells, pairCells, 
 use Rattle.plan_cells.specs.Outside.{SameOutside}
 use Rattle.plan_cells.proofs.Filled.{filled-ahead, filled-inside}
 use Rattle.plan_cells.proofs.Outside.{outside-then, outside-wider, outside-set, outside-filled}
-use Rattle.plan_rows.specs.declared.Sailings.{Sailings}
+use Rattle.plan_rows.specs.declared.SectionPlaces.{SectionPlaces}
 use Rattle.plan_rows.specs.Reading.{rowsIn, FileReadable}
 use Rattle.plans.specs.declared.Goal.{Goal}
 use Rattle.plan_stacks.specs.Stacks.{startPair, stackSize}
@@ -43,12 +43,12 @@ module _ (n : ℕ) (w w₁ w₂ : List ℕ) (value : ℕ) (room : used n ≤ len
       ap (λ (l : List ℕ). getD l (tripCells + trip) 0) sizes-filled ∙ filled-ahead w₁ sizeCells 200 0 (tripCells + trip) (omega (arith, room₁)) (omega arith)
       ∙ ap (λ (l : List ℕ). getD l (tripCells + trip) 0) trips-filled ∙ filled-inside w tripCells 2000 value trip (omega arith) h ∙ is
 
-module _ (file : List ℕ) (s : Sailings) (goal : Goal) (first end : ℕ) (stand : FileReadable file s) (inside : end ≤ s .rows) (w₂ w₃ : List ℕ)
+module _ (file : List ℕ) (s : SectionPlaces) (goal : Goal) (first end : ℕ) (stand : FileReadable file s) (inside : end ≤ s .rows) (w₂ w₃ : List ℕ)
     (room : used (s .rows) ≤ length w₂) (counted : Counted (slice first end (rowsIn file s)) w₂ w₃) where
   below-counts : (k : ℕ) → k ≤ 200 → below (stackSize w₃) k ≡ below (λ stop. countAt stop (slice first end (rowsIn file s))) k
   below-counts k h = below-same (stackSize w₃) (λ stop. countAt stop (slice first end (rowsIn file s))) k (λ stop l. counted .counts stop (omega arith))
 
-  -- the regions are as many pairCells as the rows are at most
+  -- the regions are as many pairs as the rows are at most
   pub parts-fit : s .rows + 1 + below (stackSize w₃) 200 < 4294967296
   parts-fit =
       let same = below-counts 200 (let z : 200 ≤ 200 = omega arith in z) in

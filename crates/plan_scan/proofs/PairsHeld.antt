@@ -187,7 +187,7 @@ module _ (w : List ℕ) (n i end : ℕ) (row : Row) (trip : row .trip < 2000) (b
       ∙ other-cell (getD w (nextPair w (row .trip)) 0)
       (getD (set (entered w (row .trip) i) (pairCell i) (getD w (nextPair w (row .trip)) 0)) (nextPair w (row .trip) + 1) 0) k (λ z. omega arith) p q
 
--- pairCells up to pair n and the trips' cells are as they were
+-- the pairs up to pair n and the trips' cells are as they were
 pub pairs-kept :
     (w w' : List ℕ) (n i end : ℕ) (sc : Scan) → end ≤ n → PairsHeld w n i end sc → ((k : ℕ) → k < stopCells → getD w' k 0 ≡ getD w k 0)
     → ((k : ℕ) → pairCells ≤ k → k < pairCell (suc n) → getD w' k 0 ≡ getD w k 0) → PairsHeld w' n i end sc

@@ -1,4 +1,4 @@
--- Parting the stacks: the stopCells below `stop` have their regions. Assumes nothing.
+-- Parting the stacks: the stops below `stop` have their regions. Assumes nothing.
 use Prim.Native.Nat.{ℕ, _+_, _≤_, _<_}
 use mathlib.Core.List.{List}
 use mathlib.Core.Path.{_≡_, refl, sym, subst, _∙_}

@@ -16,7 +16,7 @@ use Rattle.plan_cells.specs.Outside.{SameOutside}
 use Rattle.plan_cells.proofs.Outside.{outside-same}
 use Rattle.plan_cells.specs.Cells.{tripCells, stopCells, sizeCells, used, cellOf, pairCell}
 use Rattle.plan_stacks.specs.Stacks.{stackStart, stackSize, startPair}
-use Rattle.plan_rows.specs.declared.Sailings.{Sailings}
+use Rattle.plan_rows.specs.declared.SectionPlaces.{SectionPlaces}
 use Rattle.plan_rows.specs.Reading.{rowsIn, tablesIn, FileReadable, TablesHeld, RowFits}
 use Rattle.plans.specs.declared.Goal.{Goal}
 use Rattle.plan_stacks.specs.Chosen.{entryOf, atStop}
@@ -34,7 +34,7 @@ use Rattle.plan_scan.proofs.Choosing.{Choosable, stacks-chosen, chose-o
 use Rattle.plan_scan.proofs.TimetableTo.{bestRow, ownRide, scan-step, best-step, BoardsRow, best-boards-row, scan-ordered, climbing, chosen-fits, rising-behind, off-fits}
 
 -- a part of a scan with one row in front
-module _ (file : List ℕ) (s : Sailings) (goal : Goal) (first end : ℕ) (stand : FileReadable file s) (inside : end ≤ s .rows) where
+module _ (file : List ℕ) (s : SectionPlaces) (goal : Goal) (first end : ℕ) (stand : FileReadable file s) (inside : end ≤ s .rows) where
   abbrev rows : List Row
   rows = rowsIn file s
 

@@ -14,7 +14,7 @@ use Rattle.plan_scan.specs.Stores.{pushed, sized, rowWorth}
 use Rattle.plan_cells.proofs.Paired.{length-paired, paired-other, outside-paired}
 use Rattle.plan_stacks.proofs.Entries.{entry, stack-same, stack-pushed}
 
--- k pairCells behind the start, as the top of k + 1 entries
+-- k pairs behind the start, as the top of k + 1 entries
 abbrev pub stored : Row → (i k : ℕ) → List ℕ → List ℕ
 stored row i k w = sized row (suc k) (pushed row i k w)
 

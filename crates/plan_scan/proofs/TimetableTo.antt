@@ -13,11 +13,12 @@ use Rattle.plans.specs.Rides.{Ride, landsBy}
 use Rattle.plans.specs.Sound.{Timely}
 use Rattle.plans.specs.Worth.{Valued}
 use Rattle.plans.specs.Chosen.{inTicks, offInTicks, rowRide, choose, nextOf, leastOf, getOff, stayOn}
-use Rattle.plans.proofs.FromRow.{scanFrom, chosenFrom, bestAt, nextFrom, offAt, scan-row, best-row}
+use Rattle.plans.specs.FromRow.{scanFrom, chosenFrom, bestAt, nextFrom, offAt}
+use Rattle.plans.proofs.FromRow.{scan-row, best-row}
 use Rattle.plans.proofs.BestRides.{best-boards, chosen-picked, each-best}
 use Rattle.plans.proofs.Order.{Ordered}
 use Rattle.plans.proofs.FirstLeast.{chosen-rising, chosen-ordered}
-use Rattle.plan_rows.specs.declared.Sailings.{Sailings}
+use Rattle.plan_rows.specs.declared.SectionPlaces.{SectionPlaces}
 use Rattle.plan_rows.specs.Reading.{rowsIn, tablesIn, FileReadable, RowFits}
 use Rattle.plans.specs.declared.Goal.{Goal}
 use Rattle.plan_stacks.specs.Chosen.{atStop, Climbing, EntryFits}
@@ -28,18 +29,18 @@ use Rattle.plan_scan.proofs.ByStop.{at-from}
 use Rattle.plan_scan.proofs.Rising.{at-ordered, departures-rise}
 use Rattle.plan_scan.proofs.Worths.{off-most}
 
-abbrev pub timetableTo : List ℕ → Sailings → ℕ → Timetable
+abbrev pub timetableTo : List ℕ → SectionPlaces → ℕ → Timetable
 timetableTo file s end = record { stops = 0; rows = take end (rowsIn file s); tables = tablesIn file s }
 
 -- the best ride of row i
-abbrev pub bestRow : List ℕ → Sailings → Goal → (end i : ℕ) → Option Valued
+abbrev pub bestRow : List ℕ → SectionPlaces → Goal → (end i : ℕ) → Option Valued
 bestRow file s goal end i = bestAt (inTicks goal) (timetableTo file s end) i
 
 -- row i's own ride
-abbrev pub ownRide : List ℕ → Sailings → ℕ → Ride
+abbrev pub ownRide : List ℕ → SectionPlaces → ℕ → Ride
 ownRide file s i = rowRide (tablesIn file s) i (rowOf (rowsIn file s) i)
 
-module _ (file : List ℕ) (s : Sailings) (goal : Goal) (end : ℕ) (stand : FileReadable file s) (inside : end ≤ s .rows) where
+module _ (file : List ℕ) (s : SectionPlaces) (goal : Goal) (end : ℕ) (stand : FileReadable file s) (inside : end ≤ s .rows) where
   to-length : length (take end (rowsIn file s)) ≡ end
   to-length = length-take-le end (rowsIn file s) (omega (arith, stand .rows-count))
 

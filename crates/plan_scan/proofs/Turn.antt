@@ -13,7 +13,7 @@ use Rattle.plans.specs.Chosen.{offInTicks}
 use Rattle.plan_cells.specs.Cells.{tripCells, used, cellOf}
 use Rattle.plan_cells.specs.Outside.{SameOutside}
 use Rattle.plan_cells.proofs.Outside.{outside-then}
-use Rattle.plan_rows.specs.declared.Sailings.{Sailings}
+use Rattle.plan_rows.specs.declared.SectionPlaces.{SectionPlaces}
 use Rattle.plan_rows.specs.Reading.{rowsIn, tablesIn, FileReadable, TablesHeld}
 use Rattle.plans.specs.declared.Goal.{Goal}
 use Rattle.plan_landing.specs.Landing.{Ready, SomeReady, rideOff}
@@ -25,14 +25,14 @@ use Rattle.plan_scan.proofs.PairsHeld.{weighs-stays}
 use Rattle.plan_scan.proofs.Step.{weighable, ready, off-same, pairs-after, stacks-after, held-unchosen, pushable, held-chosen, inside-chosen}
 
 -- the row is weighed and not chosen yet
-pub record Weighed (file : List ℕ) (s : Sailings) (goal : Goal) (first end i : ℕ) (w w' : List ℕ) : Type 0 where
+pub record Weighed (file : List ℕ) (s : SectionPlaces) (goal : Goal) (first end i : ℕ) (w w' : List ℕ) : Type 0 where
   pub pairs-held : PairsHeld w' (s .rows) i end (scanIn file s goal i end)
   pub stacks-held :
       (stop : ℕ) → stop < 200
       → StackHeld w' (suc (s .rows)) (slice first end (rowsIn file s)) (slice (suc i) end (rowsIn file s)) (scanIn file s goal (suc i) end .chosen) stop
   pub stays : SameOutside tripCells (used (s .rows)) w w'
 
-module _ (file : List ℕ) (s : Sailings) (goal : Goal) (first end : ℕ) (stand : FileReadable file s) (inside : end ≤ s .rows) (i : ℕ) (low : first ≤ i)
+module _ (file : List ℕ) (s : SectionPlaces) (goal : Goal) (first end : ℕ) (stand : FileReadable file s) (inside : end ≤ s .rows) (i : ℕ) (low : first ≤ i)
     (high : i < end) (w : List ℕ) (room : used (s .rows) ≤ length w) (row : Row) (is : row ≡ rowOf (rowsIn file s) i) where
   module _ (held : Held file s goal first end (suc i) w) where
     pub turn-weighable : Weighable row i w

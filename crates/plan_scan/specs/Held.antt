@@ -10,7 +10,7 @@ use Rattle.timetable.specs.Limits.{mostStops, mostTrips}
 use Rattle.plans.specs.Worth.{Valued}
 use Rattle.plans.specs.Chosen.{Scan, nextOf}
 use Rattle.plan_cells.specs.Cells.{tripCells, missing}
-use Rattle.plan_rows.specs.declared.Sailings.{Sailings}
+use Rattle.plan_rows.specs.declared.SectionPlaces.{SectionPlaces}
 use Rattle.plan_rows.specs.Reading.{rowsIn}
 use Rattle.plans.specs.declared.Goal.{Goal}
 use Rattle.plan_stacks.specs.Chosen.{StackHolds}
@@ -38,7 +38,7 @@ pub record StackHeld (w : List ℕ) (from : ℕ) (all rest : List Row) (chosen :
   pub room : stackSize w stop ≤ countAt stop rest
   pub holds : StackHolds w stop chosen
 
-pub record Held (file : List ℕ) (s : Sailings) (goal : Goal) (first end i : ℕ) (w : List ℕ) : Type 0 where
+pub record Held (file : List ℕ) (s : SectionPlaces) (goal : Goal) (first end i : ℕ) (w : List ℕ) : Type 0 where
   pub pairs-held : PairsHeld w (s .rows) i end (scanIn file s goal i end)
   pub stacks-held :
       (stop : ℕ) → stop < mostStops

@@ -15,7 +15,7 @@ unfoldable pub countAt : ℕ → List Row → ℕ
 countAt stop [] = 0
 countAt stop (r ∷ rows) = let further = countAt stop rows in cond (eqb (r .board) stop) (suc further) further
 
--- the sum over the stopCells below one
+-- the sum over the stops below one
 unfoldable pub below : (ℕ → ℕ) → ℕ → ℕ
 below f zero = 0
 below f (suc stop) = below f stop + f stop
@@ -25,7 +25,7 @@ pub record Counted (rows : List Row) (w w' : List ℕ) : Type 0 where
   pub outside : SameOutside stopCells pairCells w w'
   pub counts : (stop : ℕ) → stop < mostStops → stackSize w' stop ≡ countAt stop rows
 
--- a region of pairCells for each stop, as large as its size was; the stacks are empty
+-- a region of pairs of cells for each stop, as large as its size was; the stacks are empty
 pub record Parted (from : ℕ) (w w' : List ℕ) : Type 0 where
   pub outside : SameOutside stopCells pairCells w w'
   pub starts : (stop : ℕ) → stop < mostStops → startPair w' stop ≡ from + below (stackSize w) stop

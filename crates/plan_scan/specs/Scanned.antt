@@ -10,13 +10,13 @@ use Rattle.plans.specs.Worth.{Valued}
 use Rattle.plans.specs.Chosen.{inTicks, Scan, scan}
 use Rattle.plan_cells.specs.Cells.{pairCells, used, missing}
 use Rattle.plan_stacks.specs.Stacks.{stackStart, stackSize}
-use Rattle.plan_rows.specs.declared.Sailings.{Sailings}
+use Rattle.plan_rows.specs.declared.SectionPlaces.{SectionPlaces}
 use Rattle.plan_rows.specs.Reading.{rowsIn, tablesIn}
 use Rattle.plans.specs.declared.Goal.{Goal}
 use Rattle.plan_stacks.specs.Chosen.{StackHolds, Climbing}
 
 -- the scan of the rows from `first` to before `end`
-abbrev pub scanIn : List ℕ → Sailings → Goal → (first end : ℕ) → Scan
+abbrev pub scanIn : List ℕ → SectionPlaces → Goal → (first end : ℕ) → Scan
 scanIn file s goal first end =
     scan (inTicks goal) (tablesIn file s) first (slice first end (rowsIn file s))
 
@@ -35,6 +35,6 @@ pub record ScanHeld (work : List ℕ) (n first end : ℕ) (sc : Scan) : Type 0 w
   pub pair-holds : (i : ℕ) → first ≤ i → i < end → PairHolds work i (bestIn sc first i)
   pub stack-holds : (stop : ℕ) → stop < mostStops → StackHolds work stop (sc .chosen)
   pub climbing : (stop : ℕ) → stop < mostStops → Climbing stop (sc .chosen)
-  -- each stack stands behind the rows' pairCells, within the cells that planning uses
+  -- each stack stands behind the rows' pairs, within the cells that planning uses
   pub stack-behind : (stop : ℕ) → stop < mostStops → pairCells + 2 * suc n ≤ stackStart work stop
   pub stack-inside : (stop : ℕ) → stop < mostStops → stackStart work stop + 2 * stackSize work stop ≤ used n

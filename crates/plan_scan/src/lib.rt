@@ -14,8 +14,6 @@ ghost use Rattle.plan_scan.specs.Scanned.{scanIn, ScanHeld};
 ghost use Rattle.plan_scan.specs.Stores.{Chose, Pushable, Weighable, Weighs};
 use numbers::cell;
 use numbers::number;
-use plan_cells::MOST_STOPS;
-use plan_cells::MOST_TRIPS;
 use plan_cells::NONE;
 use plan_cells::PAIR_CELLS;
 use plan_cells::SIZE_CELLS;
@@ -23,17 +21,19 @@ use plan_cells::STOP_CELLS;
 use plan_cells::TRIP_CELLS;
 use plan_cells::fill;
 use plan_landing::getting_off;
-use plan_rows::Sailings;
+use plan_rows::SectionPlaces;
 use plan_rows::nth_row;
 use plan_stacks::departure_of;
-use plan_stacks::push;
+use plan_stacks::write_entry;
 use plans::Goal;
+use timetable::MOST_STOPS;
+use timetable::MOST_TRIPS;
 use timetable::Row;
 
 // The rows from `first` to before `end`, from the last to the first.
 pub fn scan_back(
     file: &[u8],
-    s: Sailings,
+    s: SectionPlaces,
     tables: &[u32],
     goal: Goal,
     first: usize,
@@ -55,7 +55,7 @@ pub fn scan_back(
 }
 
 // How many rows board at each stop.
-fn count_boardings(file: &[u8], s: Sailings, first: usize, end: usize, work: &mut [u32])
+fn count_boardings(file: &[u8], s: SectionPlaces, first: usize, end: usize, work: &mut [u32])
     requires { ⌜ FileReadable (now file) s × (first ≤ end) × (end ≤ s .rows) × (pairCells ≤ length (now work))
         × ((stop : ℕ) → stop < mostStops → stackSize (now work) stop ≡ 0) ⌝ }
     ensures { λ r. ⌜ Counted (slice first end (rowsIn (now (file .entry)) s)) (now (work .entry)) (now (work .exit)) ⌝ }
@@ -69,7 +69,7 @@ fn count_boardings(file: &[u8], s: Sailings, first: usize, end: usize, work: &mu
     }
 }
 
-// A region of pairCells for each stop, one behind the other from pair `from` on; the stacks are empty.
+// A region of pairs of cells for each stop, one behind the other from pair `from` on; the stacks are empty.
 fn part_stacks(from: usize, work: &mut [u32])
     requires { ⌜ (pairCells ≤ length (now work)) × (from + below (stackSize (now work)) mostStops < 4294967296) ⌝ }
     ensures { λ r. ⌜ Parted from (now (work .entry)) (now (work .exit)) ⌝ }
@@ -87,7 +87,7 @@ fn part_stacks(from: usize, work: &mut [u32])
 // From row `end` down to row `first`: each row's worth, then whether it is chosen.
 fn weigh_rows(
     file: &[u8],
-    s: Sailings,
+    s: SectionPlaces,
     tables: &[u32],
     goal: Goal,
     first: usize,
@@ -144,7 +144,7 @@ fn choose(row: Row, i: usize, work: &mut [u32])
         return;
     }
     if size == 0 {
-        push(work, start, row.departure, i, worth);
+        write_entry(work, start, row.departure, i, worth);
         work[SIZE_CELLS + board] = 1;
         return;
     }
@@ -153,9 +153,9 @@ fn choose(row: Row, i: usize, work: &mut [u32])
         return;
     }
     if departure_of(work[PAIR_CELLS + 2 * top]) == row.departure {
-        push(work, top, row.departure, i, worth);
+        write_entry(work, top, row.departure, i, worth);
     } else {
-        push(work, top + 1, row.departure, i, worth);
+        write_entry(work, top + 1, row.departure, i, worth);
         work[SIZE_CELLS + board] = cell(size + 1);
     }
 }

@@ -11,12 +11,12 @@ use Rattle.file_layout.specs.Decode.{tableAt, blockEnd}
 use Rattle.file_layout.proofs.Blocks.{next-block, table-has}
 use Rattle.file_layout.specs.Sound.{blockAt}
 use Rattle.plan_cells.specs.Outside.{SameOutside}
-use Rattle.plan_rows.specs.declared.Sailings.{Sailings}
+use Rattle.plan_rows.specs.declared.SectionPlaces.{SectionPlaces}
 use Rattle.plan_rows.specs.Reading.{tablesIn, blockCell, BlockHeld, BlocksStand}
 use Rattle.plan_shares.specs.Summed.{BlockStands}
 
 -- a class's block stands where it starts
-pub block-stands : (file : List ℕ) (s : Sailings) → BlocksStand file s → (c : ℕ) → c < s .classes → BlockStands file (blockAt file (s .tablestart) c)
+pub block-stands : (file : List ℕ) (s : SectionPlaces) → BlocksStand file s → (c : ℕ) → c < s .classes → BlockStands file (blockAt file (s .tablestart) c)
 unfolding blockEnd
 block-stands file s b c h =
     record {
@@ -35,18 +35,18 @@ block-kept cells cells' k c shares same earlier few held =
     }
 
 -- the blocks of the classes below k are held, and the next one starts at `block`
-pub record ReadSoFar (file : List ℕ) (s : Sailings) (cells : List ℕ) (k block : ℕ) : Type 0 where
+pub record ReadSoFar (file : List ℕ) (s : SectionPlaces) (cells : List ℕ) (k block : ℕ) : Type 0 where
   pub not-past : k ≤ s .classes
   pub next : block ≡ blockAt file (s .tablestart) k
   pub room : length cells ≡ 4096
   pub held : (c : ℕ) → c < k → BlockHeld cells c (sharesOf (tablesIn file s) c)
 
-pub read-none : (file : List ℕ) (s : Sailings) (cells : List ℕ) → length cells ≡ 4096 → ReadSoFar file s cells 0 (s .tablestart)
+pub read-none : (file : List ℕ) (s : SectionPlaces) (cells : List ℕ) → length cells ≡ 4096 → ReadSoFar file s cells 0 (s .tablestart)
 unfolding blockAt
 read-none file s cells room =
     record { not-past = omega arith; next = refl; room = room; held = λ c h. absurd (let z : ⊥ = omega arith in z) }
 
-pub read-more : (file : List ℕ) (s : Sailings) → BlocksStand file s → (cells cells' : List ℕ) (k block end : ℕ)
+pub read-more : (file : List ℕ) (s : SectionPlaces) → BlocksStand file s → (cells cells' : List ℕ) (k block end : ℕ)
     → ReadSoFar file s cells k block → k < s .classes → end ≡ blockEnd file block → BlockHeld cells' k (tableAt file block)
     → SameOutside (blockCell k) (blockCell (suc k)) cells cells' → ReadSoFar file s cells' (k + 1) end
 read-more file s b cells cells' k block end so-far inside ends here same =

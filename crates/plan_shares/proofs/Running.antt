@@ -10,18 +10,10 @@ use lib.Seq.{getD-set-same, getD-set-other}
 use Rattle.timetable.specs.Classes.{shareTotal, sum}
 use Rattle.file_layout.specs.Decode.{sharesFrom}
 use Rattle.numbers.specs.Numbers.{u16At}
-use Rattle.file_layout.proofs.Blocks.{shares-length}
+use Rattle.file_layout.proofs.Blocks.{shares-length, share-at}
 use Rattle.plans.specs.Worth.{weigh}
 use Rattle.plan_cells.proofs.Outside.{outside-same, outside-then, outside-wider, outside-set}
 use Rattle.plan_shares.specs.Summed.{Summed}
-
-pub share-of-file : (s : List ℕ) (at n k : ℕ) → k < n → getD (sharesFrom s at n) k 0 ≡ u16At s (at + 2 * k)
-unfolding sharesFrom
-share-of-file s at zero k h = absurd (not-suc-le-zero h)
-share-of-file s at (suc n) zero h = ap (u16At s) (sym (add-zero at))
-share-of-file s at (suc n) (suc k) h =
-    let here : at + 2 + 2 * k ≡ at + 2 * suc k = omega arith in
-    share-of-file s (at + 2) n k (le-of-suc-le-suc h) ∙ ap (u16At s) here
 
 pub sum-more : (xs : List ℕ) (k : ℕ) → k < length xs → sum (take (suc k) xs) ≡ sum (take k xs) + getD xs k 0
 unfolding sum
@@ -101,7 +93,7 @@ module _
     below = omega (arith, shares-length file at (suc maximum))
 
     next-share : getD (sharesFrom file at (suc maximum)) minute 0 ≡ share
-    next-share = share-of-file file at (suc maximum) minute (omega arith) ∙ sym here
+    next-share = share-at file at (suc maximum) minute (omega arith) ∙ sym here
 
     pub total-next : total + share ≡ sum (take (suc minute) (sharesFrom file at (suc maximum)))
     total-next =

@@ -14,10 +14,10 @@ use plan_rows::BLOCK;
 use plan_rows::EXPECTED;
 use plan_rows::MAX_DELAY;
 use plan_rows::SHARES;
-use plan_rows::Sailings;
+use plan_rows::SectionPlaces;
 
 // Each class's block of cells, from its class block in the file.
-pub fn read_tables(file: &[u8], s: Sailings, tables: &mut [u32])
+pub fn read_tables(file: &[u8], s: SectionPlaces, tables: &mut [u32])
     requires { ⌜ BlocksStand (now file) s × (length (now tables) ≡ tableCells) ⌝ }
     ensures { λ r. ⌜ TablesHeld (now (tables .exit)) (tablesIn (now (file .entry)) s) ⌝ }
 {

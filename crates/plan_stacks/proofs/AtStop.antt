@@ -69,23 +69,6 @@ at-stop-member s (w ∷ vs) v m =
     ifb (λ b. List·Memᴰ v (cond b (w ∷ atStop s vs) (atStop s vs)) → List·Memᴰ v (w ∷ vs)) (eqb (w .ride .from) s)
     (λ here. member-on (at-stop-member s vs v)) (λ elsewhere n. List·Memᴰ·tail (at-stop-member s vs v n)) m
 
-pub length-at-stop : (s : ℕ) (vs : List Valued) → length (atStop s vs) ≤ length vs
-unfolding atStop
-length-at-stop s [] = omega arith
-length-at-stop s (v ∷ vs) =
-    let rest = length-at-stop s vs in
-    ifb (λ b. length (cond b (v ∷ atStop s vs) (atStop s vs)) ≤ suc (length vs)) (eqb (v .ride .from) s) (λ here. omega arith)
-    (λ elsewhere. omega arith)
-
--- taking them again takes them all
-pub at-stop-again : (s : ℕ) (vs : List Valued) → atStop s (atStop s vs) ≡ atStop s vs
-unfolding atStop
-at-stop-again s [] = refl
-at-stop-again s (v ∷ vs) =
-    ifb (λ b. atStop s (cond b (v ∷ atStop s vs) (atStop s vs)) ≡ cond b (v ∷ atStop s vs) (atStop s vs)) (eqb (v .ride .from) s)
-    (λ here. cond-true (v ∷ atStop s (atStop s vs)) (atStop s (atStop s vs)) here ∙ ap (λ l. v ∷ l) (at-stop-again s vs))
-    (λ elsewhere. at-stop-again s vs)
-
 never : (a : Bool) {b : Bool} → b ≡ false → (a && b) ≡ false
 never true e = e
 never false e = refl

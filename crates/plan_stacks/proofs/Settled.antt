@@ -17,8 +17,8 @@ use Rattle.plan_stacks.proofs.stack_of.Kinds as stack-of-kinds
 use Rattle.plan_stacks.proofs.stack_of.Reads as stack-of-reads
 use Rattle.plan_stacks.proofs.top.Kinds as top-kinds
 use Rattle.plan_stacks.proofs.top.Reads as top-reads
-use Rattle.plan_stacks.proofs.push.Kinds as push-kinds
-use Rattle.plan_stacks.proofs.push.Reads as push-reads
+use Rattle.plan_stacks.proofs.write_entry.Kinds as write-entry-kinds
+use Rattle.plan_stacks.proofs.write_entry.Reads as write-entry-reads
 use Rattle.plan_stacks.proofs.first_open.Kinds as first-open-kinds
 use Rattle.plan_stacks.proofs.first_open.Reads as first-open-reads
 
@@ -50,8 +50,8 @@ pub top-settled : SettlesResult 1 top-kinds.ps top-kinds.r top-reads.Post
 top-settled κs arguments one other ending another first second =
     ap₂ (λ (a b : ℕ). record { row = a; worth = b }) (first .0 ∙ sym (second .0)) (first .1 ∙ sym (second .1))
 
-pub push-settled :
-    (κs : Lfts 1) (arguments : Dens κs push-kinds.ps) (one other : resT push-kinds.r κs .Denot)
-    (ending another : AtExit (endedOf 1 push-kinds.ps push-kinds.r) κs) → push-reads.Post κs arguments one ending
-    → push-reads.Post κs arguments other another → now (ending .0) ≡ now (another .0)
-push-settled κs arguments one other ending another first second = first ∙ sym second
+pub write-entry-settled :
+    (κs : Lfts 1) (arguments : Dens κs write-entry-kinds.ps) (one other : resT write-entry-kinds.r κs .Denot)
+    (ending another : AtExit (endedOf 1 write-entry-kinds.ps write-entry-kinds.r) κs) → write-entry-reads.Post κs arguments one ending
+    → write-entry-reads.Post κs arguments other another → now (ending .0) ≡ now (another .0)
+write-entry-settled κs arguments one other ending another first second = first ∙ sym second

@@ -65,7 +65,7 @@ pub fn top(work: &[u32], stack: Stack) -> TopEntry
 }
 
 // The entry of a row at pair `pair`.
-pub fn push(work: &mut [u32], pair: usize, departure: usize, row: usize, worth: u32)
+pub fn write_entry(work: &mut [u32], pair: usize, departure: usize, row: usize, worth: u32)
     requires { ⌜ (keyOf departure row < 4294967296) × (pairCell pair + 1 < length (now work)) ⌝ }
     ensures { λ r. ⌜ now (work .exit) ≡ paired (now (work .entry)) pair (keyOf departure row) worth ⌝ }
 {

@@ -11,16 +11,17 @@ use lib.Dec.{eqb}
 use borrow.Author.Tests.{eq-eqb, ne-eqb}
 use Rattle.laws.proofs.Tests.{ifb, cond-true, cond-false}
 use Rattle.query.specs.declared.Query.{Query}
+use Rattle.query.specs.Query.{mostQuarters}
 use Rattle.plans.specs.Sound.{Timely}
 use Rattle.plans.specs.Rides.{Ride, IsRide, landsBy}
 use Rattle.plans.specs.Journeys.{Onward, leaves, changes, boundOf}
 use Rattle.plans.specs.Plan.{earliest}
 use Rattle.plans.proofs.EarliestSafe.{earliest-is-least, journey-after}
-use Rattle.plan_rows.specs.declared.Sailings.{Sailings}
+use Rattle.plan_rows.specs.declared.SectionPlaces.{SectionPlaces}
 use Rattle.plan_rows.specs.Reading.{timetableIn, FileReadable}
 use Rattle.plan_whole.specs.Steps.{Reaches}
 
-module _ (file : List ℕ) (s : Sailings) (stand : FileReadable file s) where
+module _ (file : List ℕ) (s : SectionPlaces) (stand : FileReadable file s) where
   ride-lands : (r : Ride) → IsRide (timetableIn file s) r → landsBy r < 65536
   ride-lands r is =
       let inside : r .leave < s .rows = omega (arith, is .inside, stand .rows-count) in
@@ -49,6 +50,6 @@ pub real-bound : (q : Query) (e : ℕ) → (q .code ≡ 0 → ⊥) → q .minute
 real-bound q e h = sym (cond-false 0 (q .minute + q .code * (e - q .minute) / 4) (ne-eqb (q .code) 0 h))
 
 -- sixteen quarters of a minute's length fit a cell
-pub quarters-fit : (code minutes : ℕ) → code ≤ 16 → minutes < 65536 → code * minutes ≤ 1048560
+pub quarters-fit : (code minutes : ℕ) → code ≤ mostQuarters → minutes < 65536 → code * minutes ≤ 1048560
 quarters-fit code minutes few short =
-    let a : code * minutes ≤ 16 * minutes = mul-le-mul-right minutes few in omega arith
+    let a : code * minutes ≤ mostQuarters * minutes = mul-le-mul-right minutes few in omega arith

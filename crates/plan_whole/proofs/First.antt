@@ -20,7 +20,7 @@ use Rattle.plans.specs.Plan.{Window, wanted, upTo, windowsOf, extract, ridesFro
 use Rattle.plans.proofs.Choice.{choice, Choice, worthless, at-target, behind, added, same-minute}
 use Rattle.plans.proofs.BestRides.{best-boards, chosen-picked}
 use Rattle.plan_stacks.specs.Stacks.{keyOf, entryRow, entryWorth, Entry, entryAt, stackStart, stackSize}
-use Rattle.plan_rows.specs.declared.Sailings.{Sailings}
+use Rattle.plan_rows.specs.declared.SectionPlaces.{SectionPlaces}
 use Rattle.plan_rows.specs.Reading.{timetableIn}
 use Rattle.plan_rows.specs.Idle.{Idle}
 use Rattle.plan_rows.proofs.Cuts.{scanPart, part-chosen, part-first, part-rides}
@@ -70,7 +70,7 @@ extract-few target ws (v ∷ vs) =
 -- the part of the rows from `first` to before `end`, and the cells after its scan
 module _
     (file : List ℕ)
-    (s : Sailings)
+    (s : SectionPlaces)
     (tables : List ℕ)
     (q : Query)
     (first : ℕ)

@@ -4,6 +4,7 @@ use native.Mathlib.Omega.{arith}
 use mathlib.Core.List.{List}
 use mathlib.Core.Option.{some}
 use mathlib.Core.Path.{_≡_, sym, ap, subst, _∙_}
+use Rattle.timetable.specs.Limits.{mostStops}
 use Rattle.file_layout.specs.declared.Format.{Format}
 use Rattle.file_layout.specs.declared.Trailer.{Trailer}
 use Rattle.file_layout.specs.Decode.{trailerOf, decode}
@@ -11,17 +12,20 @@ use Rattle.query.specs.declared.Query.{Query}
 use Rattle.plans.specs.Sound.{Timely}
 use Rattle.plans.specs.Journeys.{boundOf}
 use Rattle.plans.specs.Plan.{planned, planBefore, earliest}
-use Rattle.plan_rows.specs.declared.Sailings.{Sailings}
+use Rattle.plan_rows.specs.declared.SectionPlaces.{SectionPlaces}
 use Rattle.plan_rows.specs.Reading.{rowsIn, tablesIn, timetableIn, FileReadable, BlocksStand, Cut, TablesHeld}
-use Rattle.plan_rows.specs.Sections.{sailingsOf}
+use Rattle.plan_rows.specs.Sections.{placesOf}
 use Rattle.plan_rows.proofs.Standing.{stands, blocks-stand, timely, same-earliest, same-plan}
 use Rattle.plan_whole.proofs.Bounds.{earliest-fits}
 use Rattle.plan_whole.specs.Steps.{CallFits, PlanningInput, planIn}
 
 module _ (f : Format) (file : List ℕ) (trailer : Trailer) (q : Query) (asked : CallFits f file trailer q)
-    (s : Sailings) (from-trailer : s ≡ sailingsOf f trailer) where
-  where-they-stand : s ≡ sailingsOf f (trailerOf f file)
-  where-they-stand = from-trailer ∙ ap (sailingsOf f) (asked .read)
+    (s : SectionPlaces) (from-trailer : s ≡ placesOf f trailer) where
+  where-they-stand : s ≡ placesOf f (trailerOf f file)
+  where-they-stand = from-trailer ∙ ap (placesOf f) (asked .read)
+
+  stops-few : trailer .stops ≤ mostStops
+  stops-few = subst (λ (h : Trailer). h .stops ≤ mostStops) (sym (asked .read)) (asked .sound .trailer .in-range .stops-most)
 
   pub rows-stand : FileReadable file s
   rows-stand = subst (FileReadable file) (sym where-they-stand) (stands f (asked .plannable) file (asked .sound))
@@ -35,23 +39,23 @@ module _ (f : Format) (file : List ℕ) (trailer : Trailer) (q : Query) (asked :
       record {
         stand = rows-stand;
         held = held;
-        timely = subst (λ (x : Sailings). Timely (timetableIn file x)) (sym where-they-stand) (timely f (asked .plannable) file (asked .sound));
-        source = asked .source;
-        target = asked .target;
-        apart = asked .apart;
-        minute = omega (arith, asked .minute, asked .plannable .minutes-fit);
+        timely = subst (λ (x : SectionPlaces). Timely (timetableIn file x)) (sym where-they-stand) (timely f (asked .plannable) file (asked .sound));
+        source = omega (arith, asked .fits .source, stops-few);
+        target = omega (arith, asked .fits .target, stops-few);
+        apart = asked .fits .apart;
+        minute = omega (arith, asked .fits .minute, asked .plannable .minutes-fit);
         cut = cut;
       }
 
   pub earliest-there : earliest (decode f file) q ≡ earliest (timetableIn file s) q
   earliest-there =
-      same-earliest f file q ∙ ap (λ (x : Sailings). earliest (timetableIn file x) q) (sym where-they-stand)
+      same-earliest f file q ∙ ap (λ (x : SectionPlaces). earliest (timetableIn file x) q) (sym where-they-stand)
 
   pub plan-there : planned (decode f file) q ≡ planned (timetableIn file s) q
-  plan-there = same-plan f file q ∙ ap (λ (x : Sailings). planned (timetableIn file x) q) (sym where-they-stand)
+  plan-there = same-plan f file q ∙ ap (λ (x : SectionPlaces). planned (timetableIn file x) q) (sym where-they-stand)
 
   pub rows-there : s .rows ≡ trailer .rows
-  rows-there = ap (λ (x : Sailings). x .rows) from-trailer
+  rows-there = ap (λ (x : SectionPlaces). x .rows) from-trailer
 
   -- the plan is the one within the bound that E gives
   pub plan-by-arrival : (e : ℕ) → earliest (timetableIn file s) q ≡ some e → planned (decode f file) q ≡ planIn file s q (boundOf q e)
@@ -62,5 +66,5 @@ module _ (f : Format) (file : List ℕ) (trailer : Trailer) (q : Query) (asked :
   pub arrival-there : (e : ℕ) → earliest (decode f file) q ≡ some e → (q .minute ≤ e) × (e < 65536)
   arrival-there e found =
       earliest-fits file s rows-stand
-      (subst (λ (x : Sailings). Timely (timetableIn file x)) (sym where-they-stand) (timely f (asked .plannable) file (asked .sound)))
+      (subst (λ (x : SectionPlaces). Timely (timetableIn file x)) (sym where-they-stand) (timely f (asked .plannable) file (asked .sound)))
       q e (sym earliest-there ∙ found)

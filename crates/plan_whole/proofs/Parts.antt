@@ -12,7 +12,7 @@ use Rattle.timetable.specs.declared.Row.{Row}
 use Rattle.query.specs.declared.Query.{Query}
 use Rattle.plans.specs.Sound.{Timely}
 use Rattle.plans.specs.Chosen.{inTicks}
-use Rattle.plan_rows.specs.declared.Sailings.{Sailings}
+use Rattle.plan_rows.specs.declared.SectionPlaces.{SectionPlaces}
 use Rattle.plan_rows.specs.Reading.{rowsIn, timetableIn, Cut}
 use Rattle.plan_rows.specs.Idle.{Idle}
 use Rattle.plan_rows.proofs.Cuts.{idle-end, bound-idle}
@@ -47,7 +47,7 @@ within-inside rows bound end within =
     ifb (λ _. end ≤ length rows) (eqb bound 0) (λ e. omega (arith, within .all (eqb-true bound 0 e)))
     (λ e. within .before (eqb-false bound 0 e) .inside)
 
-pub is-part : (file : List ℕ) (s : Sailings) (tables : List ℕ) (q : Query) (goal : Goal) (first end : ℕ) → PlanningInput file s tables q first
+pub is-part : (file : List ℕ) (s : SectionPlaces) (tables : List ℕ) (q : Query) (goal : Goal) (first end : ℕ) → PlanningInput file s tables q first
     → goal .target ≡ q .target → goal .bound < 4294967296 → Reaches (q .minute) (goal .bound) → RowsWithin (rowsIn file s) (goal .bound) end
     → RowsInReach file s q goal first end
 is-part file s tables q goal first end laid target fits reaches within =

@@ -12,6 +12,7 @@ use Rattle.file_layout.specs.declared.Trailer.{Trailer}
 use Rattle.file_layout.specs.Decode.{trailerOf}
 use Rattle.file_layout.specs.Sound.{SoundFile}
 use Rattle.query.specs.declared.Query.{Query}
+use Rattle.query.specs.Query.{QueryFits}
 use Rattle.plans.specs.Journeys.{goalOf}
 use Rattle.plans.specs.Sound.{Timely}
 use Rattle.plans.specs.Worth.{firstOpen}
@@ -19,25 +20,21 @@ use Rattle.plans.specs.Chosen.{inTicks}
 use Rattle.plans.specs.Plan.{Plan, chosenFor, planWithin}
 use Rattle.plan_cells.specs.Outside.{SameOutside}
 use Rattle.plan_cells.specs.Cells.{tripCells}
-use Rattle.plan_rows.specs.declared.Sailings.{Sailings}
+use Rattle.plan_rows.specs.declared.SectionPlaces.{SectionPlaces}
 use Rattle.plan_rows.specs.Reading.{rowsIn, tablesIn, timetableIn, FileReadable, Cut, TablesHeld}
 use Rattle.plan_rows.specs.Sections.{Plannable}
 use Rattle.plan_rows.specs.Idle.{Idle}
 use Rattle.plans.specs.declared.Goal.{Goal}
 
--- a sound file with its trailer, and a query of its stops and minutes
+-- a sound file with its trailer, and a query that keeps its rule there
 pub record CallFits (f : Format) (file : List ℕ) (trailer : Trailer) (q : Query) : Type 0 where
   pub plannable : Plannable f
   pub sound : SoundFile f file
   pub read : trailer ≡ trailerOf f file
-  pub source : q .source < mostStops
-  pub target : q .target < mostStops
-  pub apart : q .source ≢ q .target
-  pub minute : q .minute ≤ f .lastminute
-  pub code : q .code ≤ 16
+  pub fits : QueryFits (trailer .stops) (f .lastminute) q
 
 -- a sound file's rows, its tables as lent cells, and the first row at or after T
-pub record PlanningInput (file : List ℕ) (s : Sailings) (tables : List ℕ) (q : Query) (first : ℕ) : Type 0 where
+pub record PlanningInput (file : List ℕ) (s : SectionPlaces) (tables : List ℕ) (q : Query) (first : ℕ) : Type 0 where
   pub stand : FileReadable file s
   pub held : TablesHeld tables (tablesIn file s)
   pub timely : Timely (timetableIn file s)
@@ -57,7 +54,7 @@ pub record RowsWithin (rows : List Row) (bound end : ℕ) : Type 0 where
   pub before : bound ≢ 0 → Cut rows bound end
 
 -- the rows from `first` to before `end` are all that a plan for this goal can board
-pub record RowsInReach (file : List ℕ) (s : Sailings) (q : Query) (goal : Goal) (first end : ℕ) : Type 0 where
+pub record RowsInReach (file : List ℕ) (s : SectionPlaces) (q : Query) (goal : Goal) (first end : ℕ) : Type 0 where
   pub target : goal .target ≡ q .target
   pub bound : goal .bound < 4294967296
   pub ordered : first ≤ end
@@ -65,7 +62,7 @@ pub record RowsInReach (file : List ℕ) (s : Sailings) (q : Query) (goal : Goal
   pub idle : Idle (inTicks goal) (timetableIn file s) end
 
 -- the plan within a bound, none if no chosen row can be boarded at the source from T on
-abbrev pub planIn : List ℕ → Sailings → Query → ℕ → Option Plan
+abbrev pub planIn : List ℕ → SectionPlaces → Query → ℕ → Option Plan
 planIn file s q bound =
     planWithin (timetableIn file s) q bound (firstOpen (chosenFor (timetableIn file s) (goalOf q bound)) (q .source) (q .minute))
 

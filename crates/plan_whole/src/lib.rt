@@ -3,11 +3,12 @@ ghost use mathlib.Core.Path.{_≡_};
 ghost use Prim.Native.Nat.{ℕ, _+_, _*_, _≤_, _<_};
 ghost use lib.ListN.{length};
 ghost use Rattle.file_layout.specs.Decode.{decode};
+ghost use Rattle.query.specs.Query.{mostQuarters};
 ghost use Rattle.plans.specs.Journeys.{boundOf};
 ghost use Rattle.plans.specs.Plan.{planned, earliest as earliestIn};
 ghost use Rattle.plan_cells.specs.Cells.{pairCells, used, cellOf};
 ghost use Rattle.plan_rows.specs.Reading.{rowsIn, timetableIn, FileReadable};
-ghost use Rattle.plan_rows.specs.Sections.{sailingsOf};
+ghost use Rattle.plan_rows.specs.Sections.{placesOf};
 ghost use Rattle.plan_scan.specs.Scanned.{scanIn, ScanHeld};
 ghost use Rattle.plan_whole.specs.Answers.{Answers};
 ghost use Rattle.plan_whole.specs.Steps.{CallFits, PlanningInput, Reaches, RowsWithin, RowsInReach, planIn, KeptBehind};
@@ -19,7 +20,7 @@ use numbers::number;
 use plan_cells::NONE;
 use plan_earliest::earliest_arrival;
 use plan_extract::write_plan;
-use plan_rows::Sailings;
+use plan_rows::SectionPlaces;
 use plan_rows::rows_before;
 use plan_scan::scan_back;
 use plan_shares::read_tables;
@@ -59,7 +60,7 @@ pub fn plan_in_room(
         × KeptBehind (used (trailer .rows)) (now (work .entry)) (now (work .exit)) ⌝ }
 {
     let mut tables = [0u32; TABLE_CELLS];
-    let s = sailings_in(f, trailer);
+    let s = places_in(f, trailer);
     read_tables(file, s, &mut tables);
     let first = rows_before(file, s, q.minute);
     let end = earliest_arrival(file, s, &tables, q.source, q.target, q.minute, first, work);
@@ -71,10 +72,10 @@ pub fn plan_in_room(
 }
 
 // Where a file's sections stand.
-fn sailings_in(f: Format, trailer: Trailer) -> Sailings
-    ensures { λ r. ⌜ r ≡ sailingsOf f trailer ⌝ }
+fn places_in(f: Format, trailer: Trailer) -> SectionPlaces
+    ensures { λ r. ⌜ r ≡ placesOf f trailer ⌝ }
 {
-    Sailings {
+    SectionPlaces {
         rows: trailer.rows,
         rowstart: trailer.rowstart,
         width: f.width,
@@ -85,7 +86,7 @@ fn sailings_in(f: Format, trailer: Trailer) -> Sailings
 
 // T + q(E - T)/4 rounded down; 0 stands for no bound.
 fn bound_of(q: Query, end: usize) -> usize
-    requires { ⌜ (q .minute ≤ end) × (end < 65536) × (q .code ≤ 16) ⌝ }
+    requires { ⌜ (q .minute ≤ end) × (end < 65536) × (q .code ≤ mostQuarters) ⌝ }
     ensures { λ r. ⌜ (r ≡ boundOf q end) × (r < 4294967296) ⌝ }
 {
     if q.code == 0 {
@@ -97,7 +98,7 @@ fn bound_of(q: Query, end: usize) -> usize
 // The plan within a bound that does not lie before T, or 8.
 fn plan_within(
     file: &[u8],
-    s: Sailings,
+    s: SectionPlaces,
     tables: &[u32],
     q: Query,
     bound: usize,
@@ -121,7 +122,7 @@ fn plan_within(
 
 // The rows that a plan within the bound can board: a row that departs at or after a real bound lands
 // behind it.
-fn rows_within(file: &[u8], s: Sailings, bound: usize) -> usize
+fn rows_within(file: &[u8], s: SectionPlaces, bound: usize) -> usize
     requires { ⌜ FileReadable (now file) s ⌝ }
     ensures { λ r. ⌜ RowsWithin (rowsIn (now (file .entry)) s) bound r ⌝ }
 {
@@ -134,7 +135,7 @@ fn rows_within(file: &[u8], s: Sailings, bound: usize) -> usize
 // The plan that the scan's cells lead to, or 8.
 fn plan_scanned(
     file: &[u8],
-    s: Sailings,
+    s: SectionPlaces,
     tables: &[u32],
     q: Query,
     goal: Goal,
@@ -174,7 +175,7 @@ pub fn earliest_in_room(file: &[u8], f: Format, trailer: Trailer, q: Query, work
     ensures { λ r. ⌜ (r ≡ cellOf (earliestIn (decode f (now (file .entry))) q)) × KeptBehind pairCells (now (work .entry)) (now (work .exit)) ⌝ }
 {
     let mut tables = [0u32; TABLE_CELLS];
-    let s = sailings_in(f, trailer);
+    let s = places_in(f, trailer);
     read_tables(file, s, &mut tables);
     let first = rows_before(file, s, q.minute);
     earliest_arrival(file, s, &tables, q.source, q.target, q.minute, first, work)

@@ -23,7 +23,7 @@ use Rattle.file_layout.proofs.Sound.{sound-gives, sound-checked}
 use Rattle.file_layout.proofs.Refusals.{refused-checked, file-placed}
 use Rattle.query.specs.declared.Query.{Query}
 use Rattle.query.specs.Query.{queryRule, QueryFits}
-use Rattle.query.proofs.Rules.{rule-gives, code-most}
+use Rattle.query.proofs.Rules.{rule-gives}
 use Rattle.plan_rows.specs.Sections.{Plannable}
 use Rattle.plan_whole.specs.Steps.{CallFits}
 use Rattle.planner.specs.declared.Room.{Room}
@@ -193,18 +193,7 @@ module _ {f : Format} {file : List ℕ} {h : Trailer} {q : Query} {work other : 
       subst (λ (k : Trailer). (k .stops ≤ mostStops) × (k .rows ≤ mostRows)) (sym (call .read)) (range .stops-most, range .rows-most)
 
   pub asks : CallFits f file h q
-  asks =
-      let fits = query-kept in
-      record {
-        plannable = call .plannable;
-        sound = file-sound;
-        read = call .read;
-        source = omega (arith, fits .source, few-kept .0);
-        target = omega (arith, fits .target, few-kept .0);
-        apart = fits .apart;
-        minute = fits .minute;
-        code = code-most fits;
-      }
+  asks = record { plannable = call .plannable; sound = file-sound; read = call .read; fits = query-kept }
 
 -- what a room needs fits a number
 pub small-product : (each count : ℕ) → each < 65536 → count ≤ mostRows → each * count ≤ 131072000
@@ -213,10 +202,10 @@ small-product each count small few =
 
 -- the three rooms of planning are small
 pub work-small : (lent : ℕ) → SmallRoom (workRoom lent)
-work-small lent = record { arow = omega arith; astop = omega arith; fixed = omega arith }
+work-small lent = record { perrow = omega arith; perstop = omega arith; fixed = omega arith }
 
 pub plan-small : (lent : ℕ) → SmallRoom (planRoom lent)
-plan-small lent = record { arow = omega arith; astop = omega arith; fixed = omega arith }
+plan-small lent = record { perrow = omega arith; perstop = omega arith; fixed = omega arith }
 
 pub none-small : SmallRoom noRoom
-none-small = record { arow = omega arith; astop = omega arith; fixed = omega arith }
+none-small = record { perrow = omega arith; perstop = omega arith; fixed = omega arith }

@@ -36,8 +36,8 @@ unfolding enough
 rooms-line = (refl, refl, refl, refl, refl)
 
 -- a room may be sized by the stops too
-pub stops-line : (enough (record { lent = 20; arow = 0; astop = 7; fixed = 0 }) fourRows ≡ false)
-    × (enough (record { lent = 21; arow = 0; astop = 7; fixed = 0 }) fourRows ≡ true)
+pub stops-line : (enough (record { lent = 20; perrow = 0; perstop = 7; fixed = 0 }) fourRows ≡ false)
+    × (enough (record { lent = 21; perrow = 0; perstop = 7; fixed = 0 }) fourRows ≡ true)
 unfolding enough
 stops-line = (refl, refl)
 

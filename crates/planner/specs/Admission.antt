@@ -18,22 +18,22 @@ use Rattle.planner.specs.declared.Admission.the-variants.{Admitted, Refu
 
 -- what a room needs in a file of n rows and S stops
 abbrev pub needs : Room → Trailer → ℕ
-needs room h = room .arow * h .rows + room .astop * h .stops + room .fixed
+needs room h = room .perrow * h .rows + room .perstop * h .stops + room .fixed
 
 unfoldable pub enough : Room → Trailer → Bool
 enough room h = leb (needs room h) (room .lent)
 
 -- work is 4n + 2,500 numbers
 abbrev pub workRoom : ℕ → Room
-workRoom lent = record { lent = lent; arow = 4; astop = 0; fixed = 2500 }
+workRoom lent = record { lent = lent; perrow = 4; perstop = 0; fixed = 2500 }
 
 -- a plan slice is 3n
 abbrev pub planRoom : ℕ → Room
-planRoom lent = record { lent = lent; arow = 3; astop = 0; fixed = 0 }
+planRoom lent = record { lent = lent; perrow = 3; perstop = 0; fixed = 0 }
 
 -- where a call needs one room alone
 abbrev pub noRoom : Room
-noRoom = record { lent = 0; arow = 0; astop = 0; fixed = 0 }
+noRoom = record { lent = 0; perrow = 0; perstop = 0; fixed = 0 }
 
 -- 6, then 7, by a sound file's trailer
 unfoldable pub callVerdict : Format → Trailer → Query → Room → Room → Verdict
@@ -54,8 +54,8 @@ faultNumber v = byVerdict (λ number place. number) 0 v
 
 -- so few are needed that no sum of them wraps
 pub record SmallRoom (room : Room) : Type 0 where
-  pub arow : room .arow < 65536
-  pub astop : room .astop < 65536
+  pub perrow : room .perrow < 65536
+  pub perstop : room .perstop < 65536
   pub fixed : room .fixed < 65536
 
 -- a call on a file of a version that can be planned in, admitted, with the file's trailer

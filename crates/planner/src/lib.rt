@@ -27,16 +27,16 @@ use query::query_rule;
 // What is lent, and what a call needs of it: so much a row, a stop, and beside them.
 pub struct Room {
     pub lent: usize,
-    pub arow: usize,
-    pub astop: usize,
+    pub perrow: usize,
+    pub perstop: usize,
     pub fixed: usize,
 }
 
 // Where a call needs one room alone.
 pub const NO_ROOM: Room = Room {
     lent: 0,
-    arow: 0,
-    astop: 0,
+    perrow: 0,
+    perstop: 0,
     fixed: 0,
 };
 
@@ -103,29 +103,29 @@ fn needed(room: Room, trailer: Trailer) -> usize
     requires { ⌜ (trailer .stops ≤ mostStops) × (trailer .rows ≤ mostRows) × SmallRoom room ⌝ }
     ensures { λ r. ⌜ r ≡ needs room trailer ⌝ }
 {
-    room.arow * trailer.rows + room.astop * trailer.stops + room.fixed
+    room.perrow * trailer.rows + room.perstop * trailer.stops + room.fixed
 }
 
 // Work is 4n + 2,500 numbers.
-fn work_room(lent: usize) -> Room
+fn work_needs(lent: usize) -> Room
     ensures { λ r. ⌜ r ≡ workRoom lent ⌝ }
 {
     Room {
         lent,
-        arow: 4,
-        astop: 0,
+        perrow: 4,
+        perstop: 0,
         fixed: 2500,
     }
 }
 
 // A plan slice is 3n numbers.
-fn plan_room(lent: usize) -> Room
+fn plan_needs(lent: usize) -> Room
     ensures { λ r. ⌜ r ≡ planRoom lent ⌝ }
 {
     Room {
         lent,
-        arow: 3,
-        astop: 0,
+        perrow: 3,
+        perstop: 0,
         fixed: 0,
     }
 }
@@ -140,8 +140,8 @@ pub fn plan(file: &[u8], q: Query, work: &mut [u32], plan: &mut [u32]) -> Planne
         file,
         VERSION_ONE,
         q,
-        work_room(work.len()),
-        plan_room(plan.len()),
+        work_needs(work.len()),
+        plan_needs(plan.len()),
     );
     match admission {
         Admission::Refused { number, place } => Planned::Refused { number, place },
@@ -165,7 +165,13 @@ pub fn plan_checked(
         × (now (work .exit) ≡ planOutcome f (now (file .entry)) q (now (work .entry)) (now (plan .entry)) .work)
         × (now (plan .exit) ≡ planOutcome f (now (file .entry)) q (now (work .entry)) (now (plan .entry)) .plan) ⌝ }
 {
-    let number = admit_checked(f, trailer, q, work_room(work.len()), plan_room(plan.len()));
+    let number = admit_checked(
+        f,
+        trailer,
+        q,
+        work_needs(work.len()),
+        plan_needs(plan.len()),
+    );
     if number == 0 {
         return plan_admitted(file, f, trailer, q, work, plan);
     }
@@ -187,7 +193,7 @@ fn plan_admitted(
         × (now (plan .exit) ≡ planOutcome f (now (file .entry)) q (now (work .entry)) (now (plan .entry)) .plan) ⌝ }
 {
     let answer = plan_in_room(file, f, trailer, q, work, plan);
-    let room = needed(work_room(work.len()), trailer);
+    let room = needed(work_needs(work.len()), trailer);
     fill(work, 0, room, 0);
     answer
 }
@@ -209,7 +215,7 @@ pub fn earliest_safe_arrival(
         minute,
         code: 0,
     };
-    let admission = admit(file, VERSION_ONE, q, work_room(work.len()), NO_ROOM);
+    let admission = admit(file, VERSION_ONE, q, work_needs(work.len()), NO_ROOM);
     match admission {
         Admission::Refused { number, place } => Earliest::Refused { number, place },
         Admission::Admitted { trailer } => earliest_admitted(file, VERSION_ONE, trailer, q, work),
@@ -229,7 +235,7 @@ fn earliest_admitted(
         × (now (work .exit) ≡ earliestOutcome f (now (file .entry)) q (now (work .entry)) .work) ⌝ }
 {
     let end = earliest_in_room(file, f, trailer, q, work);
-    let room = needed(work_room(work.len()), trailer);
+    let room = needed(work_needs(work.len()), trailer);
     fill(work, 0, room, 0);
     if end == NONE {
         return Earliest::Refused {

@@ -20,7 +20,8 @@ use Rattle.plans.specs.Trips.{NextOfTrip}
 use Rattle.plans.specs.Worth.{Valued}
 use Rattle.plans.specs.Chosen.{Aim, leads, firstAt, getOff, stayOn, rowRide, boardedAt}
 use Rattle.plans.proofs.AtMost.{least-either}
-use Rattle.plans.proofs.FromRow.{chosenFrom, bestAt, nextFrom, offAt, chosen-row, chosen-end, next-row, next-end, best-row}
+use Rattle.plans.specs.FromRow.{chosenFrom, bestAt, nextFrom, offAt}
+use Rattle.plans.proofs.FromRow.{chosen-row, chosen-end, next-row, next-end, best-row}
 use Rattle.plans.proofs.Choice.{Choice, worthless, at-target, behind, added, choice, others-member}
 
 -- a trip's first row from row i on

@@ -17,7 +17,8 @@ use Rattle.plans.specs.Journeys.{within}
 use Rattle.plans.specs.Worth.{Valued, firstOpen, arrivalWorth, changeWorth}
 use Rattle.plans.specs.Chosen.{Aim, inTicks, others, rowRide, boardedAt}
 use Rattle.plans.proofs.Open.{boards-minute, too-late, first-further, found-member, found-boards}
-use Rattle.plans.proofs.FromRow.{chosenFrom, bestAt, offAt, chosen-row, chosen-end}
+use Rattle.plans.specs.FromRow.{chosenFrom, bestAt, offAt}
+use Rattle.plans.proofs.FromRow.{chosen-row, chosen-end}
 use Rattle.plans.proofs.Choice.{Choice, worthless, at-target, behind, added, choice, others-first}
 use Rattle.plans.proofs.BestRides.{best-boards, best-is-ride, each-best, chosen-picked}
 use Rattle.plans.proofs.FirstLeast.{chosen-rising}

@@ -21,7 +21,8 @@ use Rattle.plans.specs.Chosen.{Aim, inMinutes, offInMinutes, worthOf, ro
 use Rattle.plans.specs.Plan.{earliest}
 use Rattle.plans.proofs.Open.{boards-stop, boards-minute, found-member, found-boards}
 use Rattle.plans.proofs.AtMost.{AtMost, raised, found-at-most, worth-at-most}
-use Rattle.plans.proofs.FromRow.{chosenFrom, bestAt, offAt, chosen-all}
+use Rattle.plans.specs.FromRow.{chosenFrom, bestAt, offAt}
+use Rattle.plans.proofs.FromRow.{chosen-all}
 use Rattle.plans.proofs.BestRides.{best-boards, row-is-ride, boarded-earlier, each-best, chosen-picked}
 use Rattle.plans.proofs.Staying.{AsLanded, ride-at-most}
 use Rattle.plans.proofs.RideMinutes.{departs-before, boards-behind, ride-first}

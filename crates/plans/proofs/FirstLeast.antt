@@ -17,7 +17,8 @@ use Rattle.plans.specs.Worth.{Valued, firstOpen}
 use Rattle.plans.specs.Chosen.{Aim, others, choose}
 use Rattle.plans.proofs.Open.{can-board, boards-stop, first-here, on-head, found-member, found-boards}
 use Rattle.plans.proofs.AtMost.{AtMost, is-at-most, found-at-most}
-use Rattle.plans.proofs.FromRow.{chosenFrom, bestAt, chosen-row, chosen-end}
+use Rattle.plans.specs.FromRow.{chosenFrom, bestAt}
+use Rattle.plans.proofs.FromRow.{chosen-row, chosen-end}
 use Rattle.plans.proofs.Choice.{Choice, same-minute, worthless, at-target, behind, added, choice, others-member, others-apart, others-first}
 use Rattle.plans.proofs.Order.{Before, Ordered, nobody, ahead, leads-each, led-by-first}
 use Rattle.plans.proofs.BestRides.{best-boards, chosen-picked}

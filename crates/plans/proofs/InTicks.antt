@@ -17,7 +17,7 @@ use Rattle.plans.specs.Rides.{Ride, landsBy}
 use Rattle.plans.specs.Journeys.{within}
 use Rattle.plans.specs.Worth.{Valued, firstOpen, arrivalWorth, changeWorth, landWorth}
 use Rattle.plans.specs.Chosen.{inTicks, offInTicks, whenSafe}
-use Rattle.plans.proofs.FromRow.{chosenFrom, bestAt}
+use Rattle.plans.specs.FromRow.{chosenFrom, bestAt}
 use Rattle.plans.proofs.Staying.{AsLanded}
 
 -- in ticks, the chosen rows from row i on and the best ride of row i

@@ -10,7 +10,8 @@ use Rattle.plans.specs.Journeys.{goalOf, boundOf}
 use Rattle.plans.specs.Worth.{Valued, firstOpen}
 use Rattle.plans.specs.Chosen.{inTicks}
 use Rattle.plans.specs.Plan.{Plan, planned, planBefore, planWithin, ridesFrom, chosenFor, earliest, latestOf}
-use Rattle.plans.proofs.FromRow.{chosenFrom, chosen-all}
+use Rattle.plans.specs.FromRow.{chosenFrom}
+use Rattle.plans.proofs.FromRow.{chosen-all}
 
 pub chosen-for : (t : Timetable) (goal : Goal) → chosenFor t goal ≡ chosenFrom (inTicks goal) t 0
 unfolding chosenFor

@@ -15,7 +15,7 @@ use Rattle.plans.specs.Worth.{firstOpen}
 use Rattle.plans.specs.Chosen.{Aim}
 use Rattle.plans.proofs.Open.{boards-stop, boards-minute}
 use Rattle.plans.proofs.AtMost.{AtMost, raised, found-at-most}
-use Rattle.plans.proofs.FromRow.{chosenFrom, bestAt}
+use Rattle.plans.specs.FromRow.{chosenFrom, bestAt}
 use Rattle.plans.proofs.BestRides.{best-boards}
 use Rattle.plans.proofs.FirstLeast.{first-least}
 

@@ -18,7 +18,8 @@ use Rattle.plans.specs.Rides.{Ride, IsRide}
 use Rattle.plans.specs.Worth.{Valued}
 use Rattle.plans.specs.Chosen.{Aim, GettingOff, getOff, stayOn, rowRide, boardedAt}
 use Rattle.plans.proofs.AtMost.{AtMost, at-most, least-left, least-right}
-use Rattle.plans.proofs.FromRow.{chosenFrom, bestAt, nextFrom, offAt, next-row, best-row}
+use Rattle.plans.specs.FromRow.{chosenFrom, bestAt, nextFrom, offAt}
+use Rattle.plans.proofs.FromRow.{next-row, best-row}
 
 stay-at-most : (i : ℕ) (r : Row) {o : Option Valued} {w : ℕ} → AtMost o w → AtMost (stayOn i r o) w
 unfolding stayOn

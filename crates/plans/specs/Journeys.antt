@@ -6,6 +6,7 @@ use mathlib.Core.Path.{_≡_}
 use lib.Dec.{T, leb, eqb}
 use Rattle.timetable.specs.Timetable.{Timetable}
 use Rattle.query.specs.declared.Query.{Query}
+use Rattle.query.specs.Query.{fewestQuarters}
 use Rattle.plans.specs.declared.Goal.{Goal}
 use Rattle.plans.specs.Rides.{Ride, IsRide, landsBy, boards}
 
@@ -30,9 +31,9 @@ pub record IsEarliest (t : Timetable) (q : Query) (e : ℕ) : Type 0 where
   pub reached : Journey t q e
   pub least : (end : ℕ) → Journey t q end → e ≤ end
 
--- Bound code q is 0 (no bound) or 4 to 16 (quarters)
+-- Bound code q is 0 (no bound) or counts quarters, of which four reach E
 abbrev pub CodeStands : ℕ → Type 0
-CodeStands code = (code ≡ 0) ⊎ (4 ≤ code)
+CodeStands code = (code ≡ 0) ⊎ (fewestQuarters ≤ code)
 
 -- The bound is T + q(E − T)/4 rounded down; 0 stands for no bound
 abbrev pub boundOf : Query → ℕ → ℕ

@@ -4,6 +4,7 @@ pub mod Sound
 pub mod Journeys
 pub mod Worth
 pub mod Chosen
+pub mod FromRow
 pub mod Plan
 pub mod Trips
 pub mod Examples

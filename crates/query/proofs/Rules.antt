@@ -11,7 +11,7 @@ use borrow.Author.Tests.{ltb-true, leb-true, eqb-true, eqb-false, lt-ltb, le-ltb
 use Rattle.laws.proofs.Tests.{both-left, both-right, either, cond-true, cond-false}
 use Rattle.numbers.specs.Numbers.{u16At}
 use Rattle.query.specs.declared.Query.{Query}
-use Rattle.query.specs.Query.{queryOf, journeyRule, codeRule, queryRule, QueryFits, queryBytes, noQuery, queryIn}
+use Rattle.query.specs.Query.{queryOf, journeyRule, fewestQuarters, mostQuarters, codeRule, queryRule, QueryFits, queryBytes, noQuery, queryIn}
 
 -- a conjunction with a false part is false
 broken : (b : Bool) → (b && false) ≡ false
@@ -54,7 +54,7 @@ module _ (q : Query) where
   unfolding codeRule
   code-small some-code h = simp (ne-eqb _ _ some-code, lt-leb _ _ h)
 
-  pub code-decides : (q .code ≡ 0 → ⊥) → 4 ≤ q .code → leb (q .code) 16 ≡ codeRule q
+  pub code-decides : (q .code ≡ 0 → ⊥) → fewestQuarters ≤ q .code → leb (q .code) mostQuarters ≡ codeRule q
   unfolding codeRule
   code-decides some-code h = simp (ne-eqb _ _ some-code, le-leb _ _ h)
 
@@ -75,18 +75,18 @@ rule-gives stops last q kept =
           eqb-false (q .source) (q .target) (not-true (eqb (q .source) (q .target)) (both-right target (not (eqb (q .source) (q .target))) e₃));
       minute = leb-true (q .minute) last (both-right apart (leb (q .minute) last) e);
       code =
-          elim (either (eqb (q .code) 0) (leb 4 (q .code) && leb (q .code) 16) (both-right (apart && leb (q .minute) last) (codeRule q) kept)) [
+          elim (either (eqb (q .code) 0) (leb fewestQuarters (q .code) && leb (q .code) mostQuarters) (both-right (apart && leb (q .minute) last) (codeRule q) kept)) [
             | inl p ↦ inl (eqb-true (q .code) 0 p)
             | inr p ↦ inr (
-              leb-true 4 (q .code) (both-left (leb 4 (q .code)) (leb (q .code) 16) p),
-              leb-true (q .code) 16 (both-right (leb 4 (q .code)) (leb (q .code) 16) p),
+              leb-true fewestQuarters (q .code) (both-left (leb fewestQuarters (q .code)) (leb (q .code) mostQuarters) p),
+              leb-true (q .code) mostQuarters (both-right (leb fewestQuarters (q .code)) (leb (q .code) mostQuarters) p),
             )
           ];
     }
 
--- no code is above 16
-pub code-most : {stops last : ℕ} {q : Query} → QueryFits stops last q → q .code ≤ 16
-code-most {stops} {last} {q} fits = elim (fits .code) [ inl p ↦ (let z : q .code ≤ 16 = omega arith in z) | inr p ↦ p .1 ]
+-- no code is above the most quarters
+pub code-most : {stops last : ℕ} {q : Query} → QueryFits stops last q → q .code ≤ mostQuarters
+code-most {stops} {last} {q} fits = elim (fits .code) [ inl p ↦ (let z : q .code ≤ mostQuarters = omega arith in z) | inr p ↦ p .1 ]
 
 -- the four numbers of 8 bytes, and what any other bytes ask
 module _ (bytes : List ℕ) where

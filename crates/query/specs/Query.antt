@@ -18,9 +18,15 @@ unfoldable pub journeyRule : (stops last : ℕ) → Query → Bool
 journeyRule stops last q =
     ltb (q .source) stops && ltb (q .target) stops && not (eqb (q .source) (q .target)) && leb (q .minute) last
 
--- q is 0 or 4 to 16
+-- q counts quarters: 4 to 16, or 0 for no bound
+abbrev pub fewestQuarters : ℕ
+fewestQuarters = 4
+
+abbrev pub mostQuarters : ℕ
+mostQuarters = 16
+
 unfoldable pub codeRule : Query → Bool
-codeRule q = eqb (q .code) 0 || (leb 4 (q .code) && leb (q .code) 16)
+codeRule q = eqb (q .code) 0 || (leb fewestQuarters (q .code) && leb (q .code) mostQuarters)
 
 -- both, else 6; without a bound code q is 0, which keeps its rule
 unfoldable pub queryRule : (stops last : ℕ) → Query → Bool
@@ -32,7 +38,7 @@ pub record QueryFits (stops last : ℕ) (q : Query) : Type 0 where
   pub target : q .target < stops
   pub apart : q .source ≢ q .target
   pub minute : q .minute ≤ last
-  pub code : (q .code ≡ 0) ⊎ ((4 ≤ q .code) × (q .code ≤ 16))
+  pub code : (q .code ≡ 0) ⊎ ((fewestQuarters ≤ q .code) × (q .code ≤ mostQuarters))
 
 -- 8 bytes: source, target, T, q as u16
 abbrev pub queryBytes : ℕ

@@ -12,6 +12,11 @@ pub struct Query {
     pub code: usize,
 }
 
+// The bound code counts quarters, from 4 to 16.
+pub const FEWEST_QUARTERS: usize = 4;
+
+pub const MOST_QUARTERS: usize = 16;
+
 // A query is four u16.
 pub const QUERY_BYTES: usize = 8;
 
@@ -80,8 +85,8 @@ fn code_rule(q: Query) -> bool
     if q.code == 0 {
         return true;
     }
-    if q.code < 4 {
+    if q.code < FEWEST_QUARTERS {
         return false;
     }
-    q.code <= 16
+    q.code <= MOST_QUARTERS
 }

@@ -13,15 +13,11 @@ use Rattle.numbers.specs.Over.{over}
 use Rattle.plans.specs.Plan.{Plan}
 use Rattle.plans.specs.Worth.{Valued}
 use Rattle.plan_slice.specs.Slice.{written}
+use Rattle.plan_slice.proofs.Written.{length-written}
 use Rattle.plan_whole.specs.Answers.{answerFor, sliceAfter}
 use Rattle.planner.specs.Outcome.{PlanOutcome, refusedPlan, planAnswered}
 use Rattle.sayurimpak.specs.Desk.{DeskOutcome, refused, rideBytes, planBytes, deskAnswered}
 use Rattle.sayurimpak.specs.Given.{given}
-
-pub length-written : (rides : List Valued) → length (written rides) ≡ 3 * length rides
-unfolding written
-length-written [] = refl
-length-written (v ∷ rides) = omega (arith, length-written rides)
 
 -- three numbers a ride are its 12 bytes
 bytes-written : (rides : List Valued) → bytesOf (written rides) ≡ planBytes rides

@@ -24,7 +24,8 @@ use Rattle.planner.specs.Outcome.{PlanOutcome, refusedPlan, planAnswered, workA
 use Rattle.planner.proofs.Admitting.{same-admission, refused-number}
 use Rattle.sayurimpak.specs.Desk.{refused, deskAnswered, byteRoom, deskOutcome}
 use Rattle.sayurimpak.specs.Given.{Fitting}
-use Rattle.sayurimpak.proofs.Given.{length-written, givenOn, verdict-given}
+use Rattle.plan_slice.proofs.Written.{length-written}
+use Rattle.sayurimpak.proofs.Given.{givenOn, verdict-given}
 
 -- three numbers a row in as many numbers as there are groups of four bytes, at most 6,000: 12 bytes a row
 rooms-agree : (h : Trailer) (bytes : ℕ) → h .rows ≤ 2000 → enough (planRoom (min 6000 (bytes / 4))) h ≡ enough (byteRoom bytes) h

@@ -41,7 +41,7 @@ deskAnswered (some p) out = record { answer = length (p .rides); bytes = over (p
 
 -- 12n bytes
 abbrev pub byteRoom : ℕ → Room
-byteRoom lent = record { lent = lent; arow = 12; astop = 0; fixed = 0 }
+byteRoom lent = record { lent = lent; perrow = 12; perstop = 0; fixed = 0 }
 
 -- refusals 1 to 7 in their order, room below 12n being 7; then the plan or 8
 unfoldable pub deskOutcome : Format → List ℕ → Query → List ℕ → DeskOutcome

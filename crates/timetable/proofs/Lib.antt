@@ -3,6 +3,5 @@ pub mod Verdicts
 pub mod Behind
 pub mod RowsSound
 pub mod Pinned
-pub mod RowsFine
 pub mod Places
 pub mod Settled

@@ -34,7 +34,7 @@ pub const MOST_CLASSES: usize = 16;
 pub const MOST_TRIPS: usize = 2000;
 
 // A share counts 4,096ths.
-pub const WHOLE: usize = 4096;
+pub const SHARE_TOTAL: usize = 4096;
 
 // The rule of a row about itself alone.
 pub fn own_rule(row: Row, g: Ranges) -> bool

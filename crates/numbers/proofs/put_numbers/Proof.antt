@@ -28,11 +28,11 @@ mul-number c = omega arith
 shared-slice-read-number : tie.Need-shared-slice-read-number Inv-loop μ-loop
 shared-slice-read-number c = omega arith
 
-mul-put-number : tie.Need-mul-put-number Inv-loop μ-loop
-mul-put-number c = omega arith
+mul-put-u32 : tie.Need-mul-put-u32 Inv-loop μ-loop
+mul-put-u32 c = omega arith
 
-put-number-requires : tie.Need-put-number-requires Inv-loop μ-loop
-put-number-requires c κs =
+put-u32-requires : tie.Need-put-u32-requires Inv-loop μ-loop
+put-u32-requires c κs =
     let a = c .before .before .before .before .before .before .args in
     let now = c .before .before .before .loop in
     omega (arith, ap length (now .inv .3), length-put (a .numbers .now) (a .out .now) (now .i) (omega arith) (omega arith))
@@ -50,7 +50,7 @@ loop-again c =
       omega arith,
       omega arith,
       omega arith,
-      c .before .before .put-number .ensures ∙ put-on (a .numbers .now) (a .out .now) (now .out) (now .i) (omega arith) (omega arith) (now .inv .3),
+      c .before .before .put-u32 .ensures ∙ put-on (a .numbers .now) (a .out .now) (now .out) (now .i) (omega arith) (omega arith) (now .inv .3),
     )
 
 same-length : tie.Need-same-length Inv-loop μ-loop
@@ -75,8 +75,8 @@ put-numbers-spec =
     loop-holds
     mul-number
     shared-slice-read-number
-    mul-put-number
-    put-number-requires
+    mul-put-u32
+    put-u32-requires
     add-i
     loop-less
     loop-again

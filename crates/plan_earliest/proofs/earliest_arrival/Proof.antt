@@ -56,7 +56,7 @@ add-result c = search needs
 mul-result : tie.Need-mul-result
 mul-result c = search needs
 
--- only the cells of tripCells and stops were touched
+-- only the cells of trips and stops were touched
 behind :
     (c : tie.After-slice-known5) → SameOutside tripCells pairCells (entry (sweep c) .args .work .now) (c .before .before .before .sail-until .last .1 .1 .1 .1 .1 .0)
 behind c =

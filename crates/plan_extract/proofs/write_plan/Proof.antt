@@ -9,7 +9,7 @@ use Rattle.plans.proofs.Open.{found-member}
 use Rattle.plan_cells.specs.Cells.{tripCells, stopCells}
 use Rattle.plan_cells.specs.Outside.{SameOutside}
 use Rattle.plan_cells.proofs.Outside.{outside-then, outside-wider}
-use Rattle.plan_rows.specs.declared.Sailings.{Sailings}
+use Rattle.plan_rows.specs.declared.SectionPlaces.{SectionPlaces}
 use Rattle.plans.specs.declared.Goal.{Goal}
 use Rattle.plan_scan.specs.Scanned.{scanIn}
 use Rattle.plan_extract.specs.Extracted.{PlanAhead}
@@ -59,7 +59,7 @@ alone c =
 
 -- the marks leave the plan ahead as it was
 abbrev still-ahead :
-    {file : List ℕ} {s : Sailings} {goal : Goal} {boarding end : ℕ} {old new : List ℕ} → SameOutside tripCells stopCells old new
+    {file : List ℕ} {s : SectionPlaces} {goal : Goal} {boarding end : ℕ} {old new : List ℕ} → SameOutside tripCells stopCells old new
     → PlanAhead file s goal boarding end old → PlanAhead file s goal boarding end new
 still-ahead k p = record { first = p .first; ordered = p .ordered; held = kept-held k (p .held); begins = p .begins }
 

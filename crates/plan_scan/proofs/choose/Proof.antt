@@ -45,8 +45,8 @@ number-requires-2 c κs = search needs
 returns : tie.Need-returns
 returns c = worthless (c .if1 .taken) refl
 
-push-requires : tie.Need-push-requires
-push-requires c κs = search needs
+write-entry-requires : tie.Need-write-entry-requires
+write-entry-requires c κs = search needs
 
 add-work : tie.Need-add-work
 add-work c = search needs
@@ -64,7 +64,7 @@ returns-2 : tie.Need-returns-2
 returns-2 c =
     let a = c .before .before .before .before .before .before .before .before .before .before .before .before .args in
     chose-alone (a .row) (a .i) (a .work .now) (c .before .before .before .before .before .before .before .before .number .result) (c .before .before .before .before .before .before .number2 .result) (c .before .before .before .before .before .before .before .before .number .ensures .0)
-    (c .before .before .before .before .before .before .number2 .ensures .0) (c .before .before .before .before .before .if1 .left) (c .before .before .push .last .0) (c .before .before .before .before .if2 .taken) (c .before .before .push .ensures)
+    (c .before .before .before .before .before .before .number2 .ensures .0) (c .before .before .before .before .before .if1 .left) (c .before .before .write-entry .last .0) (c .before .before .before .before .if2 .taken) (c .before .before .write-entry .ensures)
 
 add-top : tie.Need-add-top
 add-top c = search needs
@@ -108,14 +108,14 @@ slice-read-departure-of c = search needs
 departure-of-requires : tie.Need-departure-of-requires
 departure-of-requires c κs = search needs
 
-push-requires-2 : tie.Need-push-requires-2
-push-requires-2 c κs = search needs
+write-entry-requires-2 : tie.Need-write-entry-requires-2
+write-entry-requires-2 c κs = search needs
 
-add-push : tie.Need-add-push
-add-push c = search needs
+add-write-entry : tie.Need-add-write-entry
+add-write-entry c = search needs
 
-push-requires-3 : tie.Need-push-requires-3
-push-requires-3 c κs = search needs
+write-entry-requires-3 : tie.Need-write-entry-requires-3
+write-entry-requires-3 c κs = search needs
 
 add-cell : tie.Need-add-cell
 add-cell c = search needs
@@ -139,8 +139,8 @@ returns-4 : tie.Need-returns-4
 returns-4 c =
     let a = c .before .before .before .before .before .before .before .before .before .before .before .before .before .before .before .before .before .before .args in
     chose-replacing (a .row) (a .i) (a .work .now) (c .before .before .before .before .before .before .before .before .before .before .before .before .before .before .number .result) (c .before .before .before .before .before .before .before .before .before .before .before .before .number2 .result) (c .before .before .before .before .before .before .before .before .before .before .before .before .before .before .number .ensures .0)
-    (c .before .before .before .before .before .before .before .before .before .before .before .before .number2 .ensures .0) (c .before .before .before .before .before .before .before .before .before .before .before .if1 .left) (c .before .before .push2 .last .0) (c .before .before .before .before .before .before .before .before .before .before .if2 .left) (c .before .before .before .before .before .before .before .before .if3 .left)
-    (sym (c .before .before .before .before .before .before .departure-of .ensures) ∙ c .before .before .before .before .if4 .taken) (c .before .before .push2 .ensures)
+    (c .before .before .before .before .before .before .before .before .before .before .before .before .number2 .ensures .0) (c .before .before .before .before .before .before .before .before .before .before .before .if1 .left) (c .before .before .write-entry2 .last .0) (c .before .before .before .before .before .before .before .before .before .before .if2 .left) (c .before .before .before .before .before .before .before .before .if3 .left)
+    (sym (c .before .before .before .before .before .before .departure-of .ensures) ∙ c .before .before .before .before .if4 .taken) (c .before .before .write-entry2 .ensures)
 
 same-length-3 : tie.Need-same-length-3
 same-length-3 c = search needs
@@ -149,8 +149,8 @@ returns-5 : tie.Need-returns-5
 returns-5 c =
     let a = c .before .before .before .before .before .before .before .before .before .before .before .before .before .before .before .before .before .before .before .args in
     chose-ahead (a .row) (a .i) (a .work .now) (c .before .before .before .before .before .before .before .before .before .before .before .before .before .before .before .number .result) (c .before .before .before .before .before .before .before .before .before .before .before .before .before .number2 .result) (c .before .before .before .before .before .before .before .before .before .before .before .before .before .before .before .number .ensures .0)
-    (c .before .before .before .before .before .before .before .before .before .before .before .before .before .number2 .ensures .0) (c .before .before .before .before .before .before .before .before .before .before .before .before .if1 .left) (c .before .before .before .push3 .last .0) (c .cell .result) (c .before .before .before .before .before .before .before .before .before .before .before .if2 .left) (c .before .before .before .before .before .before .before .before .before .if3 .left)
-    (λ q. c .before .before .before .before .before .if4 .left (c .before .before .before .before .before .before .before .departure-of .ensures ∙ q)) (c .before .before .before .push3 .ensures) (c .cell .ensures)
+    (c .before .before .before .before .before .before .before .before .before .before .before .before .before .number2 .ensures .0) (c .before .before .before .before .before .before .before .before .before .before .before .before .if1 .left) (c .before .before .before .write-entry3 .last .0) (c .cell .result) (c .before .before .before .before .before .before .before .before .before .before .before .if2 .left) (c .before .before .before .before .before .before .before .before .before .if3 .left)
+    (λ q. c .before .before .before .before .before .if4 .left (c .before .before .before .before .before .before .before .departure-of .ensures ∙ q)) (c .before .before .before .write-entry3 .ensures) (c .cell .ensures)
 
 pub choose-spec : {M : Type 1} → statement M
 choose-spec =
@@ -169,7 +169,7 @@ choose-spec =
     slice-read-number-2
     number-requires-2
     returns
-    push-requires
+    write-entry-requires
     add-work
     mul-work
     slice-write-work
@@ -188,9 +188,9 @@ choose-spec =
     mul-departure-of-2
     slice-read-departure-of
     departure-of-requires
-    push-requires-2
-    add-push
-    push-requires-3
+    write-entry-requires-2
+    add-write-entry
+    write-entry-requires-3
     add-cell
     cell-requires
     add-work-2

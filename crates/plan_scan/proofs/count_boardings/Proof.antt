@@ -1,4 +1,4 @@
--- `plan_scan::count_boardings` meets its contract: sizeCells so far and rows to come make the whole count. Assumes nothing.
+-- `plan_scan::count_boardings` meets its contract: sizes so far and rows to come make the whole count. Assumes nothing.
 use Prim.Native.Nat.{ℕ, _+_, _-_, _≤_, _<_}
 use mathlib.Core.List.{List, _∷_}
 use mathlib.Core.Path.{_≡_, sym, ap, ap₂, subst, _∙_}

@@ -1,4 +1,4 @@
--- `plan_scan::part_stacks` meets its contract: the stopCells below `stop` have their regions. Assumes nothing.
+-- `plan_scan::part_stacks` meets its contract: the stops below `stop` have their regions. Assumes nothing.
 use Prim.Native.Nat.{ℕ, _+_, _-_, _≤_}
 use mathlib.Core.List.{List}
 use mathlib.Core.Path.{_≡_, _∙_}

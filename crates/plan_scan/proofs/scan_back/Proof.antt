@@ -30,14 +30,14 @@ fill-requires c κs = search needs
 fill-requires-2 : tie.Need-fill-requires-2
 fill-requires-2 c κs = search needs
 
--- the entry, from where tripCells and sizes are filled, and from where the stacks are parted
+-- the entry, from where trips and sizes are filled, and from where the stacks are parted
 abbrev begun : tie.After-fill2 → tie.Start
 begun c = c .before .before .before .before .before .before .before .before .before .before .before
 
 abbrev emptied-at : tie.After-part-stacks → tie.After-fill2
 emptied-at c = c .before .before .before .before .before .before .before .before .before
 
--- the cells once tripCells and sizes are filled
+-- the cells once trips and sizes are filled
 abbrev filled-trips : tie.After-fill2 → List ℕ
 filled-trips c = c .before .before .before .before .fill .last .0
 

@@ -13,16 +13,16 @@ abbrev begun : tie.After-rows-before → tie.Start
 begun c = c .before .before .before .before .before .before .before
 
 laid : (c : tie.After-rows-before)
-    → PlanningInput (begun c .args .file .now) (c .before .before .before .before .sailings-in .result) (c .before .before .read-tables .last .1 .1 .0)
+    → PlanningInput (begun c .args .file .now) (c .before .before .before .before .places-in .result) (c .before .before .read-tables .last .1 .1 .0)
     (begun c .args .q) (c .rows-before .result)
 laid c =
     let a = begun c in
-    let s = c .before .before .before .before .sailings-in in
+    let s = c .before .before .before .before .places-in in
     lays (a .args .f) (a .args .file .now) (a .args .trailer) (a .args .q) (a .pre .0) (s .result) (s .ensures)
     (c .before .before .read-tables .last .1 .1 .0) (c .rows-before .result) (c .before .before .read-tables .ensures) (c .rows-before .ensures)
 
-sailings-in-requires : tie.Need-sailings-in-requires
-sailings-in-requires c κs = search needs
+places-in-requires : tie.Need-places-in-requires
+places-in-requires c κs = search needs
 
 slice-aggregate-read-tables : tie.Need-slice-aggregate-read-tables
 slice-aggregate-read-tables c = search needs
@@ -30,13 +30,13 @@ slice-aggregate-read-tables c = search needs
 read-tables-requires : tie.Need-read-tables-requires
 read-tables-requires c κs =
     let a = c .before .before .before .before in
-    let s = c .before .sailings-in in
+    let s = c .before .places-in in
     (tables-stand (a .args .f) (a .args .file .now) (a .args .trailer) (a .args .q) (a .pre .0) (s .result) (s .ensures), refl)
 
 rows-before-requires : tie.Need-rows-before-requires
 rows-before-requires c κs =
     let a = c .before .before .before .before .before .before in
-    let s = c .before .before .before .sailings-in in
+    let s = c .before .before .before .places-in in
     rows-stand (a .args .f) (a .args .file .now) (a .args .trailer) (a .args .q) (a .pre .0) (s .result) (s .ensures)
 
 slice-aggregate-earliest-arrival : tie.Need-slice-aggregate-earliest-arrival
@@ -54,7 +54,7 @@ returns : tie.Need-returns
 returns c =
     let at = c .before .before .before .before .before in
     let a = begun at in
-    let s = at .before .before .before .before .sailings-in in
+    let s = at .before .before .before .before .places-in in
     let r = c .before .before .earliest-arrival .ensures in (
       r .0 (a .args .q .code) ∙ ap cellOf (sym
           (earliest-there (a .args .f) (a .args .file .now) (a .args .trailer) (a .args .q) (a .pre .0) (s .result) (s .ensures))),
@@ -65,7 +65,7 @@ pub earliest-in-room-spec : {M : Type 1} → statement M
 earliest-in-room-spec =
     tie.close
     (tie.spec
-    sailings-in-requires
+    places-in-requires
     slice-aggregate-read-tables
     read-tables-requires
     rows-before-requires

@@ -5,6 +5,7 @@ use mathlib.Core.Path.{_≡_, refl, sym, ap, subst, _∙_}
 use native.Mathlib.Omega.{arith}
 use lib.ListN.{length}
 use Rattle.file_layout.specs.Decode.{decode}
+use Rattle.query.proofs.Rules.{code-most}
 use Rattle.plans.specs.Journeys.{boundOf}
 use Rattle.plans.specs.Plan.{Plan, planned, earliest}
 use Rattle.plan_cells.specs.Cells.{used, missing, cellOf}
@@ -29,36 +30,36 @@ abbrev arriving : tie.After-slice-known5 → tie.Else1
 arriving c = c .before .before .before .before .before .before .before .before .before .before
 
 laid : (c : tie.After-rows-before)
-    → PlanningInput (begun c .args .file .now) (c .before .before .before .before .sailings-in .result) (c .before .before .read-tables .last .1 .1 .0)
+    → PlanningInput (begun c .args .file .now) (c .before .before .before .before .places-in .result) (c .before .before .read-tables .last .1 .1 .0)
     (begun c .args .q) (c .rows-before .result)
 laid c =
     let a = begun c in
-    let s = c .before .before .before .before .sailings-in in
+    let s = c .before .before .before .before .places-in in
     lays (a .args .f) (a .args .file .now) (a .args .trailer) (a .args .q) (a .pre .0) (s .result) (s .ensures)
     (c .before .before .read-tables .last .1 .1 .0) (c .rows-before .result) (c .before .before .read-tables .ensures) (c .rows-before .ensures)
 
 -- E or none, as it was found
 told : (c : tie.After-earliest-arrival)
     → c .earliest-arrival .result
-    ≡ cellOf (earliest (timetableIn (begun (laid-out c) .args .file .now) (laid-out c .before .before .before .before .sailings-in .result))
+    ≡ cellOf (earliest (timetableIn (begun (laid-out c) .args .file .now) (laid-out c .before .before .before .before .places-in .result))
     (begun (laid-out c) .args .q))
 told c = c .earliest-arrival .ensures .0 (begun (laid-out c) .args .q .code)
 
 -- E does not lie before T, and is a minute of 16 bits
 arrival-fits : (c : tie.After-rows-before) (e : ℕ)
-    → earliest (timetableIn (begun c .args .file .now) (c .before .before .before .before .sailings-in .result)) (begun c .args .q) ≡ some e
+    → earliest (timetableIn (begun c .args .file .now) (c .before .before .before .before .places-in .result)) (begun c .args .q) ≡ some e
     → (begun c .args .q .minute ≤ e) × (e < 65536)
 arrival-fits c e found =
     let a = begun c .args in
-    earliest-fits (a .file .now) (c .before .before .before .before .sailings-in .result) (laid c .stand) (laid c .timely) (a .q) e found
+    earliest-fits (a .file .now) (c .before .before .before .before .places-in .result) (laid c .stand) (laid c .timely) (a .q) e found
 
 -- a result that is not missing is E
 arrived : (c : tie.After-earliest-arrival) → (c .earliest-arrival .result ≡ missing → ⊥)
-    → earliest (timetableIn (begun (laid-out c) .args .file .now) (laid-out c .before .before .before .before .sailings-in .result))
+    → earliest (timetableIn (begun (laid-out c) .args .file .now) (laid-out c .before .before .before .before .places-in .result))
     (begun (laid-out c) .args .q) ≡ some (c .earliest-arrival .result)
 arrived c real =
     let a = begun (laid-out c) .args in
-    arrival-cell (earliest (timetableIn (a .file .now) (laid-out c .before .before .before .before .sailings-in .result)) (a .q))
+    arrival-cell (earliest (timetableIn (a .file .now) (laid-out c .before .before .before .before .places-in .result)) (a .q))
     (c .earliest-arrival .result) (told c) real
 
 -- cells behind those that finding E uses are as they were
@@ -70,8 +71,8 @@ kept c =
     (c .earliest-arrival .last .1 .1 .1 .1 .1 .1 .1 .0) (omega arith)
     (c .earliest-arrival .ensures .1)
 
-sailings-in-requires : tie.Need-sailings-in-requires
-sailings-in-requires c κs = search needs
+places-in-requires : tie.Need-places-in-requires
+places-in-requires c κs = search needs
 
 slice-aggregate-read-tables : tie.Need-slice-aggregate-read-tables
 slice-aggregate-read-tables c = search needs
@@ -79,13 +80,13 @@ slice-aggregate-read-tables c = search needs
 read-tables-requires : tie.Need-read-tables-requires
 read-tables-requires c κs =
     let a = c .before .before .before .before .before in
-    let s = c .before .sailings-in in
+    let s = c .before .places-in in
     (tables-stand (a .args .f) (a .args .file .now) (a .args .trailer) (a .args .q) (a .pre .0) (s .result) (s .ensures), refl)
 
 rows-before-requires : tie.Need-rows-before-requires
 rows-before-requires c κs =
     let a = c .before .before .before .before .before .before .before in
-    let s = c .before .before .before .sailings-in in
+    let s = c .before .before .before .places-in in
     rows-stand (a .args .f) (a .args .file .now) (a .args .trailer) (a .args .q) (a .pre .0) (s .result) (s .ensures)
 
 slice-aggregate-earliest-arrival : tie.Need-slice-aggregate-earliest-arrival
@@ -106,7 +107,7 @@ returns : tie.Need-returns
 returns c =
     let at = c .before .before .before .before in
     let a = begun (laid-out at) in
-    let s = laid-out at .before .before .before .before .sailings-in in
+    let s = laid-out at .before .before .before .before .places-in in
     let gone = no-arrival-cell (earliest (timetableIn (a .args .file .now) (s .result)) (a .args .q)) (at .earliest-arrival .result) (told at)
     (λ e found. arrival-fits (laid-out at) e found .1) (omega arith) in (
       no-plan-answers (planned (decode (a .args .f) (a .args .file .now)) (a .args .q)) (c .no-plan .result) (a .args .plan .now)
@@ -124,7 +125,7 @@ bound-of-requires c κs =
     let end = c .number .ensures .0 in
     let found = arrived at (λ e. let z : ⊥ = omega arith in z) in
     let fits = arrival-fits (laid-out at) (at .earliest-arrival .result) found in
-    (omega (arith, fits .0, end), omega (arith, fits .1, end), begun (laid-out at) .pre .0 .code)
+    (omega (arith, fits .0, end), omega (arith, fits .1, end), code-most (begun (laid-out at) .pre .0 .fits))
 
 slice-aggregate-plan-within : tie.Need-slice-aggregate-plan-within
 slice-aggregate-plan-within c = search needs
@@ -134,7 +135,7 @@ plan-within-requires c κs =
     let bounded = c .before .before .before in
     let at = bounded .before .before .before .before .before in
     let a = begun (laid-out at) in
-    let s = laid-out at .before .before .before .before .sailings-in in
+    let s = laid-out at .before .before .before .before .places-in in
     let rows = rows-there (a .args .f) (a .args .file .now) (a .args .trailer) (a .args .q) (a .pre .0) (s .result) (s .ensures) in (
       laid (laid-out at),
       subst (Reaches (a .args .q .minute)) (sym (bounded .bound-of .ensures .0)) (bound-reaches (a .args .q) (bounded .before .number .result)),
@@ -154,7 +155,7 @@ returns-2 : tie.Need-returns-2
 returns-2 c =
     let at = arriving c .before .before .before in
     let a = begun (laid-out at) in
-    let s = laid-out at .before .before .before .before .sailings-in in
+    let s = laid-out at .before .before .before .before .places-in in
     let p = c .before .before .before .before .plan-within in
     let bounded = c .before .before .before .before .before .before .before .before in
     let found = arrived at (λ e. let z : ⊥ = omega (arith, arriving c .if1 .left) in z) in
@@ -176,7 +177,7 @@ pub plan-in-room-spec : {M : Type 1} → statement M
 plan-in-room-spec =
     tie.close
     (tie.spec
-    sailings-in-requires
+    places-in-requires
     slice-aggregate-read-tables
     read-tables-requires
     rows-before-requires

@@ -5,7 +5,7 @@ use lib.ListN.{length}
 use Rattle.file_layout.specs.Decode.{decode}
 use Rattle.plans.specs.Plan.{earliest}
 use Rattle.plan_cells.specs.Cells.{filled}
-use Rattle.plan_rows.specs.Sections.{sailingsOf}
+use Rattle.plan_rows.specs.Sections.{placesOf}
 use Rattle.plan_whole.proofs.Answered.{no-arrival-cell, arrival-cell, kept-later}
 use Rattle.plan_whole.proofs.Laying.{arrival-there}
 use Rattle.planner.specs.Admission.{needs, SmallRoom, workRoom}
@@ -21,7 +21,7 @@ abbrev begun : tie.After-needed → tie.Start
 begun c = c .before .before .before .before .before .before .before .before
 
 room : (c : tie.After-needed) → c .needed .result ≡ needs (workRoom (length (begun c .args .work .now))) (begun c .args .trailer)
-room c = c .needed .ensures ∙ ap (λ r. needs r (begun c .args .trailer)) (c .before .work-room .ensures)
+room c = c .needed .ensures ∙ ap (λ r. needs r (begun c .args .trailer)) (c .before .work-needs .ensures)
 
 clear : (c : tie.After-fill) →
     let a = begun (c .before .before) .args in c .fill .last .0 ≡ workAfter (a .f) (a .file .now) (a .work .now)
@@ -38,13 +38,13 @@ clear c =
 earliest-in-room-requires : tie.Need-earliest-in-room-requires
 earliest-in-room-requires c κs = let a = c .before .before .before in (asks (a .pre), omega (arith, rooms-kept (a .pre) .0))
 
-work-room-requires : tie.Need-work-room-requires
-work-room-requires c κs = search lemmas
+work-needs-requires : tie.Need-work-needs-requires
+work-needs-requires c κs = search lemmas
 
 needed-requires : tie.Need-needed-requires
 needed-requires c κs =
     let a = c .before .before .before .before .before .before .before in
-    (few-kept (a .pre) .0, few-kept (a .pre) .1, subst SmallRoom (sym (c .work-room .ensures)) (work-small _))
+    (few-kept (a .pre) .0, few-kept (a .pre) .1, subst SmallRoom (sym (c .work-needs .ensures)) (work-small _))
 
 fill-requires : tie.Need-fill-requires
 fill-requires c κs =
@@ -65,7 +65,7 @@ returns c =
     let p = at .before .before .before .before .before .before .earliest-in-room in
     let gone = no-arrival-cell (earliest (decode (a .args .f) (a .args .file .now)) (a .args .q)) (p .result) (p .ensures .0)
     (λ e found. arrival-there (a .args .f) (a .args .file .now) (a .args .trailer) (a .args .q) (asks (a .pre))
-    (sailingsOf (a .args .f) (a .args .trailer)) refl e found .1) (omega arith) in
+    (placesOf (a .args .f) (a .args .trailer)) refl e found .1) (omega arith) in
     eight-as (a .args .f) (a .args .file .now) (a .args .q) (a .args .work .now) (a .pre .fine-call) gone (clear at)
 
 same-length-2 : tie.Need-same-length-2
@@ -85,7 +85,7 @@ earliest-admitted-spec =
     tie.close
     (tie.spec
     earliest-in-room-requires
-    work-room-requires
+    work-needs-requires
     needed-requires
     fill-requires
     same-length

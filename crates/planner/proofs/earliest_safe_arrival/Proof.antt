@@ -19,13 +19,13 @@ told : (c : tie.After-admit) →
 told c =
     let a = c .before .before .before .before .args in
     c .admit .ensures
-    ∙ ap (λ r. admitted versionOne (a .file .now) (queryOf (a .source) (a .target) (a .minute) 0) r noRoom) (c .before .work-room .ensures)
+    ∙ ap (λ r. admitted versionOne (a .file .now) (queryOf (a .source) (a .target) (a .minute) 0) r noRoom) (c .before .work-needs .ensures)
 
-work-room-requires : tie.Need-work-room-requires
-work-room-requires c κs = search needs
+work-needs-requires : tie.Need-work-needs-requires
+work-needs-requires c κs = search needs
 
 admit-requires : tie.Need-admit-requires
-admit-requires c κs = (version-one-readable, subst SmallRoom (sym (c .work-room .ensures)) (work-small _), none-small)
+admit-requires c κs = (version-one-readable, subst SmallRoom (sym (c .work-needs .ensures)) (work-small _), none-small)
 
 enum-known-admission : tie.Need-enum-known-admission
 enum-known-admission c = search needs
@@ -59,7 +59,7 @@ pub earliest-safe-arrival-spec : {M : Type 1} → statement M
 earliest-safe-arrival-spec =
     tie.close
     (tie.spec
-    work-room-requires
+    work-needs-requires
     admit-requires
     enum-known-admission
     enum-known-admission-2

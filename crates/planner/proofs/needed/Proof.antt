@@ -7,20 +7,20 @@ use Rattle.planner.proofs.needed.Tie as tie
 
 mul-result : tie.Need-mul-result
 mul-result c =
-    let a = c .before .before in omega (arith, small-product (a .args .room .arow) (a .args .trailer .rows) (a .pre .2 .arow) (a .pre .1))
+    let a = c .before .before in omega (arith, small-product (a .args .room .perrow) (a .args .trailer .rows) (a .pre .2 .perrow) (a .pre .1))
 
 mul-result-2 : tie.Need-mul-result-2
 mul-result-2 c =
     let a = c .before .before .before .before in
-    omega (arith, small-product (a .args .room .astop) (a .args .trailer .stops) (a .pre .2 .astop) (omega (arith, a .pre .0)))
+    omega (arith, small-product (a .args .room .perstop) (a .args .trailer .stops) (a .pre .2 .perstop) (omega (arith, a .pre .0)))
 
 add-result : tie.Need-add-result
 add-result c =
     let a = c .before .before .before .before in
     omega (
       arith,
-      small-product (a .args .room .arow) (a .args .trailer .rows) (a .pre .2 .arow) (a .pre .1),
-      small-product (a .args .room .astop) (a .args .trailer .stops) (a .pre .2 .astop) (omega (arith, a .pre .0)),
+      small-product (a .args .room .perrow) (a .args .trailer .rows) (a .pre .2 .perrow) (a .pre .1),
+      small-product (a .args .room .perstop) (a .args .trailer .stops) (a .pre .2 .perstop) (omega (arith, a .pre .0)),
     )
 
 add-result-2 : tie.Need-add-result-2
@@ -28,8 +28,8 @@ add-result-2 c =
     let a = c .before .before .before .before .before in
     omega (
       arith,
-      small-product (a .args .room .arow) (a .args .trailer .rows) (a .pre .2 .arow) (a .pre .1),
-      small-product (a .args .room .astop) (a .args .trailer .stops) (a .pre .2 .astop) (omega (arith, a .pre .0)),
+      small-product (a .args .room .perrow) (a .args .trailer .rows) (a .pre .2 .perrow) (a .pre .1),
+      small-product (a .args .room .perstop) (a .args .trailer .stops) (a .pre .2 .perstop) (omega (arith, a .pre .0)),
       a .pre .2 .fixed,
     )
 

@@ -17,19 +17,19 @@ told : (c : tie.After-admit) →
     c .admit .result ≡ admitted versionOne (a .file .now) (a .q) (workRoom (length (a .work .now))) (planRoom (length (a .plan .now)))
 told c =
     let a = c .before .before .before .before .before .before .args in
-    c .admit .ensures ∙ ap₂ (admitted versionOne (a .file .now) (a .q)) (c .before .before .work-room .ensures) (c .before .plan-room .ensures)
+    c .admit .ensures ∙ ap₂ (admitted versionOne (a .file .now) (a .q)) (c .before .before .work-needs .ensures) (c .before .plan-needs .ensures)
 
-work-room-requires : tie.Need-work-room-requires
-work-room-requires c κs = search needs
+work-needs-requires : tie.Need-work-needs-requires
+work-needs-requires c κs = search needs
 
-plan-room-requires : tie.Need-plan-room-requires
-plan-room-requires c κs = search needs
+plan-needs-requires : tie.Need-plan-needs-requires
+plan-needs-requires c κs = search needs
 
 admit-requires : tie.Need-admit-requires
 admit-requires c κs = (
   version-one-readable,
-  subst SmallRoom (sym (c .before .work-room .ensures)) (work-small _),
-  subst SmallRoom (sym (c .plan-room .ensures)) (plan-small _),
+  subst SmallRoom (sym (c .before .work-needs .ensures)) (work-small _),
+  subst SmallRoom (sym (c .plan-needs .ensures)) (plan-small _),
 )
 
 enum-known-admission : tie.Need-enum-known-admission
@@ -67,8 +67,8 @@ pub plan-spec : {M : Type 1} → statement M
 plan-spec =
     tie.close
     (tie.spec
-    work-room-requires
-    plan-room-requires
+    work-needs-requires
+    plan-needs-requires
     admit-requires
     enum-known-admission
     enum-known-admission-2

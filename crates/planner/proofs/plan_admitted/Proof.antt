@@ -17,19 +17,19 @@ abbrev begun : tie.After-needed → tie.Start
 begun c = c .before .before .before .before .before .before .before .before .before .before .before .before
 
 room : (c : tie.After-needed) → c .needed .result ≡ needs (workRoom (length (begun c .args .work .now))) (begun c .args .trailer)
-room c = c .needed .ensures ∙ ap (λ r. needs r (begun c .args .trailer)) (c .before .work-room .ensures)
+room c = c .needed .ensures ∙ ap (λ r. needs r (begun c .args .trailer)) (c .before .work-needs .ensures)
 
 plan-in-room-requires : tie.Need-plan-in-room-requires
 plan-in-room-requires c κs =
     let a = c .before .before .before .before .before in (asks (a .pre), omega (arith, rooms-kept (a .pre) .0), omega (arith, rooms-kept (a .pre) .1))
 
-work-room-requires : tie.Need-work-room-requires
-work-room-requires c κs = search lemmas
+work-needs-requires : tie.Need-work-needs-requires
+work-needs-requires c κs = search lemmas
 
 needed-requires : tie.Need-needed-requires
 needed-requires c κs =
     let a = c .before .before .before .before .before .before .before .before .before .before .before in
-    (few-kept (a .pre) .0, few-kept (a .pre) .1, subst SmallRoom (sym (c .work-room .ensures)) (work-small _))
+    (few-kept (a .pre) .0, few-kept (a .pre) .1, subst SmallRoom (sym (c .work-needs .ensures)) (work-small _))
 
 fill-requires : tie.Need-fill-requires
 fill-requires c κs =
@@ -66,7 +66,7 @@ plan-admitted-spec =
     tie.close
     (tie.spec
     plan-in-room-requires
-    work-room-requires
+    work-needs-requires
     needed-requires
     fill-requires
     same-length

@@ -16,23 +16,23 @@ told : (c : tie.After-admit-checked) →
 told c =
     let a = c .before .before .before .before .before .before .args in
     c .admit-checked .ensures
-    ∙ ap₂ (λ x y. faultNumber (callVerdict (a .f) (a .trailer) (a .q) x y)) (c .before .before .work-room .ensures) (c .before .plan-room .ensures)
+    ∙ ap₂ (λ x y. faultNumber (callVerdict (a .f) (a .trailer) (a .q) x y)) (c .before .before .work-needs .ensures) (c .before .plan-needs .ensures)
 
-work-room-requires : tie.Need-work-room-requires
-work-room-requires c κs = search needs
+work-needs-requires : tie.Need-work-needs-requires
+work-needs-requires c κs = search needs
 
-plan-room-requires : tie.Need-plan-room-requires
-plan-room-requires c κs = search needs
+plan-needs-requires : tie.Need-plan-needs-requires
+plan-needs-requires c κs = search needs
 
 admit-checked-requires : tie.Need-admit-checked-requires
 admit-checked-requires c κs =
     let a = c .before .before .before .before .before in
-    let few = few-stops-rows (a .args .f) (a .args .file .now) (a .args .q) (c .before .work-room .result) (c .plan-room .result)
+    let few = few-stops-rows (a .args .f) (a .args .file .now) (a .args .q) (c .before .work-needs .result) (c .plan-needs .result)
     (a .args .trailer) (a .pre .1) (a .pre .0 .readable) in (
       few .0,
       few .1,
-      subst SmallRoom (sym (c .before .work-room .ensures)) (work-small _),
-      subst SmallRoom (sym (c .plan-room .ensures)) (plan-small _),
+      subst SmallRoom (sym (c .before .work-needs .ensures)) (work-small _),
+      subst SmallRoom (sym (c .plan-needs .ensures)) (plan-small _),
     )
 
 plan-admitted-requires : tie.Need-plan-admitted-requires
@@ -67,8 +67,8 @@ pub plan-checked-spec : {M : Type 1} → statement M
 plan-checked-spec =
     tie.close
     (tie.spec
-    work-room-requires
-    plan-room-requires
+    work-needs-requires
+    plan-needs-requires
     admit-checked-requires
     plan-admitted-requires
     same-length

@@ -1,12 +1,12 @@
--- `numbers::put_number` meets its contract: four stores, low byte first. Assumes nothing.
+-- `numbers::put_u32` meets its contract: four stores, low byte first. Assumes nothing.
 use Prim.Native.Nat.{_/_, _%_}
 use native.Mathlib.Omega.{arith}
 use lib.ListN.{length-set}
 use Rattle.numbers.proofs.Put.{four-stores}
 use Rattle.numbers.specs.Numbers.{u16Bytes, u32Bytes}
 use borrow.Author.Needs.{needs}
-use Rattle.numbers.proofs.put_number.Statement.{statement}
-use Rattle.numbers.proofs.put_number.Tie as tie
+use Rattle.numbers.proofs.put_u32.Statement.{statement}
+use Rattle.numbers.proofs.put_u32.Tie as tie
 
 cast-out : tie.Need-cast-out
 cast-out c = search needs
@@ -52,8 +52,8 @@ returns c =
     let high = a .number / 65536 in
     four-stores (a .out .now) (a .at) (low % 256) (low / 256 % 256) (high % 256) (high / 256 % 256)
 
-pub put-number-spec : {M : Type 1} → statement M
-put-number-spec =
+pub put-u32-spec : {M : Type 1} → statement M
+put-u32-spec =
     tie.close
     (tie.spec
     cast-out

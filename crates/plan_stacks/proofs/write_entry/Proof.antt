@@ -1,10 +1,10 @@
--- `plan_stacks::push` meets its contract: the two cells of the pair. Assumes nothing.
+-- `plan_stacks::write_entry` meets its contract: the two cells of the pair. Assumes nothing.
 use mathlib.Core.Path.{ap}
 use Prim.Native.Nat.{ℕ}
 use Rattle.plan_cells.specs.Cells.{paired}
 use borrow.Author.Needs.{needs}
-use Rattle.plan_stacks.proofs.push.Statement.{statement}
-use Rattle.plan_stacks.proofs.push.Tie as tie
+use Rattle.plan_stacks.proofs.write_entry.Statement.{statement}
+use Rattle.plan_stacks.proofs.write_entry.Tie as tie
 
 mul-at : tie.Need-mul-at
 mul-at c = search needs
@@ -44,8 +44,8 @@ returns c =
     let a = c .before .before .args in
     ap (λ (key : ℕ). paired (a .work .now) (a .pair) key (a .worth)) (c .cell .ensures)
 
-pub push-spec : {M : Type 1} → statement M
-push-spec =
+pub write-entry-spec : {M : Type 1} → statement M
+write-entry-spec =
     tie.close
     (tie.spec
     mul-at
