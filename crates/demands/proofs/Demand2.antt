@@ -6,7 +6,8 @@ use lib.Dec.{T}
 use lib.ListN.{length}
 use mathlib.Core.Logic.{_↔_, _≢_}
 use mathlib.Core.Option.{none, some}
-use mathlib.Core.Path.{_≡_, ap, subst, _∙_}
+use mathlib.Core.Path.{_≡_, sym, ap, subst, _∙_}
+use Rattle.laws.proofs.Tests.{T-true}
 use Rattle.timetable.specs.Timetable.{Timetable, rowOf}
 use Rattle.plans.specs.declared.Goal.{Goal}
 use Rattle.plans.specs.Sound.{Timely}
@@ -25,13 +26,14 @@ use Rattle.demands.proofs.RowWorth.{worth-in-words, no-worth, ride-in-w
 use Rattle.demands.proofs.RowBegins.{row-reaches, row-begins}
 use Rattle.demands.proofs.PlanIsSafe.{ordered-rising, plan-safe, plan-rising, plan-valued, plan-expected, plan-last}
 use Rattle.demands.proofs.PlanSet.{plan-set}
-use Rattle.demands.proofs.Optimal.{expected-stands, plan-least}
+use Rattle.demands.proofs.Optimal.{expected-stands, plan-least, valued-ride, ride-valued}
 use Rattle.demands.proofs.Sorting.{safe-sorted, sorted-same}
 use Rattle.demands.proofs.Forward.{AllTimed}
 use Rattle.demands.proofs.Safe.{safe-timed}
 use Rattle.demands.proofs.Walked.{valued-rides}
 use Rattle.demands.proofs.WholePlan.{worth-in-whole, own-in-whole, caught-departs}
 use Rattle.plans.proofs.Made.{plan-made}
+use Rattle.plans.proofs.Open.{boards-earlier, finds}
 use Rattle.plans.proofs.PlanRides.{for-ordered}
 
 module _ (t : Timetable) (timely : Timely t) (goal : Goal) where
@@ -144,6 +146,17 @@ module _ (t : Timetable) (timely : Timely t) (q : Query) where
         (s m : ℕ) (v u : Valued) → firstOpen (worthsOf q rides) s m ≡ some v → List·Memᴰ u (worthsOf q rides) → boards (u .ride) s m ≡ true
         → v .ride .departs ≤ u .ride .departs
     caught-first = caught-departs (q .target) (sorted rides) (safe-timed timely q bound rides safe)
+
+    -- whoever lands by a + M short of the target finds a ride of the plan to go on with
+    pub caught-there :
+        (v : Valued) → List·Memᴰ v (worthsOf q rides) → v .ride .to ≢ q .target → (m : ℕ) → m ≤ landsBy (v .ride)
+        → (u : Valued) × (firstOpen (worthsOf q rides) (v .ride .to) m ≡ some u)
+    caught-there v among away m in-time =
+        let next = any-order .0 .goes-on (v .ride) (valued-ride (q .target) (sorted rides) among) away in
+        let found = ride-valued (q .target) (sorted rides) (next .1) in
+        finds (worthsOf q rides) (v .ride .to) m (found .1)
+        (boards-earlier (found .0 .ride) (v .ride .to) (landsBy (v .ride)) m in-time
+        (subst (λ (r : Ride). boards r (v .ride .to) (landsBy (v .ride)) ≡ true) (sym (found .2)) (T-true (next .2))))
 
   -- a safe plan as written, by boarding row rising: worths that the rides caught after each ride give are its own
   pub written-worths :

@@ -25,3 +25,4 @@ pub mod PlanExists
 pub mod PlanIsSafe
 pub mod Largest
 pub mod Demanded
+pub mod OnePlan

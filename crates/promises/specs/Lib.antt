@@ -1,3 +1,2 @@
--- What a planner must do to meet the contract, and what is read from what the calls return.
-pub mod Planner
+-- What is read from what the calls return.
 pub mod Returned
