@@ -1,4 +1,4 @@
--- The rides read back from a plan slice: those that were written, and each by its own three numbers. Assumes nothing.
+-- The rides read back from a plan slice: those that were written, each by its own three numbers, and they write these again. Assumes nothing.
 use Prim.Native.Nat.{ℕ, zero, suc, _+_, _*_, _≤_, _<_}
 use mathlib.Core.List.{List, [], _∷_, _++_, List·Memᴰ, List·Memᴰ·head, List·Memᴰ·tail}
 use mathlib.Core.Path.{_≡_, refl, sym, ap, ap₂, _∙_}
@@ -102,3 +102,16 @@ module _ (t : Timetable) where
       ap (λ (l : List Valued). getD l (suc i) other) (read-more rides a b c plan)
       ∙ read-at rides plan (omega arith) i (omega arith) other
       ∙ sym (rw (board-behind a b c plan i, leave-behind a b c plan i, worth-behind a b c plan i))
+
+  -- and what is read, three numbers a ride, writes the same numbers again
+  pub written-back : (rides : ℕ) (plan : List ℕ) → 3 * rides ≤ length plan
+      → written (ridesIn t (take (3 * rides) plan)) ≡ take (3 * rides) plan
+  unfolding ridesIn written
+  written-back zero plan room = refl
+  written-back (suc rides) [] room = absurd (let z : ⊥ = omega arith in z)
+  written-back (suc rides) (a ∷ []) room = absurd (let z : ⊥ = omega arith in z)
+  written-back (suc rides) (a ∷ b ∷ []) room = absurd (let z : ⊥ = omega arith in z)
+  written-back (suc rides) (a ∷ b ∷ c ∷ plan) room =
+      let on : 3 * suc rides ≡ suc (suc (suc (3 * rides))) = omega arith in
+      ap written (read-more rides a b c plan) ∙ ap (λ l. a ∷ b ∷ c ∷ l) (written-back rides plan (omega arith))
+      ∙ sym (ap (λ k. take k (a ∷ b ∷ c ∷ plan)) on)

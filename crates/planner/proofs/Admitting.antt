@@ -2,10 +2,10 @@
 use Prim.Native.Nat.{ℕ, _*_, _≤_, _<_}
 use native.Mathlib.Nat.{mul-le-mul-right}
 use native.Mathlib.Omega.{arith}
-use mathlib.Core.Bool.{Bool, true, false, _&&_}
+use mathlib.Core.Bool.{Bool, true, false, _&&_, false≢true}
 use mathlib.Core.List.{List}
 use mathlib.Core.Path.{_≡_, refl, sym, ap, subst, _∙_}
-use borrow.Author.Tests.{leb-true}
+use borrow.Author.Tests.{leb-true, le-leb}
 use Rattle.laws.proofs.Tests.{both-left, both-right}
 use Rattle.timetable.specs.Limits.{mostStops, mostRows}
 use Rattle.timetable.specs.Verdict.{Verdict, fine, fault, orElse, unless, byVerdict}
@@ -133,18 +133,40 @@ same-admission f file q a b c d alike = same (fileVerdict f file) alike
 
 -- a refusal's number is 1 to 7
 pub refused-number : (f : Format) (file : List ℕ) (q : Query) (a b : Room) (number place : ℕ) → admission f file q a b ≡ fault number place
-    → number ≤ 7
+    → (1 ≤ number) × (number ≤ 7)
 unfolding admission callVerdict
 refused-number f file q a b number place e =
     number-of (fileVerdict f file) (queryRule (trailerOf f file .stops) (f .lastminute) q)
     (enough a (trailerOf f file) && enough b (trailerOf f file)) (file-placed f file) e
   where
     number-of : (v : Verdict) (rule rooms : Bool) → WellPlaced (trailerOf f file .classes) (trailerOf f file .rows) v
-        → orElse v (orElse (unless rule 6 0) (unless rooms 7 0)) ≡ fault number place → number ≤ 7
-    number-of (fault n p) rule rooms placed e = let z : n ≡ number = cc in omega (arith, number-small placed .1)
-    number-of fine false rooms placed e = let z : 6 ≡ number = cc in omega arith
-    number-of fine true false placed e = let z : 7 ≡ number = cc in omega arith
+        → orElse v (orElse (unless rule 6 0) (unless rooms 7 0)) ≡ fault number place → (1 ≤ number) × (number ≤ 7)
+    number-of (fault n p) rule rooms placed e =
+        let z : n ≡ number = cc in (omega (arith, number-small placed .0), omega (arith, number-small placed .1))
+    number-of fine false rooms placed e = let z : 6 ≡ number = cc in (omega arith, omega arith)
+    number-of fine true false placed e = let z : 7 ≡ number = cc in (omega arith, omega arith)
     number-of fine true true placed e = absurd (fault-not-fine (sym e))
+
+-- what asks for no room always has enough
+enough-none : (h : Trailer) → enough noRoom h ≡ true
+unfolding enough
+enough-none h = le-leb (needs noRoom h) 0 (omega arith)
+
+-- so a call that asks for no room is never refused by 7
+pub refused-roomless : (f : Format) (file : List ℕ) (q : Query) (number place : ℕ) → admission f file q noRoom noRoom ≡ fault number place
+    → (1 ≤ number) × (number ≤ 6)
+unfolding admission callVerdict
+refused-roomless f file q number place e =
+    number-of (fileVerdict f file) (queryRule (trailerOf f file .stops) (f .lastminute) q) (enough noRoom (trailerOf f file))
+    (enough-none (trailerOf f file)) (file-placed f file) e
+  where
+    number-of : (v : Verdict) (rule room : Bool) → room ≡ true → WellPlaced (trailerOf f file .classes) (trailerOf f file .rows) v
+        → orElse v (orElse (unless rule 6 0) (unless (room && room) 7 0)) ≡ fault number place → (1 ≤ number) × (number ≤ 6)
+    number-of (fault n p) rule room wide placed e =
+        let z : n ≡ number = cc in (omega (arith, number-small placed .0), omega (arith, number-small placed .1))
+    number-of fine false room wide placed e = let z : 6 ≡ number = cc in (omega arith, omega arith)
+    number-of fine true true wide placed e = absurd (fault-not-fine (sym e))
+    number-of fine true false wide placed e = absurd (false≢true wide)
 
 -- what the answer of an admission tells
 pub admission-tells : (f : Format) (file : List ℕ) (q : Query) (work other : Room) (number place : ℕ)

@@ -1,11 +1,13 @@
--- What an admitted call stands on: a sound file's timetable, two stops apart, a bound code. Assumes nothing.
-use Prim.Native.Nat.{ℕ}
-use mathlib.Core.List.{List}
+-- What an admitted call stands on: a sound file's timetable, two stops apart, a bound code; and how it leaves work. Assumes nothing.
+use Prim.Native.Nat.{ℕ, _+_, _*_}
+use native.Mathlib.Omega.{arith}
+use mathlib.Core.List.{List, _++_}
 use mathlib.Core.Logic.{_↔_, inl, inr}
 use mathlib.Core.Option.{none}
-use mathlib.Core.Path.{_≡_, refl}
+use mathlib.Core.Path.{_≡_, refl, ap, _∙_}
+use lib.ListN.{length, take, drop, replicate, length-replicate}
+use lib.Seq.{take-at, drop-at}
 use Rattle.timetable.specs.Verdict.{fine}
-use Rattle.file_layout.specs.declared.Format.{Format}
 use Rattle.file_layout.specs.Format.{versionOne}
 use Rattle.file_layout.specs.Decode.{decode, trailerOf}
 use Rattle.file_layout.specs.Sound.{SoundFile}
@@ -13,11 +15,12 @@ use Rattle.query.specs.declared.Query.{Query}
 use Rattle.query.specs.Query.{QueryFits}
 use Rattle.plans.specs.Sound.{Timely}
 use Rattle.plans.specs.Journeys.{Journey, CodeStands}
-use Rattle.plans.specs.Plan.{planned, earliest}
+use Rattle.plans.specs.Plan.{planned}
 use Rattle.demands.proofs.Demand2 as demand2
 use Rattle.plan_rows.proofs.Standing.{timely, version-one-plannable}
 use Rattle.planner.specs.declared.Room.{Room}
-use Rattle.planner.specs.Admission.{admission, Admits}
+use Rattle.planner.specs.Admission.{needs, workRoom, admission, Admits}
+use Rattle.planner.specs.Outcome.{cleared, workAfter}
 use Rattle.planner.proofs.Admitting.{file-sound, query-kept}
 
 module _ (file : List ℕ) (q : Query) (work other : Room) (call : admission versionOne file q work other ≡ fine) where
@@ -42,3 +45,17 @@ module _ (file : List ℕ) (q : Query) (work other : Room) (call : admission ver
     where
       code-stands : CodeStands (q .code)
       code-stands = elim (query-fits .code) [ inl p ↦ inl p | inr p ↦ inr (p .0) ]
+
+-- work as an admitted call leaves it: the first 4n + 2,500 numbers are 0, and the rest are as they were
+pub work-cleared : (file work after : List ℕ) → after ≡ workAfter versionOne file work
+    → (take (4 * trailerOf versionOne file .rows + 2500) after ≡ replicate (4 * trailerOf versionOne file .rows + 2500) 0)
+    × (drop (4 * trailerOf versionOne file .rows + 2500) after ≡ drop (4 * trailerOf versionOne file .rows + 2500) work)
+unfolding cleared
+work-cleared file work after e =
+    let n = trailerOf versionOne file .rows in
+    let room : needs (workRoom (length work)) (trailerOf versionOne file) ≡ 4 * n + 2500 = omega arith in
+    let whole = e ∙ ap (λ k. replicate k 0 ++ drop k work) room in
+    let zeros = length-replicate {A = ℕ} (4 * n + 2500) 0 in (
+      ap (take (4 * n + 2500)) whole ∙ take-at (replicate (4 * n + 2500) 0) (drop (4 * n + 2500) work) (4 * n + 2500) zeros,
+      ap (drop (4 * n + 2500)) whole ∙ drop-at (replicate (4 * n + 2500) 0) (drop (4 * n + 2500) work) (4 * n + 2500) zeros,
+    )

@@ -1,11 +1,11 @@
 -- What the earliest safe arrival call returns, for every list of bytes, stops, minute and slice, over its contract. Assumes nothing.
-use Prim.Native.Nat.{ℕ, _≤_}
+use Prim.Native.Nat.{ℕ, _+_, _*_, _≤_}
 use native.Mathlib.Omega.{arith}
-use mathlib.Core.List.{List}
+use mathlib.Core.List.{List, []}
 use mathlib.Core.Logic.{_↔_}
 use mathlib.Core.Option.{Option, none, some}
 use mathlib.Core.Path.{_≡_, refl, sym, ap, _∙_}
-use lib.ListN.{length}
+use lib.ListN.{length, take, drop, replicate}
 use contract.Lifetimes.{Lfts}
 use denote.Ref.{now}
 use denote.Triple.Clauses.{AtExit}
@@ -13,7 +13,7 @@ use borrow.Fn.Kinds.{Dens, resT, endedOf}
 use Rattle.timetable.specs.Timetable.{Timetable}
 use Rattle.timetable.specs.Verdict.{Verdict, fine, fault}
 use Rattle.file_layout.specs.Format.{versionOne}
-use Rattle.file_layout.specs.Decode.{decode}
+use Rattle.file_layout.specs.Decode.{decode, trailerOf}
 use Rattle.query.specs.declared.Query.{Query}
 use Rattle.query.specs.Query.{queryOf}
 use Rattle.plans.specs.Sound.{Timely}
@@ -22,12 +22,13 @@ use Rattle.plans.specs.Plan.{earliest}
 use Rattle.demands.proofs.Demand2 as demand2
 use Rattle.planner.specs.declared.Earliest.the-variants.{Arrival, Refused as NoArrival}
 use Rattle.planner.specs.Admission.{workRoom, noRoom, admission}
-use Rattle.planner.specs.Outcome.{workAfter, EarliestOutcome, earliestAnswered, earliestOutcome}
+use Rattle.planner.specs.Outcome.{workAfter, EarliestOutcome, earliestAnswered, earliestAnswer}
 use Rattle.planner.proofs.Admitting.{refused-number}
 use Rattle.planner.proofs.Answered.{refused-earliest, answered-earliest}
+use Rattle.planner.proofs.ByNumber.{arrival-by-number}
 use Rattle.planner.proofs.earliest_safe_arrival.Kinds as kinds
 use Rattle.planner.proofs.earliest_safe_arrival.Reads as reads
-use Rattle.promises.proofs.Admitted.{is-timely, query-fits}
+use Rattle.promises.proofs.Admitted.{is-timely, query-fits, work-cleared}
 
 -- a refusal is no arrival, and two equal arrivals are one minute
 refused-not-arrival : {number place minute : ℕ} → NoArrival number place ≡ Arrival minute → ⊥
@@ -74,12 +75,15 @@ module _ (κs : Lfts 2) (arguments : Dens κs kinds.ps) (answer : resT kinds.r �
   verdict = admission versionOne file q (workRoom (length work)) noRoom
 
   -- 1 to 7, by document 01's number and place; work is as it was
-  pub refuses : (number place : ℕ) → verdict ≡ fault number place → (answer ≡ NoArrival number place) × (work′ ≡ work) × (number ≤ 7)
+  pub refuses : (number place : ℕ) → verdict ≡ fault number place
+      → (answer ≡ NoArrival number place) × (work′ ≡ work) × (1 ≤ number) × (number ≤ 7)
   refuses number place e =
+      let between = refused-number versionOne file q (workRoom (length work)) noRoom number place e in
       let o = refused-earliest versionOne file q work number place e in (
         permitted .0 ∙ ap (λ (x : EarliestOutcome). x .answer) o,
         permitted .1 ∙ ap (λ (x : EarliestOutcome). x .work) o,
-        refused-number versionOne file q (workRoom (length work)) noRoom number place e,
+        between .0,
+        between .1,
       )
 
   module _ (admitted : verdict ≡ fine) where
@@ -89,10 +93,16 @@ module _ (κs : Lfts 2) (arguments : Dens κs kinds.ps) (answer : resT kinds.r �
     told-for : answer ≡ earliestAnswered (earliest t q) after .answer
     told-for = permitted .0 ∙ ap (λ (x : EarliestOutcome). x .answer) (answered-earliest versionOne file q work admitted)
 
-    pub clears : work′ ≡ after
-    clears =
+    cleared-work : work′ ≡ after
+    cleared-work =
         permitted .1 ∙ ap (λ (x : EarliestOutcome). x .work) (answered-earliest versionOne file q work admitted)
         ∙ work-is (earliest t q) after
+
+    -- after an arrival and after 8 the first 4n + 2,500 work numbers are 0, and the rest are as they were
+    pub clears : (work′ ≡ workAfter versionOne file work)
+        × (take (4 * trailerOf versionOne file .rows + 2500) work′ ≡ replicate (4 * trailerOf versionOne file .rows + 2500) 0)
+        × (drop (4 * trailerOf versionOne file .rows + 2500) work′ ≡ drop (4 * trailerOf versionOne file .rows + 2500) work)
+    clears = let left = work-cleared file work work′ cleared-work in (cleared-work, left .0, left .1)
 
     -- the minute answered is E: a safe journey reaches it, and none ends before it
     pub earliest-answered : (e : ℕ) → answer ≡ Arrival e → IsEarliest t q e
@@ -116,3 +126,20 @@ module _ (κs : Lfts 2) (arguments : Dens κs kinds.ps) (answer : resT kinds.r �
         nothing : (o : Option ℕ) → earliest t q ≡ o → ((end : ℕ) → Journey t q end → ⊥) → earliest t q ≡ none
         nothing none is gone = is
         nothing (some e) is gone = absurd (gone e (demand2.earliest-safe t timely q e is .reached))
+
+    -- and 8 is told by document 01's number and place, without values
+    pub eight-by-number : (earliestAnswer answer ≡ record { number = 8; place = 0; values = [] }) ↔ ((end : ℕ) → Journey t q end → ⊥)
+    unfolding earliestAnswer
+    eight-by-number = (
+      λ told. eight-exactly .0 (arrival-by-number answer (NoArrival 8 0) told),
+      λ gone. ap earliestAnswer (eight-exactly .1 gone),
+    )
+
+    -- otherwise a minute
+    pub else-arrives : (answer ≡ NoArrival 8 0 → ⊥) → (e : ℕ) × (answer ≡ Arrival e)
+    unfolding earliestAnswered
+    else-arrives not-eight = by (earliest t q) refl
+      where
+        by : (o : Option ℕ) → earliest t q ≡ o → (e : ℕ) × (answer ≡ Arrival e)
+        by none is = absurd (not-eight (told-for ∙ ap (λ (o : Option ℕ). earliestAnswered o after .answer) is))
+        by (some e) is = (e, told-for ∙ ap (λ (o : Option ℕ). earliestAnswered o after .answer) is)

@@ -20,7 +20,7 @@ use Rattle.query.specs.declared.Query.{Query}
 use Rattle.query.specs.Query.{queryOf}
 use Rattle.plans.specs.Rides.{Ride}
 use Rattle.plans.specs.Journeys.{Journey}
-use Rattle.plans.specs.Worth.{Valued, ridesOf}
+use Rattle.plans.specs.Worth.{Valued}
 use Rattle.plans.specs.Plan.{Plan, planned}
 use Rattle.demands.specs.Demanded.{Demanded}
 use Rattle.demands.proofs.Demanded.{plan-demanded}
@@ -36,7 +36,7 @@ use Rattle.promises.specs.Returned.{Booked}
 use Rattle.promises.proofs.Admitted.{is-timely, is-sound, no-plan-exactly}
 use Rattle.promises.proofs.Minutes.{plan-minutes}
 use Rattle.promises.proofs.PlanCall.{demanded-rides}
-use Rattle.promises.proofs.HostReads.{host-reads, length-bytes, few-rides}
+use Rattle.promises.proofs.HostReads.{host-reads, length-bytes, few-rides, some-rides}
 
 module _ (file : List ℕ) (q : Query) (out : List ℕ) where
   -- refusals 1 to 7, room below 12 bytes a row being 7
@@ -79,7 +79,7 @@ module _ (file : List ℕ) (q : Query) (out : List ℕ) where
 
     each-fits : (v : Valued) → List·Memᴰ v (p .rides) → NumbersFit v
     each-fits v m =
-        let minutes = plan-minutes file q noRoom (byteRoom (length out)) admitted p is in
+        let minutes = plan-minutes file q noRoom (byteRoom (length out)) admitted demanded in
         let inside = each-inside v m in
         record { board = omega (arith, inside .0); leave = omega (arith, inside .1); worth = omega (arith, minutes .0, minutes .2 v m) }
 
@@ -108,10 +108,11 @@ module _ (file : List ℕ) (q : Query) (out : List ℕ) where
       }
 
   -- an admitted call that finds a plan counts its rides
-  few-told : verdict ≡ fine → (o : Option Plan) → planned t q ≡ o → (deskAnswered o out .answer ≡ 10008 → ⊥) → deskAnswered o out .answer < 10000
+  few-told : verdict ≡ fine → (o : Option Plan) → planned t q ≡ o → (deskAnswered o out .answer ≡ 10008 → ⊥)
+      → (1 ≤ deskAnswered o out .answer) × (deskAnswered o out .answer ≤ 2000)
   unfolding deskAnswered
   few-told e none is not-eight = absurd (not-eight refl)
-  few-told e (some p) is not-eight = omega (arith, rides-few e p is)
+  few-told e (some p) is not-eight = (some-rides (demanded e p is .latest-minute .1 .1), rides-few e p is)
 
   eight-told : verdict ≡ fine → (o : Option Plan) → planned t q ≡ o → deskAnswered o out .answer ≡ 10008 → o ≡ none
   unfolding deskAnswered
@@ -134,12 +135,15 @@ module _ (κs : Lfts 2) (arguments : Dens κs kinds.ps) (answer : resT kinds.r �
   out′ = now (ending .1 .1 .1 .1 .1 .0)
 
   -- 10,001 to 10,007, and no byte changes
-  pub refuses : (number place : ℕ) → verdict file q out ≡ fault number place → (answer ≡ 10000 + number) × (out′ ≡ out) × (number ≤ 7)
+  pub refuses : (number place : ℕ) → verdict file q out ≡ fault number place
+      → (answer ≡ 10000 + number) × (out′ ≡ out) × (1 ≤ number) × (number ≤ 7)
   refuses number place e =
+      let between = refused-number versionOne file q noRoom (byteRoom (length out)) number place e in
       let o = desk-refused file q out number place e in (
         permitted .0 ∙ ap (λ (x : DeskOutcome). x .answer) o,
         permitted .1 ∙ ap (λ (x : DeskOutcome). x .bytes) o,
-        refused-number versionOne file q noRoom (byteRoom (length out)) number place e,
+        between .0,
+        between .1,
       )
 
   -- an answer below 10,000 counts the rides that stand in the bytes, 12 bytes a ride, and they are what demands 2 and 3 ask
@@ -163,8 +167,17 @@ module _ (κs : Lfts 2) (arguments : Dens κs kinds.ps) (answer : resT kinds.r �
         λ gone. o ∙ ap (λ (x : Option Plan). deskAnswered x out .answer) (exactly .1 gone),
       )
 
-  -- otherwise a plan
-  pub else-a-plan : verdict file q out ≡ fine → (answer ≡ 10008 → ⊥) → answer < 10000
+  -- on 10,008 no byte changes
+  pub eight-leaves : verdict file q out ≡ fine → answer ≡ 10008 → out′ ≡ out
+  unfolding deskAnswered
+  eight-leaves e told =
+      let o = desk-answered file q out e in
+      permitted .1 ∙ ap (λ (x : DeskOutcome). x .bytes) o
+      ∙ ap (λ (x : Option Plan). deskAnswered x out .bytes)
+      (eight-told file q out e (planned (decode versionOne file) q) refl (sym (permitted .0 ∙ ap (λ (x : DeskOutcome). x .answer) o) ∙ told))
+
+  -- otherwise a plan, of at least one ride and at most 2,000
+  pub else-a-plan : verdict file q out ≡ fine → (answer ≡ 10008 → ⊥) → (1 ≤ answer) × (answer ≤ 2000)
   else-a-plan e not-eight =
       let o = permitted .0 ∙ ap (λ (x : DeskOutcome). x .answer) (desk-answered file q out e) in
-      subst (λ a. a < 10000) (sym o) (few-told file q out e (planned (decode versionOne file) q) refl (λ told. not-eight (o ∙ told)))
+      subst (λ a. (1 ≤ a) × (a ≤ 2000)) (sym o) (few-told file q out e (planned (decode versionOne file) q) refl (λ told. not-eight (o ∙ told)))

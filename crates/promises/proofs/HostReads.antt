@@ -1,8 +1,8 @@
 -- A plan's bytes, read as a host reads them, are its numbers. Assumes nothing.
-use Prim.Native.Nat.{ℕ, suc, _+_, _-_, _*_, _/_, _%_, _≤_, _<_}
+use Prim.Native.Nat.{ℕ, suc, _+_, _-_, _*_, _≤_, _<_}
 use native.Mathlib.Omega.{arith}
 use mathlib.Core.List.{List, [], _∷_, _++_, List·Memᴰ, List·Memᴰ·head, List·Memᴰ·tail}
-use mathlib.Core.Path.{_≡_, refl, sym, ap, ap₂, _∙_}
+use mathlib.Core.Path.{_≡_, refl, ap, ap₂, _∙_}
 use lib.ListN.{length}
 use Rattle.numbers.specs.Numbers.{u16At, u32At, u16Bytes, u32Bytes}
 use Rattle.numbers.proofs.Bytes.{u32-value}
@@ -39,3 +39,8 @@ few-rides (before-all {r} {rides} before rest) k n each =
     let own = each r (List·Memᴰ·head refl) in
     let later = few-rides rest (suc (r .board)) n (λ x m. (before x m, each x (List·Memᴰ·tail m) .1)) in
     let z : suc (length rides) ≤ n - k = omega (arith, own .0, own .1, later) in z
+
+-- rides of which one is known are at least one
+pub some-rides : {rides : List Valued} {v : Valued} → List·Memᴰ v rides → 1 ≤ length rides
+some-rides (List·Memᴰ·head e) = omega arith
+some-rides (List·Memᴰ·tail m) = omega arith

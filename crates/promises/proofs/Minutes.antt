@@ -4,13 +4,11 @@ use native.Mathlib.Nat.{le-trans, mul-le-mul-left}
 use native.Mathlib.Omega.{arith}
 use mathlib.Core.Bool.{cond}
 use mathlib.Core.List.{List, [], _∷_, List·Memᴰ, List·Memᴰ·head, List·Memᴰ·tail, List·Memᴰ·not-nil}
-use mathlib.Core.Option.{some}
 use mathlib.Core.Path.{_≡_, refl, sym, ap, subst, _∙_}
 use lib.Dec.{eqb}
-use lib.ListN.{length}
 use Rattle.laws.proofs.Tests.{ifb}
 use Rattle.laws.proofs.Members.{head-or-later, mapped-from}
-use Rattle.clock.specs.Clock.{dayOf, roundedUp}
+use Rattle.clock.specs.Clock.{roundedUp}
 use Rattle.clock.proofs.Days.{printed-day, printed-ticks}
 use Rattle.timetable.specs.Timetable.{maximumDelay, rowOf, sharesOf}
 use Rattle.timetable.specs.Verdict.{fine}
@@ -20,18 +18,19 @@ use Rattle.file_layout.specs.Decode.{decode, trailerOf}
 use Rattle.query.specs.declared.Query.{Query}
 use Rattle.plans.specs.Rides.{Ride, IsRide, landsBy}
 use Rattle.timetable.specs.Ticks.{ticksAMinute}
-use Rattle.plans.specs.Worth.{Valued, valued, ridesOf, landWorth, arrivalWorth, changeWorth}
-use Rattle.plans.specs.Plan.{Plan, planned}
+use Rattle.plans.specs.Worth.{Valued, valued, ridesOf, firstOpen, landWorth, arrivalWorth, changeWorth}
+use Rattle.plans.specs.Chosen.{worthOf}
 use Rattle.plans.proofs.Open.{found-member}
 use Rattle.plans.proofs.RideMinutes.{ride-shares}
-use Rattle.plans.proofs.Made.{plan-made}
-use Rattle.plans.proofs.PlanRides.{plan-first}
+use Rattle.plans.proofs.EarliestSafe.{worth-is}
+use Rattle.demands.specs.SafePlan.{sorted, expectedOf}
 use Rattle.demands.specs.Demanded.{Demanded}
-use Rattle.demands.proofs.Demanded.{plan-demanded}
+use Rattle.demands.proofs.Sorting.{sorted-same}
 use Rattle.plan_rows.proofs.Standing.{longest-small}
 use Rattle.plan_scan.proofs.Worths.{arrival-most, change-most}
 use Rattle.planner.specs.declared.Room.{Room}
 use Rattle.planner.specs.Admission.{admission}
+use Rattle.promises.specs.Returned.{InEightDays}
 use Rattle.promises.proofs.Admitted.{is-timely, is-sound}
 use Rattle.promises.proofs.PlanCall.{demanded-rides}
 
@@ -66,36 +65,61 @@ module _ (file : List ℕ) (q : Query) (work other : Room) (call : admission ver
       in
       subst (λ (x : Ride). landsBy x ≤ versionOne .lastminute + versionOne .delay) (sym (is .as-timed)) lands
 
-  -- what the printed times and the desk's bytes are asked to hold
-  pub plan-minutes : (p : Plan) → planned (decode versionOne file) q ≡ some p
-      → (p .latest ≤ versionOne .lastminute + versionOne .delay) × (p .expected ≤ ticksAMinute * p .latest)
-      × ((v : Valued) → List·Memᴰ v (p .rides) → v .worth ≤ ticksAMinute * p .latest)
-  plan-minutes p is =
-      let t = decode versionOne file in
-      let timely = is-timely file q work other call in
-      let demanded = plan-demanded t timely q p is in
-      let made = plan-made t q p is in
+  -- a ride departs and arrives by the last minute
+  ride-times : (r : Ride) → IsRide (decode versionOne file) r → (r .departs ≤ versionOne .lastminute) × (r .arrives ≤ versionOne .lastminute)
+  ride-times r is =
+      let sound = is-sound file q work other call in
+      let boards = sound .rows .own (r .board) (omega (arith, is .onward, is .inside)) in
+      let leaves = sound .rows .own (r .leave) (is .inside) in
+      subst (λ (x : Ride). (x .departs ≤ versionOne .lastminute) × (x .arrives ≤ versionOne .lastminute)) (sym (is .as-timed))
+      (boards .departure, leaves .arrival)
+
+  module _ {rides : List Valued} {expected latest bound : ℕ} (demanded : Demanded (decode versionOne file) q rides expected latest bound) where
+    worths-most : (v : Valued) → List·Memᴰ v rides → v .worth ≤ ticksAMinute * latest
+    worths-most v m =
+        valued-most (q .target) latest (ridesOf rides)
+        (λ r k. let found = mapped-from (λ (u : Valued). u .ride) rides k in (
+          ride-shares (decode versionOne file) (is-timely file q work other call) r (demanded .safe .are-rides r k),
+          subst (λ (x : Ride). landsBy x ≤ latest) (sym (found .2)) (demanded .latest-minute .0 (found .0) (found .1)),
+        ))
+        v (subst (λ (l : List Valued). List·Memᴰ v l) (sym (demanded .own-worths)) m)
+
+    -- the expected ticks are the worth of the first ride from the source
+    expected-worth : (v : Valued) × List·Memᴰ v rides × (v .worth ≡ expected)
+    unfolding expectedOf
+    expected-worth =
+        let own : valued (q .target) (sorted (ridesOf rides)) ≡ rides =
+        ap (valued (q .target)) (sorted-same (demanded .by-boarding-row)) ∙ demanded .own-worths in
+        let first = ap (λ (l : List Valued). worthOf (firstOpen l (q .source) (q .minute))) (sym own) ∙ demanded .expects in
+        let found = worth-is (firstOpen rides (q .source) (q .minute)) first in
+        (found .0, found-member rides (q .source) (q .minute) (found .1), found .2)
+
+  -- of every plan demanded: what the printed times and the desk's bytes are asked to hold
+  pub plan-minutes : {rides : List Valued} {expected latest bound : ℕ} → Demanded (decode versionOne file) q rides expected latest bound
+      → (latest ≤ versionOne .lastminute + versionOne .delay) × (expected ≤ ticksAMinute * latest)
+      × ((v : Valued) → List·Memᴰ v rides → v .worth ≤ ticksAMinute * latest)
+  plan-minutes {latest} demanded =
       let last = demanded .latest-minute .1 in
-      let worths : (v : Valued) → List·Memᴰ v (p .rides) → v .worth ≤ ticksAMinute * p .latest =
-      λ v m.
-      valued-most (q .target) (p .latest) (ridesOf (p .rides))
-      (λ r k. let found = mapped-from (λ (u : Valued). u .ride) (p .rides) k in (
-        ride-shares t timely r (demanded .safe .are-rides r k),
-        subst (λ (x : Ride). landsBy x ≤ p .latest) (sym (found .2)) (demanded .latest-minute .0 (found .0) (found .1)),
-      ))
-      v (subst (λ (l : List Valued). List·Memᴰ v l) (sym (demanded .own-worths)) m)
-      in (
+      let first = expected-worth demanded in (
         subst (λ k. k ≤ versionOne .lastminute + versionOne .delay) (last .2)
             (ride-lands (last .0 .ride) (demanded-rides demanded (last .0) (last .1))),
-        subst (λ x. x ≤ ticksAMinute * p .latest) (sym (made .worth))
-            (worths (made .first) (found-member (p .rides) (q .source) (q .minute) (plan-first t timely q p made))),
-        worths,
+        subst (λ x. x ≤ ticksAMinute * latest) (first .2) (worths-most demanded (first .0) (first .1)),
+        worths-most demanded,
       )
 
-  -- so the sheet prints days 1 to 8, for the latest minute and for the expected arrival
-  pub plan-prints : (p : Plan) → planned (decode versionOne file) q ≡ some p
-      → ((1 ≤ dayOf (p .latest)) × (dayOf (p .latest) ≤ 8)) × ((1 ≤ dayOf (roundedUp (p .expected))) × (dayOf (roundedUp (p .expected)) ≤ 8))
-  plan-prints p is =
-      let minutes = plan-minutes p is in
-      let rounded = printed-ticks (p .expected) (p .latest) (minutes .1) in
-      (printed-day 8 (p .latest) (omega (arith, minutes .0)), printed-day 8 (roundedUp (p .expected)) (omega (arith, minutes .0, rounded)))
+  -- so every time that the sheet prints is of the days 1 to 8: the first line's two, and three for each ride
+  pub plan-prints : {rides : List Valued} {expected latest bound : ℕ} → Demanded (decode versionOne file) q rides expected latest bound
+      → InEightDays (roundedUp expected) × InEightDays latest
+      × ((v : Valued) → List·Memᴰ v rides → InEightDays (v .ride .departs) × InEightDays (v .ride .arrives) × InEightDays (roundedUp (v .worth)))
+  plan-prints {expected} {latest} demanded =
+      let minutes = plan-minutes demanded in
+      let rounded : (ticks : ℕ) → ticks ≤ ticksAMinute * latest → InEightDays (roundedUp ticks) =
+      λ ticks h. printed-day 8 (roundedUp ticks) (omega (arith, minutes .0, printed-ticks ticks latest h)) in (
+        rounded expected (minutes .1),
+        printed-day 8 latest (omega (arith, minutes .0)),
+        λ v m. let times = ride-times (v .ride) (demanded-rides demanded v m) in (
+          printed-day 8 (v .ride .departs) (omega (arith, times .0)),
+          printed-day 8 (v .ride .arrives) (omega (arith, times .1)),
+          rounded (v .worth) (minutes .2 v m),
+        ),
+      )

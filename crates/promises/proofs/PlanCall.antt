@@ -1,11 +1,11 @@
 -- The demands of what the planning call returns, for every list of bytes, query and pair of slices, over its contract. Assumes nothing.
-use Prim.Native.Nat.{ℕ, _*_, _≤_}
+use Prim.Native.Nat.{ℕ, _+_, _*_, _≤_}
 use native.Mathlib.Omega.{arith}
-use mathlib.Core.List.{List, _++_, List·Memᴰ}
+use mathlib.Core.List.{List, [], _++_, List·Memᴰ}
 use mathlib.Core.Logic.{_↔_}
 use mathlib.Core.Option.{Option, none, some}
 use mathlib.Core.Path.{_≡_, refl, sym, ap, subst, _∙_}
-use lib.ListN.{length, take, drop}
+use lib.ListN.{length, take, drop, replicate}
 use lib.Seq.{drop-append-seam}
 use contract.Lifetimes.{Lfts}
 use denote.Ref.{now}
@@ -15,9 +15,9 @@ use Rattle.laws.proofs.Members.{mapped}
 use Rattle.timetable.specs.Timetable.{Timetable}
 use Rattle.timetable.specs.Verdict.{Verdict, fine, fault}
 use Rattle.file_layout.specs.Format.{versionOne}
-use Rattle.file_layout.specs.Decode.{decode}
+use Rattle.file_layout.specs.Decode.{decode, trailerOf}
 use Rattle.query.specs.declared.Query.{Query}
-use Rattle.plans.specs.Rides.{Ride, IsRide}
+use Rattle.plans.specs.Rides.{IsRide}
 use Rattle.plans.specs.Journeys.{Journey}
 use Rattle.plans.specs.Worth.{Valued}
 use Rattle.plans.specs.Plan.{Plan, planned}
@@ -27,15 +27,15 @@ use Rattle.plan_slice.specs.Slice.{written, ridesIn}
 use Rattle.plan_slice.proofs.Written.{length-written}
 use Rattle.plan_slice.proofs.ReadBack.{slice-read-back}
 use Rattle.plan_whole.specs.Answers.{answerFor, sliceAfter}
-use Rattle.plan_whole.specs.declared.Planned.{Planned}
 use Rattle.plan_whole.specs.declared.Planned.the-variants.{Plan as AsPlan, Refused as NoPlan}
 use Rattle.planner.specs.Admission.{workRoom, planRoom, admission}
-use Rattle.planner.specs.Outcome.{workAfter, PlanOutcome, refusedPlan, planAnswered, planOutcome}
+use Rattle.planner.specs.Outcome.{workAfter, PlanOutcome, planAnswered, planOutcome, planAnswer}
 use Rattle.planner.proofs.Admitting.{refused-number}
 use Rattle.planner.proofs.Answered.{refused-outcome, answered-outcome}
+use Rattle.planner.proofs.ByNumber.{plan-by-number}
 use Rattle.planner.proofs.plan.Kinds as kinds
 use Rattle.planner.proofs.plan.Reads as reads
-use Rattle.promises.proofs.Admitted.{is-timely, no-plan-exactly}
+use Rattle.promises.proofs.Admitted.{is-timely, no-plan-exactly, work-cleared}
 
 -- a refusal is no plan, and two equal plan answers have equal numbers
 pub refused-not-plan : {number place rides expected latest bound : ℕ} → NoPlan number place ≡ AsPlan rides expected latest bound → ⊥
@@ -68,13 +68,13 @@ module _ (file : List ℕ) (q : Query) (work plan : List ℕ) where
   answered e = ap (λ (o : PlanOutcome). o .answer) (answered-outcome versionOne file q work plan e)
 
   -- a plan that is answered is the one of the definitions, and the call was admitted
-  pub record Given (rides expected latest bound : ℕ) : Type 0 where
-    pub admitted : verdict ≡ fine
-    pub the-plan : Plan
-    pub is-planned : planned (decode versionOne file) q ≡ some the-plan
-    pub numbers : (length (the-plan .rides) ≡ rides) × (the-plan .expected ≡ expected) × (the-plan .latest ≡ latest) × (the-plan .bound ≡ bound)
+  record Given (rides expected latest bound : ℕ) : Type 0 where
+    admitted : verdict ≡ fine
+    the-plan : Plan
+    is-planned : planned (decode versionOne file) q ≡ some the-plan
+    numbers : (length (the-plan .rides) ≡ rides) × (the-plan .expected ≡ expected) × (the-plan .latest ≡ latest) × (the-plan .bound ≡ bound)
 
-  pub given-plan : (rides expected latest bound : ℕ) → outcome .answer ≡ AsPlan rides expected latest bound → Given rides expected latest bound
+  given-plan : (rides expected latest bound : ℕ) → outcome .answer ≡ AsPlan rides expected latest bound → Given rides expected latest bound
   unfolding answerFor
   given-plan rides expected latest bound told = by verdict refl (planned (decode versionOne file) q) refl
     where
@@ -93,7 +93,7 @@ module _ (file : List ℕ) (q : Query) (work plan : List ℕ) where
       ap (λ (o : PlanOutcome). o .plan) (answered-outcome versionOne file q work plan e) ∙ ap (λ (o : Option Plan). sliceAfter o plan) is
 
   -- the rides read back from the slice's first numbers are the plan demanded, and the numbers beyond are as they were
-  pub reads-back : (rides expected latest bound : ℕ) → Given rides expected latest bound
+  reads-back : (rides expected latest bound : ℕ) → Given rides expected latest bound
       → Demanded (decode versionOne file) q (ridesIn (decode versionOne file) (take (3 * rides) (outcome .plan))) expected latest bound
       × (length (ridesIn (decode versionOne file) (take (3 * rides) (outcome .plan))) ≡ rides)
       × (drop (3 * rides) (outcome .plan) ≡ drop (3 * rides) plan)
@@ -143,13 +143,15 @@ module _ (κs : Lfts 3) (arguments : Dens κs kinds.ps) (answer : resT kinds.r �
 
   -- 1 to 7, in document 01's order and by its number and place; no slice changes
   pub refuses : (number place : ℕ) → verdict file q work plan ≡ fault number place
-      → (answer ≡ NoPlan number place) × (work′ ≡ work) × (plan′ ≡ plan) × (number ≤ 7)
+      → (answer ≡ NoPlan number place) × (work′ ≡ work) × (plan′ ≡ plan) × (1 ≤ number) × (number ≤ 7)
   refuses number place e =
+      let between = refused-number versionOne file q (workRoom (length work)) (planRoom (length plan)) number place e in
       let o = refused-outcome versionOne file q work plan number place e in (
         permitted .0 ∙ ap (λ (x : PlanOutcome). x .answer) o,
         permitted .1 ∙ ap (λ (x : PlanOutcome). x .work) o,
         permitted .2 ∙ ap (λ (x : PlanOutcome). x .plan) o,
-        refused-number versionOne file q (workRoom (length work)) (planRoom (length plan)) number place e,
+        between .0,
+        between .1,
       )
 
   -- where a plan is answered: of as many rides, read back from the slice's first numbers, what demands 2 and 3 ask
@@ -175,6 +177,14 @@ module _ (κs : Lfts 3) (arguments : Dens κs kinds.ps) (answer : resT kinds.r �
         let exactly = no-plan-exactly file q (workRoom (length work)) (planRoom (length plan)) admitted in
         (λ told. exactly .0 (eight-is (planned t q) (sym told-for ∙ told)), λ gone. told-for ∙ ap answerFor (exactly .1 gone))
 
+    -- and 8 is told by document 01's number and place, without values
+    pub eight-by-number : (planAnswer answer ≡ record { number = 8; place = 0; values = [] }) ↔ ((end : ℕ) → Journey t q end → ⊥)
+    unfolding planAnswer
+    eight-by-number = (
+      λ told. eight-exactly .0 (plan-by-number answer (NoPlan 8 0) told),
+      λ gone. ap planAnswer (eight-exactly .1 gone),
+    )
+
     -- otherwise a plan
     pub else-a-plan : (answer ≡ NoPlan 8 0 → ⊥) → (rides expected latest bound : ℕ) × (answer ≡ AsPlan rides expected latest bound)
     unfolding answerFor
@@ -184,13 +194,19 @@ module _ (κs : Lfts 3) (arguments : Dens κs kinds.ps) (answer : resT kinds.r �
         by none is = absurd (not-eight (told-for ∙ ap answerFor is))
         by (some p) is = (length (p .rides), p .expected, p .latest, p .bound, told-for ∙ ap answerFor is)
 
-    -- on 8 the plan slice is as it was; work is cleared either way
+    -- on 8 the plan slice is as it was
     pub eight-leaves : answer ≡ NoPlan 8 0 → plan′ ≡ plan
     unfolding planAnswered sliceAfter
     eight-leaves told =
         permitted .2 ∙ ap (λ (o : PlanOutcome). o .plan) (answered-outcome versionOne file q work plan admitted)
         ∙ ap (λ (o : Option Plan). sliceAfter o plan) (eight-is (planned t q) (sym told-for ∙ told))
 
-    pub clears : work′ ≡ workAfter versionOne file work
+    cleared-work : work′ ≡ workAfter versionOne file work
     unfolding planAnswered
-    clears = permitted .1 ∙ ap (λ (o : PlanOutcome). o .work) (answered-outcome versionOne file q work plan admitted)
+    cleared-work = permitted .1 ∙ ap (λ (o : PlanOutcome). o .work) (answered-outcome versionOne file q work plan admitted)
+
+    -- after a plan and after 8 the first 4n + 2,500 work numbers are 0, and the rest are as they were
+    pub clears : (work′ ≡ workAfter versionOne file work)
+        × (take (4 * trailerOf versionOne file .rows + 2500) work′ ≡ replicate (4 * trailerOf versionOne file .rows + 2500) 0)
+        × (drop (4 * trailerOf versionOne file .rows + 2500) work′ ≡ drop (4 * trailerOf versionOne file .rows + 2500) work)
+    clears = let left = work-cleared file work work′ cleared-work in (cleared-work, left .0, left .1)

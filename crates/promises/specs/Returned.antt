@@ -1,8 +1,9 @@
--- What a host reads from its answer and bytes, and what a pier reads from a sheet: the rides that demands 2 and 3 ask.
-use Prim.Native.Nat.{ℕ, _*_}
+-- What a host reads from its answer and bytes, and what a pier reads from a sheet: the rides that demands 2 and 3 ask, on days 1 to 8.
+use Prim.Native.Nat.{ℕ, _*_, _≤_}
 use mathlib.Core.List.{List, _++_}
 use mathlib.Core.Path.{_≡_}
 use lib.ListN.{length, drop}
+use Rattle.clock.specs.Clock.{dayOf}
 use Rattle.timetable.specs.Timetable.{Timetable}
 use Rattle.query.specs.declared.Query.{Query}
 use Rattle.plans.specs.Worth.{Valued}
@@ -28,3 +29,7 @@ pub record SheetShows (t : Timetable) (q : Query) (text : List ℕ) : Type 0 whe
   pub bound : ℕ
   pub demanded-plan : Demanded t q rides expected latest bound
   pub lines : text ≡ firstText (length rides) expected latest ++ ridesText rides
+
+-- a minute that prints as one of the days 1 to 8
+abbrev pub InEightDays : ℕ → Type 0
+InEightDays minute = (1 ≤ dayOf minute) × (dayOf minute ≤ 8)

@@ -91,4 +91,4 @@ module _ (f : Format) (readable : Readable f) (file : List ℕ) (q : Query) (wor
   unfolding planOutcome
   desk-fits =
       verdict-fits (planned (decode f file) q) (workAfter f file work) (admission f file q (workRoom (length work)) (planRoom (length plan)))
-      (refused-number f file q (workRoom (length work)) (planRoom (length plan)))
+      (λ number place e. refused-number f file q (workRoom (length work)) (planRoom (length plan)) number place e .1)
