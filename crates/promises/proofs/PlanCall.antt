@@ -68,13 +68,13 @@ module _ (file : List ℕ) (q : Query) (work plan : List ℕ) where
   answered e = ap (λ (o : PlanOutcome). o .answer) (answered-outcome versionOne file q work plan e)
 
   -- a plan that is answered is the one of the definitions, and the call was admitted
-  record Given (rides expected latest bound : ℕ) : Type 0 where
-    admitted : verdict ≡ fine
-    the-plan : Plan
-    is-planned : planned (decode versionOne file) q ≡ some the-plan
-    numbers : (length (the-plan .rides) ≡ rides) × (the-plan .expected ≡ expected) × (the-plan .latest ≡ latest) × (the-plan .bound ≡ bound)
+  pub record Given (rides expected latest bound : ℕ) : Type 0 where
+    pub admitted : verdict ≡ fine
+    pub the-plan : Plan
+    pub is-planned : planned (decode versionOne file) q ≡ some the-plan
+    pub numbers : (length (the-plan .rides) ≡ rides) × (the-plan .expected ≡ expected) × (the-plan .latest ≡ latest) × (the-plan .bound ≡ bound)
 
-  given-plan : (rides expected latest bound : ℕ) → outcome .answer ≡ AsPlan rides expected latest bound → Given rides expected latest bound
+  pub given-plan : (rides expected latest bound : ℕ) → outcome .answer ≡ AsPlan rides expected latest bound → Given rides expected latest bound
   unfolding answerFor
   given-plan rides expected latest bound told = by verdict refl (planned (decode versionOne file) q) refl
     where
@@ -86,7 +86,8 @@ module _ (file : List ℕ) (q : Query) (work plan : List ℕ) where
       by fine e (some p) is =
           record { admitted = e; the-plan = p; is-planned = is; numbers = same-plan (sym (answered e ∙ ap answerFor is) ∙ told) }
 
-  left : {p : Plan} → verdict ≡ fine → planned (decode versionOne file) q ≡ some p
+  -- its numbers stand first in the slice, ahead of what was there
+  pub left : {p : Plan} → verdict ≡ fine → planned (decode versionOne file) q ≡ some p
       → outcome .plan ≡ written (p .rides) ++ drop (length (written (p .rides))) plan
   unfolding planAnswered sliceAfter
   left e is =

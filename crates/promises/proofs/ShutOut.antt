@@ -24,17 +24,15 @@ use Rattle.demands.proofs.Demanded.{plan-demanded}
 use Rattle.demands.proofs.OnePlan.{one-plan}
 use Rattle.plan_slice.specs.Slice.{written, ridesIn}
 use Rattle.plan_slice.proofs.Written.{length-written}
-use Rattle.plan_whole.specs.Answers.{sliceAfter}
 use Rattle.plan_whole.specs.declared.Planned.{Planned}
 use Rattle.plan_whole.specs.declared.Planned.the-variants.{Plan as AsPlan, Refused as NoPlan}
-use Rattle.planner.specs.Outcome.{PlanOutcome, planOutcome, planAnswer, planAnswered}
-use Rattle.planner.proofs.Answered.{answered-outcome}
+use Rattle.planner.specs.Outcome.{PlanOutcome, planOutcome, planAnswer}
 use Rattle.planner.proofs.plan.Kinds as kinds
 use Rattle.planner.proofs.plan.Reads as reads
 use Rattle.cases.specs.Cases.{fileOf, workFor, planFor, outcomeFor, inNumbers, planOf, sliceOf, askedOfW, wAnswer, wSlice, cases}
 use Rattle.cases.proofs.Cases.{cases-hold}
 use Rattle.promises.proofs.Admitted.{is-timely}
-use Rattle.promises.proofs.PlanCall.{verdict, given-plan, delivers, eight-exactly, else-a-plan}
+use Rattle.promises.proofs.PlanCall.{verdict, given-plan, left, delivers, eight-exactly, else-a-plan}
 
 -- what the P cases say of W, and of two rows of one trip
 w-answer : planOf w askedOfW ≡ wAnswer 0
@@ -93,10 +91,10 @@ module _ (κs : Lfts 3) (arguments : Dens κs kinds.ps) (answer : resT kinds.r �
     -- not one that writes no ride: W's first is worth 172,800
     pub writes-no-ride : plan′ ≢ plan
     unfolding sliceOf
-    writes-no-ride left =
+    writes-no-ride untouched =
         let worth : _≡_ {A = ℕ} 0 172800 =
         ap (λ (l : List ℕ). getD l 2 0)
-        (sym blank-plan ∙ sym left ∙ permitted .2 ∙ ap (λ (o : PlanOutcome). o .plan) (same-outcome w of-w asked blank-work blank-plan) ∙ w-slice) in
+        (sym blank-plan ∙ sym untouched ∙ permitted .2 ∙ ap (λ (o : PlanOutcome). o .plan) (same-outcome w of-w asked blank-work blank-plan) ∙ w-slice) in
         let z : ⊥ = omega arith in z
 
   -- asked alike of two rows of one trip: not one that returns W's plan always, since one ride is all there is
@@ -121,14 +119,10 @@ module _ (κs : Lfts 3) (arguments : Dens κs kinds.ps) (answer : resT kinds.r �
 
     -- the slice's first numbers are those that it is written in
     pub written-as-demanded : take (3 * rides) plan′ ≡ written others
-    unfolding planAnswered sliceAfter
     written-as-demanded =
         let g = given-plan file q work plan rides expected latest bound (sym (permitted .0) ∙ told) in
         let p = g .the-plan in
-        let left : plan′ ≡ written (p .rides) ++ drop (length (written (p .rides))) plan =
-        permitted .2 ∙ ap (λ (o : PlanOutcome). o .plan) (answered-outcome versionOne file q work plan (g .admitted))
-        ∙ ap (λ (o : Option Plan). sliceAfter o plan) (g .is-planned) in
-        ap (take (3 * rides)) left
+        ap (take (3 * rides)) (permitted .2 ∙ left file q work plan (g .admitted) (g .is-planned))
         ∙ take-at (written (p .rides)) (drop (length (written (p .rides))) plan) (3 * rides)
         (length-written (p .rides) ∙ ap (λ k. 3 * k) (g .numbers .0))
         ∙ ap written (one-plan (plan-demanded t (is-timely file q _ _ (g .admitted)) q p (g .is-planned)) demanded .0)
