@@ -2,4 +2,4 @@
 pub mod Filled
 pub mod Outside
 pub mod Settled
-pub mod Paired
+pub mod TwoCells

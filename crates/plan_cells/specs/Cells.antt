@@ -34,9 +34,13 @@ cellOf (some x) = x
 abbrev pub pairCell : ℕ → ℕ
 pairCell i = pairCells + 2 * i
 
--- a pair of cells: a row's worth and leaving row, or an entry's key and worth
+-- two cells from `at` on: a row's worth and leaving row, or an entry's key and worth
+abbrev pub twoAt : List ℕ → (at front behind : ℕ) → List ℕ
+twoAt w at front behind = set (set w at front) (at + 1) behind
+
+-- the pair of a row
 abbrev pub paired : List ℕ → (pair front behind : ℕ) → List ℕ
-paired w pair front behind = set (set w (pairCell pair) front) (pairCell pair + 1) behind
+paired w pair front behind = twoAt w (pairCell pair) front behind
 
 -- `count` cells from `at` on become `value`
 abbrev pub filled : List ℕ → (at count value : ℕ) → List ℕ

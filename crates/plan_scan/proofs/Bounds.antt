@@ -13,10 +13,12 @@ use Rattle.plan_rows.specs.Reading.{rowsIn, tablesIn, FileReadable}
 use Rattle.plans.specs.declared.Goal.{Goal}
 use Rattle.plan_stacks.specs.Chosen.{atStop}
 use Rattle.plan_scan.specs.Stores.{rowWorth}
-use Rattle.plan_scan.specs.Regions.{countAt, below}
+use Rattle.plan_stacks.specs.Regions.{below}
+use Rattle.plan_scan.specs.Regions.{countAt}
 use Rattle.plan_scan.specs.Scanned.{scanIn, ScanHeld}
 use Rattle.plan_scan.specs.Held.{PairsHeld, StackHeld, Held}
-use Rattle.plan_scan.proofs.Regions.{below-count, below-later}
+use Rattle.plan_stacks.proofs.Regions.{below-later}
+use Rattle.plan_scan.proofs.Regions.{below-count}
 use Rattle.plan_scan.proofs.TimetableTo.{climbing}
 
 abbrev nothing : Scan

@@ -14,20 +14,22 @@ use Rattle.timetable.specs.declared.Row.{Row}
 use Rattle.plans.specs.Worth.{Valued}
 use Rattle.plans.specs.Chosen.{Aim, choose}
 use Rattle.plans.proofs.Order.{Ordered}
-use Rattle.plan_stacks.specs.Stacks.{keyStep, Entry, keyOf, stackAt, stackStart, stackSize, startPair}
+use Rattle.plan_stacks.specs.Stacks.{keyStep, Entry, keyOf, stackAt, stackStart, stackSize, startPair, entryDeparture, entryWorth}
 use Rattle.plan_cells.specs.Cells.{missing, pairCell}
 use Rattle.plan_stacks.specs.Chosen.{atStop, entryOf, EntryFits}
 use Rattle.plan_stacks.proofs.AtStop.{at-stop-member}
-use Rattle.plan_scan.specs.Stores.{rowWorth, Chose, worthless, alone, not-below, replaces, ahead}
-use Rattle.plan_scan.specs.Regions.{countAt, below}
+use Rattle.plan_scan.specs.Stores.{stored, rowWorth, Chose, worthless, alone, not-below, replaces, ahead}
+use Rattle.plan_stacks.specs.Regions.{below}
+use Rattle.plan_scan.specs.Regions.{countAt}
 use Rattle.plan_scan.specs.Scanned.{PairHolds}
 use Rattle.plan_scan.specs.Held.{StackHeld}
 use Rattle.plan_stacks.proofs.Entries.{entry, stack-kept, stack-none, Top, stack-top}
-use Rattle.plan_scan.proofs.Regions.{count-here, count-more, below-later}
+use Rattle.plan_stacks.proofs.Regions.{below-later}
+use Rattle.plan_scan.proofs.Regions.{count-here, count-more}
 use Rattle.plan_scan.proofs.ByStop.{at-from, choose-elsewhere, choose-none, own-alone, own-kept, own-replaces, own-ahead}
 use Rattle.plan_scan.proofs.Rising.{at-ordered, departs-later}
 use Rattle.plan_scan.proofs.PairsHeld.{Holds, pair-holds}
-use Rattle.plan_scan.proofs.Stored.{stored, stored-start, stored-size, stored-other, stored-stack, stored-own-size, pushed-stored}
+use Rattle.plan_stacks.proofs.Stored.{stored-start, stored-size, stored-other, stored-stack, stored-own-size}
 
 -- what is known of a row that has been weighed, and of the rides chosen behind it
 pub record Choosable (row : Row) (i : ℕ) (aim : Aim) (best : Option Valued) (chosen : List Valued) : Type 0 where
@@ -68,14 +70,14 @@ module _ (row : Row) (i : ℕ) (aim : Aim) (best : Option Valued) (chosen : List
       let here = count-here (row .board) row rest refl in
       let more = suffix (row .board) in omega arith
 
-  pub stored-inside : (k : ℕ) → k ≤ stackSize w (row .board) → pairCell (startPair w (row .board) + k) + 1 < length w
+  pub stored-inside : (k : ℕ) → k ≤ stackSize w (row .board) → stackStart w (row .board) + 2 * k + 1 < length w
   stored-inside k h =
       let region = in-region k h in
       let ends = below-later (λ s. countAt s all) (row .board) 200 (c .board) in omega arith
 
   -- other stops' regions lie apart
   Beside : (k j : ℕ) → Type 0
-  Beside k j = (j ≡ pairCell (startPair w (row .board) + k) → ⊥) × (j ≡ pairCell (startPair w (row .board) + k) + 1 → ⊥)
+  Beside k j = (j ≡ stackStart w (row .board) + 2 * k → ⊥) × (j ≡ stackStart w (row .board) + 2 * k + 1 → ⊥)
 
   apart : (k : ℕ) → k ≤ stackSize w (row .board) → (stop : ℕ) → stop < 200 → (row .board ≡ stop → ⊥) → (j : ℕ)
       → stackStart w stop ≤ j → j < stackStart w stop + 2 * stackSize w stop → Beside k j
@@ -122,21 +124,21 @@ module _ (row : Row) (i : ℕ) (aim : Aim) (best : Option Valued) (chosen : List
       ifb (λ b. eqb (row .board) stop ≡ b → StackHeld (stored row i k w) from all (row ∷ rest) (choose aim best chosen) stop) (eqb (row .board) stop)
       (λ e _. subst (λ x. StackHeld (stored row i k w) from all (row ∷ rest) (choose aim best chosen) x) (eqb-true (row .board) stop e)
       (record {
-        start = stored-start row i k w (c .board) (row .board) (c .board) ∙ own .start;
-        room = (let size = stored-own-size row i k w (c .board) (stored-inside k low) in
+        start = stored-start w (row .board) k (row .departure) i (rowWorth w i) (c .board) (row .board) (c .board) ∙ own .start;
+        room = (let size = stored-own-size w (row .board) k (row .departure) i (rowWorth w i) (c .board) (stored-inside k low) in
             let few = own .room in
             let here = count-here (row .board) row rest refl in omega arith);
-        holds = stored-stack row i k w (c .board) (stored-inside k low) ∙ now;
+        holds = stored-stack w (row .board) k (row .departure) i (rowWorth w i) (c .board) (stored-inside k low) ∙ now;
       }))
       (λ e _. let ne : row .board ≡ stop → ⊥ = eqb-false (row .board) stop e in
       let old = held stop h in
       record {
-        start = stored-start row i k w (c .board) stop h ∙ old .start;
-        room = (let size = stored-size row i k w (c .board) stop h ne in
+        start = stored-start w (row .board) k (row .departure) i (rowWorth w i) (c .board) stop h ∙ old .start;
+        room = (let size = stored-size w (row .board) k (row .departure) i (rowWorth w i) (c .board) stop h ne in
             let few = old .room in
             let more = count-more stop row rest in omega arith);
-        holds = stack-kept w (stored row i k w) stop (stored-start row i k w (c .board) stop h) (stored-size row i k w (c .board) stop h ne)
-            (λ j a b. let beside = apart k low stop h ne j a b in stored-other row i k w (c .board) j (λ q. omega arith) (beside .0) (beside .1))
+        holds = stack-kept w (stored row i k w) stop (stored-start w (row .board) k (row .departure) i (rowWorth w i) (c .board) stop h) (stored-size w (row .board) k (row .departure) i (rowWorth w i) (c .board) stop h ne)
+            (λ j a b. let beside = apart k low stop h ne j a b in stored-other w (row .board) k (row .departure) i (rowWorth w i) (c .board) j (λ q. omega arith) (beside .0) (beside .1))
             ∙ old .holds ∙ ap (map entryOf) (sym (choose-elsewhere aim best chosen stop (λ v. elsewhere v stop ne)));
       }) refl
 
@@ -181,11 +183,8 @@ module _ (row : Row) (i : ℕ) (aim : Aim) (best : Option Valued) (chosen : List
         top : Top w (stackStart w (row .board)) k (atStop (row .board) chosen)
         top = stack-top w (stackStart w (row .board)) k (atStop (row .board) chosen) stack
 
-        top-at : pairCell (startPair w (row .board) + k) ≡ stackStart w (row .board) + 2 * k
-        top-at = omega arith
-
-        top-worth : getD w (pairCell (startPair w (row .board) + k) + 1) 0 ≡ top .first .worth
-        top-worth = ap (λ x. getD w (x + 1) 0) top-at ∙ top .worth
+        top-worth : entryWorth w (stackStart w (row .board)) k ≡ top .first .worth
+        top-worth = top .worth
 
         top-member : (x : Valued) → List·Memᴰ x (top .first ∷ top .rest) → List·Memᴰ x chosen × (x .ride .from ≡ row .board)
         top-member x m =
@@ -195,10 +194,10 @@ module _ (row : Row) (i : ℕ) (aim : Aim) (best : Option Valued) (chosen : List
         first-member : List·Memᴰ (top .first) chosen × (top .first .ride .from ≡ row .board)
         first-member = top-member (top .first) (List·Memᴰ·head refl)
 
-        top-departs : getD w (pairCell (startPair w (row .board) + k)) 0 / keyStep ≡ top .first .ride .departs
+        top-departs : entryDeparture w (stackStart w (row .board)) k ≡ top .first .ride .departs
         top-departs =
-            key-departure (top .first .ride .departs) (top .first .ride .board) (getD w (pairCell (startPair w (row .board) + k)) 0)
-            (c .fits (top .first) (first-member .0) .row) (ap (λ x. getD w x 0) top-at ∙ top .key)
+            key-departure (top .first .ride .departs) (top .first .ride .board) (getD w (stackStart w (row .board) + 2 * k) 0)
+            (c .fits (top .first) (first-member .0) .row) (top .key)
 
         later : (x : Valued) → List·Memᴰ x (top .rest) → top .first .ride .departs < x .ride .departs
         later =
@@ -208,18 +207,18 @@ module _ (row : Row) (i : ℕ) (aim : Aim) (best : Option Valued) (chosen : List
         rises : v .ride .departs ≤ top .first .ride .departs
         rises = subst (λ x. x ≤ top .first .ride .departs) (sym (c .minute v is)) (c .rising (top .first) (first-member .0))
 
-        not-chosen : getD w (pairCell (startPair w (row .board) + k) + 1) 0 ≤ rowWorth w i
+        not-chosen : entryWorth w (stackStart w (row .board)) k ≤ rowWorth w i
             → atStop (row .board) (choose aim best chosen) ≡ atStop (row .board) chosen
         not-chosen h =
             to-own (top .first ∷ top .rest)
             (own-kept aim chosen v own-away (top .first) (top .rest) (at-own (top .first ∷ top .rest) (top .all)) (omega (arith, top-worth)))
             ∙ sym (top .all)
 
-        module _ (less : rowWorth w i < getD w (pairCell (startPair w (row .board) + k) + 1) 0) where
+        module _ (less : rowWorth w i < entryWorth w (stackStart w (row .board)) k) where
           below-first : v .worth < top .first .worth
           below-first = omega (arith, top-worth)
 
-          replace-put : getD w (pairCell (startPair w (row .board) + k)) 0 / keyStep ≡ row .departure
+          replace-put : entryDeparture w (stackStart w (row .board)) k ≡ row .departure
               → (stop : ℕ) → stop < 200 → StackHeld (stored row i k w) from all (row ∷ rest) (choose aim best chosen) stop
           replace-put same =
               put k (omega arith)
@@ -227,7 +226,7 @@ module _ (row : Row) (i : ℕ) (aim : Aim) (best : Option Valued) (chosen : List
               (own-replaces aim chosen v own-away (top .first) (top .rest) (at-own (top .first ∷ top .rest) (top .all)) below-first later rises
               (first-member .1 ∙ sym (c .stop v is)) (sym top-departs ∙ same ∙ sym (c .minute v is))))
 
-          ahead-put : (getD w (pairCell (startPair w (row .board) + k)) 0 / keyStep ≡ row .departure → ⊥)
+          ahead-put : (entryDeparture w (stackStart w (row .board)) k ≡ row .departure → ⊥)
               → (stop : ℕ) → stop < 200 → StackHeld (stored row i (suc k) w) from all (row ∷ rest) (choose aim best chosen) stop
           ahead-put other =
               put (suc k) (omega arith)
@@ -253,7 +252,7 @@ module _ (row : Row) (i : ℕ) (aim : Aim) (best : Option Valued) (chosen : List
     stacks-chosen w' (replaces has k size less same q) stop h =
         let f = found has in
         subst (λ (l : List ℕ). StackHeld l from all (row ∷ rest) (choose aim best chosen) stop)
-        (sym (q ∙ pushed-stored row i k w (c .board) size)) (replace-put (f .0) (f .1) (f .2) k size less same stop h)
+        (sym q) (replace-put (f .0) (f .1) (f .2) k size less same stop h)
     stacks-chosen w' (ahead has k size less other q) stop h =
         let f = found has in
         subst (λ (l : List ℕ). StackHeld l from all (row ∷ rest) (choose aim best chosen) stop) (sym q)
@@ -265,5 +264,5 @@ module _ (row : Row) (i : ℕ) (aim : Aim) (best : Option Valued) (chosen : List
   chose-or-stored w' (worthless e q) = inl q
   chose-or-stored w' (alone has size q) = inr (0, (let z : 0 ≤ stackSize w (row .board) = omega arith in z), q)
   chose-or-stored w' (not-below has k size less q) = inl q
-  chose-or-stored w' (replaces has k size less same q) = inr (k, (let z : k ≤ stackSize w (row .board) = omega arith in z), q ∙ pushed-stored row i k w (c .board) size)
+  chose-or-stored w' (replaces has k size less same q) = inr (k, (let z : k ≤ stackSize w (row .board) = omega arith in z), q)
   chose-or-stored w' (ahead has k size less other q) = inr (suc k, (let z : suc k ≤ stackSize w (row .board) = omega arith in z), q)

@@ -13,9 +13,11 @@ use Rattle.plan_rows.specs.declared.SectionPlaces.{SectionPlaces}
 use Rattle.plan_rows.specs.Reading.{rowsIn, FileReadable}
 use Rattle.plans.specs.declared.Goal.{Goal}
 use Rattle.plan_stacks.specs.Stacks.{startPair, stackSize}
-use Rattle.plan_scan.specs.Regions.{countAt, below, Counted, Parted}
+use Rattle.plan_stacks.specs.Regions.{below, Parted}
+use Rattle.plan_scan.specs.Regions.{countAt, Counted}
 use Rattle.plan_scan.specs.Held.{Held}
-use Rattle.plan_scan.proofs.Regions.{below-same, below-count}
+use Rattle.plan_stacks.proofs.Regions.{below-same}
+use Rattle.plan_scan.proofs.Regions.{below-count}
 use Rattle.plan_scan.proofs.Bounds.{held-begins}
 
 -- no trip has a next row, no stop a size

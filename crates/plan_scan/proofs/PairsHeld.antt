@@ -20,7 +20,7 @@ use Rattle.plan_cells.proofs.Outside.{outside-then, outside-set}
 use Rattle.plan_scan.specs.Stores.{entered, nextPair, Weighs, gets-off, stays-on}
 use Rattle.plan_scan.specs.Scanned.{bestIn, PairHolds}
 use Rattle.plan_scan.specs.Held.{NextHolds, PairsHeld}
-use Rattle.plan_cells.proofs.Paired.{paired-front, paired-behind, paired-other, outside-paired}
+use Rattle.plan_cells.proofs.TwoCells.{two-front, two-behind, two-other, outside-two}
 
 -- two cells hold a best ride
 abbrev pub Holds : (worth leave : ℕ) → Option Valued → Type 0
@@ -73,12 +73,12 @@ module _ (w : List ℕ) (n i end : ℕ) (row : Row) (trip : row .trip < 2000) (b
   -- the pair of row i and its trip's cell, after other stores at places that hold no pair of a later row
   entered-cell : (a b : ℕ) → getD (paired (entered w (row .trip) i) i a b) (tripCells + row .trip) 0 ≡ i
   entered-cell a b =
-      paired-other (entered w (row .trip) i) i a b (tripCells + row .trip) (λ e. omega arith) (λ e. omega arith)
+      two-other (entered w (row .trip) i) (pairCell i) a b (tripCells + row .trip) (λ e. omega arith) (λ e. omega arith)
       ∙ getD-set-same w (tripCells + row .trip) i 0 (omega arith)
 
   other-cell : (a b k : ℕ) → (k ≡ tripCells + row .trip → ⊥) → (k ≡ pairCell i → ⊥) → (k ≡ pairCell i + 1 → ⊥)
       → getD (paired (entered w (row .trip) i) i a b) k 0 ≡ getD w k 0
-  other-cell a b k p q r = paired-other (entered w (row .trip) i) i a b k q r ∙ getD-set-other w (tripCells + row .trip) k i 0 p
+  other-cell a b k p q r = two-other (entered w (row .trip) i) (pairCell i) a b k q r ∙ getD-set-other w (tripCells + row .trip) k i 0 p
 
   later-pair : (a b j : ℕ) (best : Option Valued) → i < j → PairHolds w j best → PairHolds (paired (entered w (row .trip) i) i a b) j best
   later-pair a b j best h =
@@ -88,8 +88,8 @@ module _ (w : List ℕ) (n i end : ℕ) (row : Row) (trip : row .trip < 2000) (b
   own-pair : (a b : ℕ) (best : Option Valued) → Holds a b best → PairHolds (paired (entered w (row .trip) i) i a b) i best
   own-pair a b best h =
       let fits : pairCell i + 1 < length (entered w (row .trip) i) = omega (arith, length-set w (tripCells + row .trip) i) in
-      holds-pair (paired (entered w (row .trip) i) i a b) i best a b (paired-front (entered w (row .trip) i) i a b fits)
-      (paired-behind (entered w (row .trip) i) i a b fits) h
+      holds-pair (paired (entered w (row .trip) i) i a b) i best a b (two-front (entered w (row .trip) i) (pairCell i) a b fits)
+      (two-behind (entered w (row .trip) i) (pairCell i) a b fits) h
 
   module _ (later : Scan) (held : PairsHeld w n (suc i) end later) (best : Option Valued) (chosen : List Valued) (a b : ℕ) (own : Holds a b best) where
     here-or-later :
@@ -212,7 +212,7 @@ pairs-kept w w' n i end sc inside held ahead behind =
 -- weighing stores in cells that planning uses
 entered-stays : (n i trip a b : ℕ) (w : List ℕ) → trip < 2000 → i < n → SameOutside tripCells (used n) w (paired (entered w trip i) i a b)
 entered-stays n i trip a b w small h =
-    outside-then (outside-set w (tripCells + trip) i (omega arith) (omega arith)) (outside-paired (entered w trip i) i a b (omega arith) (omega arith))
+    outside-then (outside-set w (tripCells + trip) i (omega arith) (omega arith)) (outside-two (entered w trip i) (pairCell i) a b (omega arith) (omega arith))
 
 pub weighs-stays : (n : ℕ) (row : Row) (i off : ℕ) (w w' : List ℕ) → row .trip < 2000 → i < n → Weighs row i off w w'
     → SameOutside tripCells (used n) w w'

@@ -1,9 +1,8 @@
--- Laws of the stops' regions: how many rows board at a stop, and that the regions lie one behind the other. Assumes nothing.
+-- How many rows board at a stop, and at all stops together. Assumes nothing.
 use Prim.Native.Nat.{ℕ, zero, suc, _+_, _-_, _≤_, _<_}
 use mathlib.Core.Bool.{cond}
 use mathlib.Core.List.{List, [], _∷_}
 use mathlib.Core.Path.{_≡_, refl, sym, ap, ap₂, subst, _∙_}
-use native.Mathlib.Numerals.{add-one}
 use native.Mathlib.Omega.{arith}
 use lib.Dec.{eqb}
 use lib.ListN.{take, drop, length}
@@ -11,7 +10,8 @@ use lib.Seq.{slice, drop-drop}
 use borrow.Author.Tests.{eqb-true, eqb-false, eq-eqb, ne-eqb}
 use Rattle.timetable.specs.declared.Row.{Row}
 use Rattle.laws.proofs.Tests.{ifb, cond-true, cond-false}
-use Rattle.plan_scan.specs.Regions.{countAt, below}
+use Rattle.plan_stacks.specs.Regions.{below}
+use Rattle.plan_scan.specs.Regions.{countAt}
 
 pub count-here : (stop : ℕ) (r : Row) (rows : List Row) → r .board ≡ stop → countAt stop (r ∷ rows) ≡ suc (countAt stop rows)
 unfolding countAt
@@ -37,23 +37,7 @@ count-few stop (r ∷ rows) =
     (λ _. let z : suc (countAt stop rows) ≤ suc (length rows) = omega arith in z)
     (λ _. let z : countAt stop rows ≤ suc (length rows) = omega arith in z)
 
-pub below-same : (f g : ℕ → ℕ) (k : ℕ) → ((s : ℕ) → s < k → f s ≡ g s) → below f k ≡ below g k
-unfolding below
-below-same f g zero same = refl
-below-same f g (suc k) same = ap₂ _+_ (below-same f g k (λ s h. same s (omega arith))) (same k (omega arith))
-
--- a stop's region ends before that of a later stop begins
-pub below-later : (f : ℕ → ℕ) (s k : ℕ) → s < k → below f s + f s ≤ below f k
-unfolding below
-below-later f s zero h = absurd (let z : ⊥ = omega arith in z)
-below-later f s (suc k) h =
-    ifb (λ b. eqb s k ≡ b → below f s + f s ≤ below f k + f k) (eqb s k)
-    (λ e _. subst (λ j. below f j + f j ≤ below f k + f k) (sym (eqb-true s k e)) (let z : below f k + f k ≤ below f k + f k = omega arith in z))
-    (λ e _. let apart : s ≡ k → ⊥ = eqb-false s k e in
-    let further : below f s + f s ≤ below f k = below-later f s k (omega arith) in omega arith) refl
-
 -- one row more adds one, in its own stop's region
-
 one-more :
     (r : Row) (rows : List Row) (k : ℕ)
     → (below (λ s. countAt s (r ∷ rows)) k ≤ suc (below (λ s. countAt s rows) k))
@@ -84,10 +68,6 @@ below-count [] k = let none : below (λ s. countAt s []) k ≡ 0 = nothing-below
 below-count (r ∷ rows) k =
     let fewer : below (λ s. countAt s rows) k ≤ length rows = below-count rows k in
     let more = one-more r rows k .0 in omega arith
-
-pub below-next : (f : ℕ → ℕ) (stop : ℕ) → below f (stop + 1) ≡ below f stop + f stop
-unfolding below
-below-next f stop = ap (below f) (add-one stop)
 
 -- rows that come later are counted no oftener
 count-drop : (stop k : ℕ) (rows : List Row) → countAt stop (drop k rows) ≤ countAt stop rows

@@ -21,15 +21,17 @@ use Rattle.plan_rows.specs.Reading.{rowsIn, tablesIn, FileReadable, TablesHeld,
 use Rattle.plans.specs.declared.Goal.{Goal}
 use Rattle.plan_stacks.specs.Chosen.{entryOf, atStop}
 use Rattle.plan_landing.specs.Landing.{Ready, rideOff}
-use Rattle.plan_scan.specs.Stores.{Weighs, Chose, Weighable, Pushable}
-use Rattle.plan_scan.specs.Regions.{countAt, below}
+use Rattle.plan_scan.specs.Stores.{stored, rowWorth, Weighs, Chose, Weighable, Pushable}
+use Rattle.plan_stacks.specs.Regions.{below}
+use Rattle.plan_scan.specs.Regions.{countAt}
 use Rattle.plan_scan.specs.Scanned.{scanIn, bestIn, PairHolds}
 use Rattle.plan_scan.specs.Held.{PairsHeld, StackHeld, Held}
-use Rattle.plan_scan.proofs.Regions.{count-slice, count-few, count-here, count-more, below-count, below-later}
+use Rattle.plan_stacks.proofs.Regions.{below-later}
+use Rattle.plan_scan.proofs.Regions.{count-slice, count-few, count-here, count-more, below-count}
 use Rattle.plan_scan.proofs.ByStop.{choose-target}
 use Rattle.plan_scan.proofs.PairsHeld.{inFront, pairs-kept, pairs-weighed, weighs-other}
 use Rattle.plan_stacks.proofs.Entries.{stack-kept}
-use Rattle.plan_scan.proofs.Stored.{stored, stored-other, outside-stored}
+use Rattle.plan_stacks.proofs.Stored.{stored-other, outside-stored}
 use Rattle.plan_scan.proofs.Choosing.{Choosable, stacks-chosen, chose-or-stored}
 use Rattle.plan_scan.proofs.TimetableTo.{bestRow, ownRide, scan-step, best-step, BoardsRow, best-boards-row, scan-ordered, climbing, chosen-fits, rising-behind, off-fits}
 
@@ -180,7 +182,7 @@ module _ (file : List ℕ) (s : SectionPlaces) (goal : Goal) (first end : ℕ) (
       regions-room : pairCell (suc (s .rows) + below (λ stop. countAt stop (slice first end rows)) 200) ≤ length w
       regions-room = omega (arith, regions-end)
 
-      region-used : (k : ℕ) → k ≤ stackSize w (rowAt i .board) → pairCell (startPair w (rowAt i .board) + k) + 1 < used (s .rows)
+      region-used : (k : ℕ) → k ≤ stackSize w (rowAt i .board) → stackStart w (rowAt i .board) + 2 * k + 1 < used (s .rows)
       region-used k h =
           let own = stacks (rowAt i .board) (fits .board) in
           let start = own .start in
@@ -226,8 +228,8 @@ module _ (file : List ℕ) (s : SectionPlaces) (goal : Goal) (first end : ℕ) (
             let small = fits .board in
             subst (λ (l : List ℕ). PairsHeld l (s .rows) i end (after i)) (sym (f .2))
             (pairs-kept w (stored (rowAt i) i (f .0) w) (s .rows) i end (after i) inside held
-            (λ k h. stored-other (rowAt i) i (f .0) w small k (λ e. omega arith) (λ e. omega arith) (λ e. omega arith))
-            (λ k a b. stored-other (rowAt i) i (f .0) w small k (λ e. omega arith) (λ e. omega arith) (λ e. omega arith)))
+            (λ k h. stored-other w (rowAt i .board) (f .0) (rowAt i .departure) i (rowWorth w i) small k (λ e. omega arith) (λ e. omega arith) (λ e. omega arith))
+            (λ k a b. stored-other w (rowAt i .board) (f .0) (rowAt i .departure) i (rowWorth w i) small k (λ e. omega arith) (λ e. omega arith) (λ e. omega arith)))
 
         pub held-chosen : PairsHeld w (s .rows) i end (after i) → Held file s goal first end i w'
         held-chosen pairs-held =
@@ -246,7 +248,7 @@ module _ (file : List ℕ) (s : SectionPlaces) (goal : Goal) (first end : ℕ) (
         stays-inside (inl q) = subst (λ (l : List ℕ). SameOutside tripCells (used (s .rows)) w l) (sym q) (outside-same tripCells (used (s .rows)) w)
         stays-inside (inr f) =
             subst (λ (l : List ℕ). SameOutside tripCells (used (s .rows)) w l) (sym (f .2))
-            (outside-stored (rowAt i) i (f .0) w (fits .board) (region-used (f .0) (f .1)))
+            (outside-stored w (rowAt i .board) (f .0) (rowAt i .departure) i (rowWorth w i) (fits .board) (region-used (f .0) (f .1)))
 
         pub inside-chosen : SameOutside tripCells (used (s .rows)) w w'
         inside-chosen = stays-inside or-stored

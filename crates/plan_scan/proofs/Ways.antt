@@ -1,52 +1,47 @@
--- Each way through `choose`, over plain values. Assumes nothing.
-use Prim.Native.Nat.{ℕ, suc, _+_, _-_, _*_, _/_, _≤_, _<_}
+-- Each way through `choose` that stores or leaves an entry, over plain values. Assumes nothing.
+use Prim.Native.Nat.{ℕ, suc, _-_, _≤_, _<_}
 use mathlib.Core.List.{List}
-use mathlib.Core.Path.{_≡_, refl, sym, ap, subst, _∙_}
+use mathlib.Core.Path.{_≡_, refl, sym, subst, ap₂, _∙_}
 use native.Mathlib.Omega.{arith}
-use lib.ListN.{getD, set}
 use Rattle.timetable.specs.declared.Row.{Row}
-use Rattle.plan_cells.specs.Cells.{sizeCells, pairCells, missing, pairCell, paired}
-use Rattle.plan_stacks.specs.Stacks.{keyStep, keyOf, startPair, stackSize}
-use Rattle.plan_scan.specs.Stores.{pushed, sized, rowWorth, Chose, alone, not-below, replaces, ahead}
+use Rattle.timetable.specs.Limits.{mostStops}
+use Rattle.plan_cells.specs.Cells.{missing}
+use Rattle.plan_stacks.specs.Stacks.{stackStart, stackSize, entryDeparture, entryWorth, withEntry, withSize}
+use Rattle.plan_stacks.proofs.Stored.{entered-stored}
+use Rattle.plan_scan.specs.Stores.{stored, rowWorth, Chose, alone, not-below, replaces, ahead}
 
-module _ (row : Row) (i : ℕ) (w : List ℕ) (size start : ℕ) (as-size : size ≡ stackSize w (row .board)) (as-start : start ≡ startPair w (row .board))
+module _ (row : Row) (i : ℕ) (w : List ℕ) (start size : ℕ) (starts : start ≡ stackStart w (row .board)) (sizes : size ≡ stackSize w (row .board))
     (has-worth : rowWorth w i ≡ missing → ⊥) where
-  pub chose-alone : (w₁ : List ℕ) → size ≡ 0 → w₁ ≡ paired w start (keyOf (row .departure) i) (rowWorth w i) → Chose row i w (set w₁ (sizeCells + row .board) 1)
-  chose-alone w₁ none e =
-      let bottom : start ≡ startPair w (row .board) + 0 = omega arith in
-      alone has-worth (sym as-size ∙ none) (ap (λ (l : List ℕ). set l (sizeCells + row .board) 1)
-      (e ∙ ap (λ k. paired w k (keyOf (row .departure) i) (rowWorth w i)) bottom))
+  abbrev pushed : List ℕ
+  pushed = withSize (withEntry w start size (row .departure) i (rowWorth w i)) (row .board) (suc size)
 
-  top : (size ≡ 0 → ⊥) → start + size - 1 ≡ startPair w (row .board) + (size - 1)
-  top some' = omega arith
+  push-stores : (k : ℕ) → size ≡ k → pushed ≡ stored row i k w
+  push-stores k e = ap₂ (λ (s n : ℕ). withSize (withEntry w s n (row .departure) i (rowWorth w i)) (row .board) (suc n)) starts e
 
-  count : (size ≡ 0 → ⊥) → stackSize w (row .board) ≡ suc (size - 1)
-  count some' = omega arith
+  pub chose-alone : (w₁ : List ℕ) → size ≡ 0 → w₁ ≡ pushed → Chose row i w w₁
+  chose-alone w₁ none' e = alone has-worth (sym sizes ∙ none') (e ∙ push-stores 0 none')
 
-  pub chose-nothing : (size ≡ 0 → ⊥) → getD w (pairCells + 2 * (start + size - 1) + 1) 0 ≤ rowWorth w i → Chose row i w w
-  chose-nothing some' h =
-      not-below has-worth (size - 1) (count some') (subst (λ k. getD w (pairCell k + 1) 0 ≤ rowWorth w i) (top some') h) refl
+  module _ (some' : size ≡ 0 → ⊥) where
+    one-more : size ≡ suc (size - 1)
+    one-more = omega arith
 
-  pub chose-replacing :
-      (w₁ : List ℕ) → (size ≡ 0 → ⊥) → rowWorth w i < getD w (pairCells + 2 * (start + size - 1) + 1) 0
-      → getD w (pairCells + 2 * (start + size - 1)) 0 / keyStep ≡ row .departure
-      → w₁ ≡ paired w (start + size - 1) (keyOf (row .departure) i) (rowWorth w i) → Chose row i w w₁
-  chose-replacing w₁ some' h d e =
-      replaces has-worth (size - 1) (count some') (subst (λ k. rowWorth w i < getD w (pairCell k + 1) 0) (top some') h)
-      (subst (λ k. getD w (pairCell k) 0 / keyStep ≡ row .departure) (top some') d)
-      (e ∙ ap (λ k. paired w k (keyOf (row .departure) i) (rowWorth w i)) (top some'))
+    pub chose-nothing : entryWorth w start (size - 1) ≤ rowWorth w i → Chose row i w w
+    chose-nothing h =
+        not-below has-worth (size - 1) (sym sizes ∙ one-more) (subst (λ s. entryWorth w s (size - 1) ≤ rowWorth w i) starts h) refl
 
-  above : (size ≡ 0 → ⊥) → start + size - 1 + 1 ≡ startPair w (row .board) + suc (size - 1)
-  above some' = omega arith
+    module _ (less : rowWorth w i < entryWorth w start (size - 1)) where
+      below-top : rowWorth w i < entryWorth w (stackStart w (row .board)) (size - 1)
+      below-top = subst (λ s. rowWorth w i < entryWorth w s (size - 1)) starts less
 
-  pub chose-ahead :
-      (w₁ : List ℕ) (next : ℕ) → (size ≡ 0 → ⊥) → rowWorth w i < getD w (pairCells + 2 * (start + size - 1) + 1) 0
-      → (getD w (pairCells + 2 * (start + size - 1)) 0 / keyStep ≡ row .departure → ⊥)
-      → w₁ ≡ paired w (start + size - 1 + 1) (keyOf (row .departure) i) (rowWorth w i) → next ≡ size + 1
-      → Chose row i w (set w₁ (sizeCells + row .board) next)
-  chose-ahead w₁ next some' h d e f =
-      let sizes' : next ≡ suc (suc (size - 1)) = omega arith in
-      ahead has-worth (size - 1) (count some') (subst (λ k. rowWorth w i < getD w (pairCell k + 1) 0) (top some') h)
-      (λ q. d (subst (λ k. getD w (pairCell k) 0 / keyStep ≡ row .departure) (sym (top some')) q))
-      (ap (λ (l : List ℕ). set l (sizeCells + row .board) next) (e ∙ ap (λ k. paired w k (keyOf (row .departure) i) (rowWorth w i)) (above some'))
-      ∙ ap (λ k. sized row k (pushed row i (suc (size - 1)) w)) sizes')
+      pub chose-replacing : (w₁ : List ℕ) → row .board < mostStops → entryDeparture w start (size - 1) ≡ row .departure
+          → w₁ ≡ withEntry w start (size - 1) (row .departure) i (rowWorth w i) → Chose row i w w₁
+      chose-replacing w₁ board same e =
+          replaces has-worth (size - 1) (sym sizes ∙ one-more) below-top
+          (subst (λ s. entryDeparture w s (size - 1) ≡ row .departure) starts same)
+          (e ∙ subst (λ s. withEntry w s (size - 1) (row .departure) i (rowWorth w i) ≡ stored row i (size - 1) w) (sym starts)
+          (entered-stored w (row .board) (size - 1) (row .departure) i (rowWorth w i) board (sym sizes ∙ one-more)))
+
+      pub chose-ahead : (w₁ : List ℕ) → (entryDeparture w start (size - 1) ≡ row .departure → ⊥) → w₁ ≡ pushed → Chose row i w w₁
+      chose-ahead w₁ other e =
+          ahead has-worth (size - 1) (sym sizes ∙ one-more) below-top
+          (λ q. other (subst (λ s. entryDeparture w s (size - 1) ≡ row .departure) (sym starts) q)) (e ∙ push-stores (suc (size - 1)) one-more)

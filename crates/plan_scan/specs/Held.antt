@@ -17,7 +17,8 @@ use Rattle.plan_stacks.specs.Chosen.{StackHolds}
 use Rattle.plan_stacks.specs.Stacks.{startPair, stackSize}
 use Rattle.plan_scan.specs.Stores.{rowWorth}
 use Rattle.plan_scan.specs.Scanned.{scanIn, bestIn, PairHolds}
-use Rattle.plan_scan.specs.Regions.{countAt, below}
+use Rattle.plan_stacks.specs.Regions.{below}
+use Rattle.plan_scan.specs.Regions.{countAt}
 
 -- a trip's cell names its next row, n for none, whose pair holds its best ride
 pub record NextHolds (w : List ℕ) (n i trip : ℕ) (best : Option Valued) : Type 0 where

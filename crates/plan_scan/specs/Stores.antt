@@ -1,12 +1,12 @@
 -- What the steps of the scan store in the lent cells.
-use Prim.Native.Nat.{ℕ, suc, _+_, _/_, _≤_, _<_}
+use Prim.Native.Nat.{ℕ, suc, _+_, _*_, _≤_, _<_}
 use mathlib.Core.List.{List}
 use mathlib.Core.Path.{_≡_}
 use lib.ListN.{length, getD, set}
 use Rattle.timetable.specs.declared.Row.{Row}
 use Rattle.timetable.specs.Limits.{mostStops, mostTrips}
-use Rattle.plan_cells.specs.Cells.{tripCells, sizeCells, missing, pairCell, paired}
-use Rattle.plan_stacks.specs.Stacks.{keyStep, keyOf, startPair, stackSize}
+use Rattle.plan_cells.specs.Cells.{tripCells, missing, pairCell, paired}
+use Rattle.plan_stacks.specs.Stacks.{keyOf, stackStart, stackSize, entryDeparture, entryWorth, withTop}
 
 -- the pair of the trip's next row
 abbrev pub nextPair : List ℕ → ℕ → ℕ
@@ -30,31 +30,25 @@ pub data Weighs (row : Row) (i off : ℕ) (w w' : List ℕ) : Type 0 where
 abbrev pub rowWorth : List ℕ → ℕ → ℕ
 rowWorth w i = getD w (pairCell i) 0
 
--- the row's entry stands k pairs behind the start of its stop's stack
-abbrev pub pushed : Row → (i k : ℕ) → List ℕ → List ℕ
-pushed row i k w = paired w (startPair w (row .board) + k) (keyOf (row .departure) i) (rowWorth w i)
-
--- the stack has `size` entries
-abbrev pub sized : Row → ℕ → List ℕ → List ℕ
-sized row size w = set w (sizeCells + row .board) size
+-- the row's entry, as the top of k + 1 entries of its stop's stack
+abbrev pub stored : Row → (i k : ℕ) → List ℕ → List ℕ
+stored row i k w = withTop w (row .board) k (row .departure) i (rowWorth w i)
 
 -- a row with a worth below that of its stop's first chosen row goes on the stack; in the same minute it replaces that row
 pub data Chose (row : Row) (i : ℕ) (w w' : List ℕ) : Type 0 where
   worthless : rowWorth w i ≡ missing → w' ≡ w → Chose row i w w'
-  alone :
-      (rowWorth w i ≡ missing → ⊥) → stackSize w (row .board) ≡ 0 → w' ≡ sized row 1 (pushed row i 0 w) → Chose row i w w'
+  alone : (rowWorth w i ≡ missing → ⊥) → stackSize w (row .board) ≡ 0 → w' ≡ stored row i 0 w → Chose row i w w'
   not-below :
       (rowWorth w i ≡ missing → ⊥) → (k : ℕ) → stackSize w (row .board) ≡ suc k
-      → getD w (pairCell (startPair w (row .board) + k) + 1) 0 ≤ rowWorth w i → w' ≡ w → Chose row i w w'
+      → entryWorth w (stackStart w (row .board)) k ≤ rowWorth w i → w' ≡ w → Chose row i w w'
   replaces :
       (rowWorth w i ≡ missing → ⊥) → (k : ℕ) → stackSize w (row .board) ≡ suc k
-      → rowWorth w i < getD w (pairCell (startPair w (row .board) + k) + 1) 0
-      → getD w (pairCell (startPair w (row .board) + k)) 0 / keyStep ≡ row .departure → w' ≡ pushed row i k w → Chose row i w w'
+      → rowWorth w i < entryWorth w (stackStart w (row .board)) k → entryDeparture w (stackStart w (row .board)) k ≡ row .departure
+      → w' ≡ stored row i k w → Chose row i w w'
   ahead :
       (rowWorth w i ≡ missing → ⊥) → (k : ℕ) → stackSize w (row .board) ≡ suc k
-      → rowWorth w i < getD w (pairCell (startPair w (row .board) + k) + 1) 0
-      → (getD w (pairCell (startPair w (row .board) + k)) 0 / keyStep ≡ row .departure → ⊥)
-      → w' ≡ sized row (suc (suc k)) (pushed row i (suc k) w) → Chose row i w w'
+      → rowWorth w i < entryWorth w (stackStart w (row .board)) k → (entryDeparture w (stackStart w (row .board)) k ≡ row .departure → ⊥)
+      → w' ≡ stored row i (suc k) w → Chose row i w w'
 
 -- the cells that weighing and choosing a row touch are lent
 pub record Weighable (row : Row) (i : ℕ) (w : List ℕ) : Type 0 where
@@ -68,4 +62,4 @@ pub record Pushable (row : Row) (i : ℕ) (w : List ℕ) : Type 0 where
   pub own : pairCell i < length w
   pub key : keyOf (row .departure) i < 4294967296
   pub few : stackSize w (row .board) < 4294967295
-  pub room : pairCell (startPair w (row .board) + stackSize w (row .board)) + 1 < length w
+  pub room : stackStart w (row .board) + 2 * stackSize w (row .board) + 1 < length w

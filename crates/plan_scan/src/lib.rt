@@ -9,7 +9,7 @@ ghost use Rattle.plan_stacks.specs.Stacks.{stackSize};
 ghost use Rattle.plan_cells.specs.Outside.{SameOutside};
 ghost use Rattle.plan_rows.specs.Reading.{rowsIn, tablesIn, FileReadable, TablesHeld};
 ghost use Rattle.plan_scan.specs.Held.{Held};
-ghost use Rattle.plan_scan.specs.Regions.{below, Counted, Parted};
+ghost use Rattle.plan_scan.specs.Regions.{Counted};
 ghost use Rattle.plan_scan.specs.Scanned.{scanIn, ScanHeld};
 ghost use Rattle.plan_scan.specs.Stores.{Chose, Pushable, Weighable, Weighs};
 use numbers::cell;
@@ -17,14 +17,17 @@ use numbers::number;
 use plan_cells::NONE;
 use plan_cells::PAIR_CELLS;
 use plan_cells::SIZE_CELLS;
-use plan_cells::STOP_CELLS;
 use plan_cells::TRIP_CELLS;
 use plan_cells::fill;
 use plan_landing::getting_off;
 use plan_rows::SectionPlaces;
 use plan_rows::nth_row;
-use plan_stacks::departure_of;
-use plan_stacks::write_entry;
+use plan_stacks::part_stacks;
+use plan_stacks::push;
+use plan_stacks::replace_top;
+use plan_stacks::reserve;
+use plan_stacks::stack_of;
+use plan_stacks::top;
 use plans::Goal;
 use timetable::MOST_STOPS;
 use timetable::MOST_TRIPS;
@@ -63,24 +66,8 @@ fn count_boardings(file: &[u8], s: SectionPlaces, first: usize, end: usize, work
     let mut i = first;
     while i < end {
         let row = nth_row(file, s, i);
-        let size = SIZE_CELLS + row.board;
-        work[size] += 1;
+        reserve(work, row.board);
         i += 1;
-    }
-}
-
-// A region of pairs of cells for each stop, one behind the other from pair `from` on; the stacks are empty.
-fn part_stacks(from: usize, work: &mut [u32])
-    requires { ⌜ (pairCells ≤ length (now work)) × (from + below (stackSize (now work)) mostStops < 4294967296) ⌝ }
-    ensures { λ r. ⌜ Parted from (now (work .entry)) (now (work .exit)) ⌝ }
-{
-    let mut stop = 0;
-    let mut start = cell(from);
-    while stop < MOST_STOPS {
-        work[STOP_CELLS + stop] = start;
-        start += work[SIZE_CELLS + stop];
-        work[SIZE_CELLS + stop] = 0;
-        stop += 1;
     }
 }
 
@@ -136,26 +123,22 @@ fn choose(row: Row, i: usize, work: &mut [u32])
     requires { ⌜ Pushable row i (now work) ⌝ }
     ensures { λ r. ⌜ Chose row i (now (work .entry)) (now (work .exit)) ⌝ }
 {
-    let board = row.board;
     let worth = work[PAIR_CELLS + 2 * i];
-    let size = number(work[SIZE_CELLS + board]);
-    let start = number(work[STOP_CELLS + board]);
+    let stack = stack_of(work, row.board);
     if worth == NONE {
         return;
     }
-    if size == 0 {
-        write_entry(work, start, row.departure, i, worth);
-        work[SIZE_CELLS + board] = 1;
+    if stack.size == 0 {
+        push(work, row.board, stack, row.departure, i, worth);
         return;
     }
-    let top = start + size - 1;
-    if work[PAIR_CELLS + 2 * top + 1] <= worth {
+    let first = top(work, stack);
+    if first.worth <= worth {
         return;
     }
-    if departure_of(work[PAIR_CELLS + 2 * top]) == row.departure {
-        write_entry(work, top, row.departure, i, worth);
+    if first.departure == row.departure {
+        replace_top(work, stack, row.departure, i, worth);
     } else {
-        write_entry(work, top + 1, row.departure, i, worth);
-        work[SIZE_CELLS + board] = cell(size + 1);
+        push(work, row.board, stack, row.departure, i, worth);
     }
 }

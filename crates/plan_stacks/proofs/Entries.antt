@@ -8,10 +8,10 @@ use borrow.Author.Tests.{ltb-true, ltb-false}
 use lib.Dec.{ltb}
 use lib.ListN.{length, getD, length-map, List·getD-map}
 use Rattle.laws.proofs.Tests.{ifb}
-use Rattle.plan_stacks.specs.Stacks.{Entry, keyStep, entryAt, stackAt, stackStart, stackSize, stackOf, startPair, Falling, entryDeparture, entryWorth}
+use Rattle.plan_stacks.specs.Stacks.{Entry, keyStep, keyOf, entryAt, stackAt, stackStart, stackSize, stackOf, startPair, Falling, entryDeparture, entryWorth, withEntry}
 use Rattle.plans.specs.Worth.{Valued}
-use Rattle.plan_cells.specs.Cells.{pairCell, paired}
-use Rattle.plan_cells.proofs.Paired.{paired-front, paired-behind, paired-other}
+use Rattle.plan_cells.specs.Cells.{pairCell, twoAt}
+use Rattle.plan_cells.proofs.TwoCells.{two-front, two-behind, two-other}
 use Rattle.plan_stacks.specs.Chosen.{EntryFits, entryOf}
 
 -- an entry that has left, and all above it
@@ -72,17 +72,17 @@ stack-same w w' at (suc size) same =
     (ap₂ entry (same (at + 2 * size) (omega arith) (omega arith)) (same (at + 2 * size + 1) (omega arith) (omega arith)))
     (stack-same w w' at size (λ k low high. same k low (omega arith)))
 
--- an entry k pairs behind the start is the top of k + 1 entries
+-- an entry k places up from the bottom is the top of k + 1 entries
 pub stack-pushed :
-    (w : List ℕ) (start k key worth : ℕ) → pairCell (start + k) + 1 < length w
-    → stackAt (paired w (start + k) key worth) (pairCell start) (suc k) ≡ entry key worth ∷ stackAt w (pairCell start) k
+    (w : List ℕ) (start k departure row worth : ℕ) → start + 2 * k + 1 < length w
+    → stackAt (withEntry w start k departure row worth) start (suc k) ≡ entry (keyOf departure row) worth ∷ stackAt w start k
 unfolding stackAt
-stack-pushed w start k key worth h =
-    let top : pairCell start + 2 * k ≡ pairCell (start + k) = omega arith in
-    let w' : List ℕ = paired w (start + k) key worth in
+stack-pushed w start k departure row worth h =
+    let at = start + 2 * k in
+    let key = keyOf departure row in
     ap₂ (λ (e : Entry) (es : List Entry). e ∷ es)
-    (ap (entryAt w') top ∙ ap₂ entry (paired-front w (start + k) key worth h) (paired-behind w (start + k) key worth h))
-    (stack-same w w' (pairCell start) k (λ j low high. paired-other w (start + k) key worth j (λ e. omega arith) (λ e. omega arith)))
+    (ap₂ entry (two-front w at key worth h) (two-behind w at key worth h))
+    (stack-same w (twoAt w at key worth) start k (λ j low high. two-other w at key worth j (λ e. omega arith) (λ e. omega arith)))
 
 -- the cells of the stack are as they were
 pub stack-kept :

@@ -2,8 +2,8 @@
 use Prim.Native.Nat.{ℕ, zero, suc, _+_, _*_, _/_, _%_, _≤_, _<_}
 use mathlib.Core.List.{List, [], _∷_}
 use mathlib.Core.Path.{_≡_}
-use lib.ListN.{length, getD}
-use Rattle.plan_cells.specs.Cells.{stopCells, sizeCells, pairCell}
+use lib.ListN.{length, getD, set}
+use Rattle.plan_cells.specs.Cells.{stopCells, sizeCells, pairCell, twoAt}
 
 -- an entry of a stack: 2,048 × departure + row, then the row's worth
 pub record Entry : Type 0 where
@@ -46,6 +46,18 @@ entryRow work start place = getD work (start + 2 * place) 0 % keyStep
 
 abbrev pub entryWorth : List ℕ → (start place : ℕ) → ℕ
 entryWorth work start place = getD work (start + 2 * place + 1) 0
+
+-- a row's entry, by its place from the bottom
+abbrev pub withEntry : List ℕ → (start place departure row worth : ℕ) → List ℕ
+withEntry work start place departure row worth = twoAt work (start + 2 * place) (keyOf departure row) worth
+
+-- a stop's stack has `size` entries
+abbrev pub withSize : List ℕ → (stop size : ℕ) → List ℕ
+withSize work stop size = set work (sizeCells + stop) size
+
+-- a row's entry, as the top of k + 1 entries of a stop's stack
+abbrev pub withTop : List ℕ → (stop k departure row worth : ℕ) → List ℕ
+withTop work stop k departure row worth = withSize (withEntry work (stackStart work stop) k departure row worth) stop (suc k)
 
 -- a stack that is not empty: departures fall from the bottom up, and the bottom one can be boarded at `minute`
 pub record Falling (work : List ℕ) (start size minute : ℕ) : Type 0 where

@@ -1,10 +1,11 @@
 // The stack of chosen rows that a stop has in the work slice: entries of two cells, the latest departure at the bottom.
 ghost use mathlib.Core.Path.{_≡_};
-ghost use Prim.Native.Nat.{_+_, _-_, _*_, _/_, _%_, _≤_, _<_};
+ghost use Prim.Native.Nat.{suc, _+_, _-_, _*_, _/_, _%_, _≤_, _<_};
 ghost use lib.ListN.{length, getD};
 ghost use Rattle.timetable.specs.Limits.{mostStops};
-ghost use Rattle.plan_cells.specs.Cells.{pairCells, pairCell, paired};
-ghost use Rattle.plan_stacks.specs.Stacks.{keyStep, keyOf, stackStart, stackSize, entryRow, entryWorth, Falling, FirstOpenAt};
+ghost use Rattle.plan_cells.specs.Cells.{pairCells, twoAt};
+ghost use Rattle.plan_stacks.specs.Stacks.{keyStep, keyOf, stackStart, stackSize, entryDeparture, entryRow, entryWorth, withEntry, withSize, Falling, FirstOpenAt};
+ghost use Rattle.plan_stacks.specs.Regions.{below, Parted};
 ghost use Rattle.plan_stacks.specs.Search.{look, Narrowed, Searched};
 use numbers::cell;
 use numbers::number;
@@ -12,6 +13,7 @@ use plan_cells::PAIR_CELLS;
 use plan_cells::SIZE_CELLS;
 use plan_cells::STOP_CELLS;
 use plan_rows::can_board;
+use timetable::MOST_STOPS;
 
 // An entry's first cell, its key, holds 2,048 x departure + row.
 const KEY: usize = 2048;
@@ -22,9 +24,10 @@ pub struct Stack {
     pub size: usize,
 }
 
-// The row of a stack's top entry, and its worth.
+// A stack's top entry: its row, when it departs, and what it is worth.
 pub struct TopEntry {
     pub row: usize,
+    pub departure: usize,
     pub worth: u32,
 }
 
@@ -35,6 +38,30 @@ pub fn stack_of(work: &[u32], stop: usize) -> Stack
     let size = number(work[SIZE_CELLS + stop]);
     let start = PAIR_CELLS + 2 * number(work[STOP_CELLS + stop]);
     Stack { start, size }
+}
+
+// Room for one entry more at a stop: until the regions are parted, a size counts that room.
+pub fn reserve(work: &mut [u32], stop: usize)
+    requires { ⌜ (stop < mostStops) × (pairCells ≤ length (now work)) × (stackSize (now work) stop < 4294967295) ⌝ }
+    ensures { λ r. ⌜ now (work .exit) ≡ withSize (now (work .entry)) stop (stackSize (now (work .entry)) stop + 1) ⌝ }
+{
+    let size = SIZE_CELLS + stop;
+    work[size] += 1;
+}
+
+// A region of pairs of cells for each stop, one behind the other from pair `from` on; the stacks are empty.
+pub fn part_stacks(from: usize, work: &mut [u32])
+    requires { ⌜ (pairCells ≤ length (now work)) × (from + below (stackSize (now work)) mostStops < 4294967296) ⌝ }
+    ensures { λ r. ⌜ Parted from (now (work .entry)) (now (work .exit)) ⌝ }
+{
+    let mut stop = 0;
+    let mut start = cell(from);
+    while stop < MOST_STOPS {
+        work[STOP_CELLS + stop] = start;
+        start += work[SIZE_CELLS + stop];
+        work[SIZE_CELLS + stop] = 0;
+        stop += 1;
+    }
 }
 
 // The departure of an entry, by its key.
@@ -55,21 +82,42 @@ pub fn row_of(key: u32) -> usize
 pub fn top(work: &[u32], stack: Stack) -> TopEntry
     requires { ⌜ (0 < stack .size) × (stack .start + 2 * stack .size ≤ length (now work)) ⌝ }
     ensures { λ r. ⌜ (r .row ≡ entryRow (now (work .entry)) (stack .start) (stack .size - 1))
+        × (r .departure ≡ entryDeparture (now (work .entry)) (stack .start) (stack .size - 1))
         × (r .worth ≡ entryWorth (now (work .entry)) (stack .start) (stack .size - 1)) ⌝ }
 {
     let at = stack.start + 2 * (stack.size - 1);
     TopEntry {
         row: row_of(work[at]),
+        departure: departure_of(work[at]),
         worth: work[at + 1],
     }
 }
 
-// The entry of a row at pair `pair`.
-pub fn write_entry(work: &mut [u32], pair: usize, departure: usize, row: usize, worth: u32)
-    requires { ⌜ (keyOf departure row < 4294967296) × (pairCell pair + 1 < length (now work)) ⌝ }
-    ensures { λ r. ⌜ now (work .exit) ≡ paired (now (work .entry)) pair (keyOf departure row) worth ⌝ }
+// A chosen row goes on top of its stop's stack.
+pub fn push(work: &mut [u32], stop: usize, stack: Stack, departure: usize, row: usize, worth: u32)
+    requires { ⌜ (stop < mostStops) × (pairCells ≤ stack .start) × (stack .size < 4294967295)
+        × (stack .start + 2 * stack .size + 1 < length (now work)) × (keyOf departure row < 4294967296) ⌝ }
+    ensures { λ r. ⌜ now (work .exit)
+        ≡ withSize (withEntry (now (work .entry)) (stack .start) (stack .size) departure row worth) stop (suc (stack .size)) ⌝ }
 {
-    let at = PAIR_CELLS + 2 * pair;
+    write_entry(work, stack.start + 2 * stack.size, departure, row, worth);
+    work[SIZE_CELLS + stop] = cell(stack.size + 1);
+}
+
+// A chosen row takes the place of the top one.
+pub fn replace_top(work: &mut [u32], stack: Stack, departure: usize, row: usize, worth: u32)
+    requires { ⌜ (0 < stack .size) × (stack .start + 2 * stack .size ≤ length (now work)) × (keyOf departure row < 4294967296) ⌝ }
+    ensures { λ r. ⌜ now (work .exit) ≡ withEntry (now (work .entry)) (stack .start) (stack .size - 1) departure row worth ⌝ }
+{
+    let at = stack.start + 2 * (stack.size - 1);
+    write_entry(work, at, departure, row, worth);
+}
+
+// The entry of a row at cell `at`.
+fn write_entry(work: &mut [u32], at: usize, departure: usize, row: usize, worth: u32)
+    requires { ⌜ (keyOf departure row < 4294967296) × (at + 1 < length (now work)) ⌝ }
+    ensures { λ r. ⌜ now (work .exit) ≡ twoAt (now (work .entry)) at (keyOf departure row) worth ⌝ }
+{
     work[at] = cell(KEY * departure + row);
     work[at + 1] = worth;
 }

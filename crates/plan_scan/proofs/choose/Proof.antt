@@ -1,6 +1,7 @@
 -- `plan_scan::choose` meets its contract: five ways, by worth, size and the top's minute. Assumes nothing.
-use mathlib.Core.Path.{refl, sym, _∙_}
-use Rattle.plan_scan.specs.Stores.{worthless}
+use Prim.Native.Nat.{_≤_, _<_}
+use mathlib.Core.Path.{refl, sym, subst, _∙_}
+use Rattle.plan_scan.specs.Stores.{rowWorth, worthless}
 use Rattle.plan_scan.proofs.Ways.{chose-alone, chose-nothing, chose-replacing, chose-ahead}
 use borrow.Author.Needs.{needs}
 use Rattle.plan_scan.proofs.choose.Statement.{statement}
@@ -18,139 +19,89 @@ mul-worth-2 c = search needs
 slice-read-worth : tie.Need-slice-read-worth
 slice-read-worth c = search needs
 
-add-number : tie.Need-add-number
-add-number c = search needs
-
-mul-number : tie.Need-mul-number
-mul-number c = search needs
-
-slice-read-number : tie.Need-slice-read-number
-slice-read-number c = search needs
-
-number-requires : tie.Need-number-requires
-number-requires c κs = search needs
-
-add-number-2 : tie.Need-add-number-2
-add-number-2 c = search needs
-
-mul-number-2 : tie.Need-mul-number-2
-mul-number-2 c = search needs
-
-slice-read-number-2 : tie.Need-slice-read-number-2
-slice-read-number-2 c = search needs
-
-number-requires-2 : tie.Need-number-requires-2
-number-requires-2 c κs = search needs
-
-returns : tie.Need-returns
-returns c = worthless (c .if1 .taken) refl
-
-write-entry-requires : tie.Need-write-entry-requires
-write-entry-requires c κs = search needs
-
-add-work : tie.Need-add-work
-add-work c = search needs
-
-mul-work : tie.Need-mul-work
-mul-work c = search needs
-
-slice-write-work : tie.Need-slice-write-work
-slice-write-work c = search needs
+stack-of-requires : tie.Need-stack-of-requires
+stack-of-requires c κs = search needs
 
 same-length : tie.Need-same-length
 same-length c = search needs
 
-returns-2 : tie.Need-returns-2
-returns-2 c =
-    let a = c .before .before .before .before .before .before .before .before .before .before .before .before .args in
-    chose-alone (a .row) (a .i) (a .work .now) (c .before .before .before .before .before .before .before .before .number .result) (c .before .before .before .before .before .before .number2 .result) (c .before .before .before .before .before .before .before .before .number .ensures .0)
-    (c .before .before .before .before .before .before .number2 .ensures .0) (c .before .before .before .before .before .if1 .left) (c .before .before .write-entry .last .0) (c .before .before .before .before .if2 .taken) (c .before .before .write-entry .ensures)
+returns : tie.Need-returns
+returns c = worthless (c .if1 .taken) refl
 
-add-top : tie.Need-add-top
-add-top c = search needs
+-- the start of a call whose row has a worth
+abbrev begun : tie.After-struct-known → tie.Start
+begun c = c .before .before .before .before .before .before
 
-sub-top : tie.Need-sub-top
-sub-top c = search needs
+-- the call up to where the top is read
+abbrev looked : tie.After-struct-known2 → tie.After-struct-known
+looked c = c .before .before .before .before
 
-mul-if3 : tie.Need-mul-if3
-mul-if3 c = search needs
-
-add-if3 : tie.Need-add-if3
-add-if3 c = search needs
-
-add-if3-2 : tie.Need-add-if3-2
-add-if3-2 c = search needs
-
-mul-if3-2 : tie.Need-mul-if3-2
-mul-if3-2 c = search needs
-
-slice-read-if3 : tie.Need-slice-read-if3
-slice-read-if3 c = search needs
-
-returns-3 : tie.Need-returns-3
-returns-3 c =
-    let a = c .before .before .before .before .before .before .before .before .before .before .args in
-    chose-nothing (a .row) (a .i) (a .work .now) (c .before .before .before .before .before .before .number .result) (c .before .before .before .before .number2 .result) (c .before .before .before .before .before .before .number .ensures .0)
-    (c .before .before .before .before .number2 .ensures .0) (c .before .before .before .if1 .left) (c .before .before .if2 .left) (c .if3 .taken)
-
-mul-departure-of : tie.Need-mul-departure-of
-mul-departure-of c = search needs
-
-add-departure-of : tie.Need-add-departure-of
-add-departure-of c = search needs
-
-mul-departure-of-2 : tie.Need-mul-departure-of-2
-mul-departure-of-2 c = search needs
-
-slice-read-departure-of : tie.Need-slice-read-departure-of
-slice-read-departure-of c = search needs
-
-departure-of-requires : tie.Need-departure-of-requires
-departure-of-requires c κs = search needs
-
-write-entry-requires-2 : tie.Need-write-entry-requires-2
-write-entry-requires-2 c κs = search needs
-
-add-write-entry : tie.Need-add-write-entry
-add-write-entry c = search needs
-
-write-entry-requires-3 : tie.Need-write-entry-requires-3
-write-entry-requires-3 c κs = search needs
-
-add-cell : tie.Need-add-cell
-add-cell c = search needs
-
-cell-requires : tie.Need-cell-requires
-cell-requires c κs = search needs
-
-add-work-2 : tie.Need-add-work-2
-add-work-2 c = search needs
-
-mul-work-2 : tie.Need-mul-work-2
-mul-work-2 c = search needs
-
-slice-write-work-2 : tie.Need-slice-write-work-2
-slice-write-work-2 c = search needs
+push-requires : tie.Need-push-requires
+push-requires c κs = search needs
 
 same-length-2 : tie.Need-same-length-2
 same-length-2 c = search needs
 
-returns-4 : tie.Need-returns-4
-returns-4 c =
-    let a = c .before .before .before .before .before .before .before .before .before .before .before .before .before .before .before .before .before .before .args in
-    chose-replacing (a .row) (a .i) (a .work .now) (c .before .before .before .before .before .before .before .before .before .before .before .before .before .before .number .result) (c .before .before .before .before .before .before .before .before .before .before .before .before .number2 .result) (c .before .before .before .before .before .before .before .before .before .before .before .before .before .before .number .ensures .0)
-    (c .before .before .before .before .before .before .before .before .before .before .before .before .number2 .ensures .0) (c .before .before .before .before .before .before .before .before .before .before .before .if1 .left) (c .before .before .write-entry2 .last .0) (c .before .before .before .before .before .before .before .before .before .before .if2 .left) (c .before .before .before .before .before .before .before .before .if3 .left)
-    (sym (c .before .before .before .before .before .before .departure-of .ensures) ∙ c .before .before .before .before .if4 .taken) (c .before .before .write-entry2 .ensures)
+returns-2 : tie.Need-returns-2
+returns-2 c =
+    let s = c .before .before .before .before .before in
+    let a = begun s .args in
+    let stack = s .before .before .stack-of in
+    chose-alone (a .row) (a .i) (a .work .now) (stack .result .start) (stack .result .size) (stack .ensures .0) (stack .ensures .1)
+    (s .before .if1 .left) (c .before .before .push .last .0) (c .before .before .before .before .if2 .taken) (c .before .before .push .ensures)
+
+top-requires : tie.Need-top-requires
+top-requires c κs = search needs
 
 same-length-3 : tie.Need-same-length-3
 same-length-3 c = search needs
 
+returns-3 : tie.Need-returns-3
+returns-3 c =
+    let s = looked (c .before) in
+    let a = begun s .args in
+    let stack = s .before .before .stack-of in
+    chose-nothing (a .row) (a .i) (a .work .now) (stack .result .start) (stack .result .size) (stack .ensures .0) (stack .ensures .1)
+    (s .before .if1 .left) (c .before .before .before .before .if2 .left)
+    (subst (λ x. x ≤ rowWorth (a .work .now) (a .i)) (c .before .before .top .ensures .2) (c .if3 .taken))
+
+replace-top-requires : tie.Need-replace-top-requires
+replace-top-requires c κs = search needs
+
+push-requires-2 : tie.Need-push-requires-2
+push-requires-2 c κs = search needs
+
+same-length-4 : tie.Need-same-length-4
+same-length-4 c = search needs
+
+returns-4 : tie.Need-returns-4
+returns-4 c =
+    let at-top = c .before .before .before .before .before in
+    let up = at-top .before .before .before in
+    let s = looked up in
+    let a = begun s .args in
+    let stack = s .before .before .stack-of in
+    chose-replacing (a .row) (a .i) (a .work .now) (stack .result .start) (stack .result .size) (stack .ensures .0) (stack .ensures .1)
+    (s .before .if1 .left) (up .before .before .before .if2 .left)
+    (subst (λ x. rowWorth (a .work .now) (a .i) < x) (up .before .top .ensures .2) (at-top .before .before .if3 .left))
+    (c .before .before .replace-top .last .0) (begun s .pre .board)
+    (sym (up .before .top .ensures .1) ∙ c .before .before .before .before .if4 .taken) (c .before .before .replace-top .ensures)
+
+same-length-5 : tie.Need-same-length-5
+same-length-5 c = search needs
+
 returns-5 : tie.Need-returns-5
 returns-5 c =
-    let a = c .before .before .before .before .before .before .before .before .before .before .before .before .before .before .before .before .before .before .before .args in
-    chose-ahead (a .row) (a .i) (a .work .now) (c .before .before .before .before .before .before .before .before .before .before .before .before .before .before .before .number .result) (c .before .before .before .before .before .before .before .before .before .before .before .before .before .number2 .result) (c .before .before .before .before .before .before .before .before .before .before .before .before .before .before .before .number .ensures .0)
-    (c .before .before .before .before .before .before .before .before .before .before .before .before .before .number2 .ensures .0) (c .before .before .before .before .before .before .before .before .before .before .before .before .if1 .left) (c .before .before .before .write-entry3 .last .0) (c .cell .result) (c .before .before .before .before .before .before .before .before .before .before .before .if2 .left) (c .before .before .before .before .before .before .before .before .before .if3 .left)
-    (λ q. c .before .before .before .before .before .if4 .left (c .before .before .before .before .before .before .before .departure-of .ensures ∙ q)) (c .before .before .before .write-entry3 .ensures) (c .cell .ensures)
+    let at-top = c .before .before .before .before .before in
+    let up = at-top .before .before .before in
+    let s = looked up in
+    let a = begun s .args in
+    let stack = s .before .before .stack-of in
+    chose-ahead (a .row) (a .i) (a .work .now) (stack .result .start) (stack .result .size) (stack .ensures .0) (stack .ensures .1)
+    (s .before .if1 .left) (up .before .before .before .if2 .left)
+    (subst (λ x. rowWorth (a .work .now) (a .i) < x) (up .before .top .ensures .2) (at-top .before .before .if3 .left))
+    (c .before .before .push2 .last .0)
+    (λ same. c .before .before .before .before .if4 .left (up .before .top .ensures .1 ∙ same)) (c .before .before .push2 .ensures)
 
 pub choose-spec : {M : Type 1} → statement M
 choose-spec =
@@ -160,43 +111,18 @@ choose-spec =
     add-worth
     mul-worth-2
     slice-read-worth
-    add-number
-    mul-number
-    slice-read-number
-    number-requires
-    add-number-2
-    mul-number-2
-    slice-read-number-2
-    number-requires-2
-    returns
-    write-entry-requires
-    add-work
-    mul-work
-    slice-write-work
+    stack-of-requires
     same-length
-    returns-2
-    add-top
-    sub-top
-    mul-if3
-    add-if3
-    add-if3-2
-    mul-if3-2
-    slice-read-if3
-    returns-3
-    mul-departure-of
-    add-departure-of
-    mul-departure-of-2
-    slice-read-departure-of
-    departure-of-requires
-    write-entry-requires-2
-    add-write-entry
-    write-entry-requires-3
-    add-cell
-    cell-requires
-    add-work-2
-    mul-work-2
-    slice-write-work-2
+    returns
+    push-requires
     same-length-2
-    returns-4
+    returns-2
+    top-requires
     same-length-3
+    returns-3
+    replace-top-requires
+    push-requires-2
+    same-length-4
+    returns-4
+    same-length-5
     returns-5)

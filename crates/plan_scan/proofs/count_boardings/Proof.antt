@@ -4,13 +4,11 @@ use mathlib.Core.List.{List, _∷_}
 use mathlib.Core.Path.{_≡_, sym, ap, ap₂, subst, _∙_}
 use native.Mathlib.Numerals.{add-one}
 use native.Mathlib.Omega.{arith}
-use lib.ListN.{set}
 use lib.Seq.{slice, slice-empty, slice-cons, length-slice}
 use Rattle.timetable.specs.Timetable.{noRow}
 use Rattle.timetable.specs.declared.Row.{Row}
-use Rattle.plan_cells.specs.Cells.{sizeCells}
 use Rattle.plan_rows.specs.Reading.{rowsIn}
-use Rattle.plan_stacks.specs.Stacks.{stackSize}
+use Rattle.plan_stacks.specs.Stacks.{stackSize, withSize}
 use Rattle.plan_scan.proofs.Regions.{count-few}
 use Rattle.plan_scan.proofs.Counting.{Counting, counting-begins, counting-on, counting-done}
 use Rattle.plan_scan.proofs.count_boardings.Statement.{statement}
@@ -31,55 +29,46 @@ nth-row-requires : tie.Need-nth-row-requires Inv-loop μ-loop
 nth-row-requires c κs = (c .before .before .before .before .pre .0, omega arith)
 
 -- the row that is counted
-boards : (c : tie.After-struct-known Inv-loop μ-loop) → c .before .nth-row .result .board < 200
+boards : (c : tie.After-nth-row Inv-loop μ-loop) → c .nth-row .result .board < 200
 boards c =
-    let a = c .before .before .before .before .before .before in
-    subst (λ (r : Row). r .board < 200) (sym (c .before .nth-row .ensures .0)) (a .pre .0 .row-fits (c .before .before .before .loop .i) (omega arith) .board)
+    let a = c .before .before .before .before .before in
+    subst (λ (r : Row). r .board < 200) (sym (c .nth-row .ensures .0)) (a .pre .0 .row-fits (c .before .before .loop .i) (omega arith) .board)
 
-few : (c : tie.After-struct-known Inv-loop μ-loop) → stackSize (c .before .before .before .loop .work) (c .before .nth-row .result .board) ≤ 2000
+few : (c : tie.After-nth-row Inv-loop μ-loop) → stackSize (c .before .before .loop .work) (c .nth-row .result .board) ≤ 2000
 few c =
-    let a = c .before .before .before .before .before .before in
+    let a = c .before .before .before .before .before in
     let rows = rowsIn (a .args .file .now) (a .args .s) in
-    let board = c .before .nth-row .result .board in
+    let board = c .nth-row .result .board in
     omega (
       arith,
-      c .before .before .before .loop .inv .2 .so-far board (boards c),
+      c .before .before .loop .inv .2 .so-far board (boards c),
       count-few board (slice (a .args .first) (a .args .end) rows),
       length-slice (a .args .first) (a .args .end) rows (omega (arith, a .pre .0 .rows-count)),
       a .pre .0 .few-rows,
     )
 
 counted-on :
-    (c : tie.After-struct-known Inv-loop μ-loop)
-    → let a = c .before .before .before .before .before .before .args in
-    let l = c .before .before .before .loop in
+    (c : tie.After-nth-row Inv-loop μ-loop)
+    → let a = c .before .before .before .before .before .args in
+    let l = c .before .before .loop in
     Counting (slice (a .first) (a .end) (rowsIn (a .file .now) (a .s))) (slice (l .i + 1) (a .end) (rowsIn (a .file .now) (a .s))) (a .work .now)
-    (set (l .work) (sizeCells + c .before .nth-row .result .board) (stackSize (l .work) (c .before .nth-row .result .board) + 1))
+    (withSize (l .work) (c .nth-row .result .board) (stackSize (l .work) (c .nth-row .result .board) + 1))
 counted-on c =
-    let a = c .before .before .before .before .before .before in
-    let l = c .before .before .before .loop in
+    let a = c .before .before .before .before .before in
+    let l = c .before .before .loop in
     let rows = rowsIn (a .args .file .now) (a .args .s) in
     let all = slice (a .args .first) (a .args .end) rows in
-    let front : slice (l .i) (a .args .end) rows ≡ c .before .nth-row .result ∷ slice (l .i + 1) (a .args .end) rows =
+    let front : slice (l .i) (a .args .end) rows ≡ c .nth-row .result ∷ slice (l .i + 1) (a .args .end) rows =
     slice-cons (l .i) (a .args .end) rows noRow (omega arith) (omega (arith, a .pre .0 .rows-count))
-    ∙ ap₂ (λ (r : Row) (k : ℕ). r ∷ slice k (a .args .end) rows) (sym (c .before .nth-row .ensures .0)) (sym (add-one (l .i))) in
-    counting-on all (slice (l .i + 1) (a .args .end) rows) (c .before .nth-row .result) (a .args .work .now) (l .work) (a .pre .3) (boards c)
+    ∙ ap₂ (λ (r : Row) (k : ℕ). r ∷ slice k (a .args .end) rows) (sym (c .nth-row .ensures .0)) (sym (add-one (l .i))) in
+    counting-on all (slice (l .i + 1) (a .args .end) rows) (c .nth-row .result) (a .args .work .now) (l .work) (a .pre .3) (boards c)
     (subst (λ (rest : List Row). Counting all rest (a .args .work .now) (l .work)) front (l .inv .2))
 
-add-size : tie.Need-add-size Inv-loop μ-loop
-add-size c = omega (arith, boards c)
-
-mul-work : tie.Need-mul-work Inv-loop μ-loop
-mul-work c = omega (arith, boards c)
-
-slice-read-work : tie.Need-slice-read-work Inv-loop μ-loop
-slice-read-work c = omega (arith, boards (c .before), c .before .before .before .before .loop .inv .2 .outside .same-length)
-
-add-work : tie.Need-add-work Inv-loop μ-loop
-add-work c = omega (arith, few (c .before))
-
-slice-write-work : tie.Need-slice-write-work Inv-loop μ-loop
-slice-write-work c = omega (arith, boards (c .before), c .before .before .before .before .loop .inv .2 .outside .same-length)
+reserve-requires : tie.Need-reserve-requires Inv-loop μ-loop
+reserve-requires c κs =
+    let n = c .before in
+    let a = n .before .before .before .before .before in
+    (boards n, omega (arith, a .pre .3, n .before .before .loop .inv .2 .outside .same-length), omega (arith, few n))
 
 add-i : tie.Need-add-i Inv-loop μ-loop
 add-i c = omega arith
@@ -88,7 +77,16 @@ loop-less : tie.Need-loop-less Inv-loop μ-loop
 loop-less c = omega arith
 
 loop-again : tie.Need-loop-again Inv-loop μ-loop
-loop-again c = (omega arith, omega arith, counted-on (c .before))
+loop-again c =
+    let n = c .before .before .before .before in
+    let a = n .before .before .before .before .before .args in
+    let rows = rowsIn (a .file .now) (a .s) in (
+      omega arith,
+      omega arith,
+      subst
+          (λ (w : List ℕ). Counting (slice (a .first) (a .end) rows) (slice (n .before .before .loop .i + 1) (a .end) rows) (a .work .now) w)
+          (sym (c .before .before .reserve .ensures)) (counted-on n),
+    )
 
 same-length : tie.Need-same-length Inv-loop μ-loop
 same-length c = c .before .loop .inv .2 .outside .same-length
@@ -109,11 +107,7 @@ count-boardings-spec =
     μ-loop
     loop-holds
     nth-row-requires
-    add-size
-    mul-work
-    slice-read-work
-    add-work
-    slice-write-work
+    reserve-requires
     add-i
     loop-less
     loop-again

@@ -1,16 +1,10 @@
--- `plan_stacks::write_entry` meets its contract: the two cells of the pair. Assumes nothing.
-use mathlib.Core.Path.{ap}
+-- `plan_stacks::write_entry` meets its contract: two cells, one behind the other. Assumes nothing.
 use Prim.Native.Nat.{ℕ}
-use Rattle.plan_cells.specs.Cells.{paired}
+use mathlib.Core.Path.{ap}
+use Rattle.plan_cells.specs.Cells.{twoAt}
 use borrow.Author.Needs.{needs}
 use Rattle.plan_stacks.proofs.write_entry.Statement.{statement}
 use Rattle.plan_stacks.proofs.write_entry.Tie as tie
-
-mul-at : tie.Need-mul-at
-mul-at c = search needs
-
-add-at : tie.Need-add-at
-add-at c = search needs
 
 mul-cell : tie.Need-mul-cell
 mul-cell c = search needs
@@ -42,14 +36,12 @@ same-length c = search needs
 returns : tie.Need-returns
 returns c =
     let a = c .before .before .args in
-    ap (λ (key : ℕ). paired (a .work .now) (a .pair) key (a .worth)) (c .cell .ensures)
+    ap (λ (key : ℕ). twoAt (a .work .now) (a .at) key (a .worth)) (c .cell .ensures)
 
 pub write-entry-spec : {M : Type 1} → statement M
 write-entry-spec =
     tie.close
     (tie.spec
-    mul-at
-    add-at
     mul-cell
     add-cell
     cell-requires

@@ -136,7 +136,7 @@ returns-2 c =
     let a = begun s in
     let w = given-back c .write-plan in
     let made = w .ensures .0 (plan-ahead p) in
-    let worth = p .top .ensures .1 ∙ ap₂ (λ at n. entryWorth (a .args .work .now) at (n - 1)) (started s) (sized s) ∙ top-of p .worth in (
+    let worth = p .top .ensures .2 ∙ ap₂ (λ at n. entryWorth (a .args .work .now) at (n - 1)) (started s) (sized s) ∙ top-of p .worth in (
       plan-answers (planIn (a .args .file .now) (a .args .s) (a .args .q) (a .args .goal .bound)) _ _ _ _ _ (a .args .plan .now) _
           (top-of p .is-plan) (c .before .cell .ensures ∙ made .1) worth (made .2) (c .cell2 .ensures) (made .0),
       w .ensures .1,

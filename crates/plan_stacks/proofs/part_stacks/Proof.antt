@@ -1,4 +1,4 @@
--- `plan_scan::part_stacks` meets its contract: the stops below `stop` have their regions. Assumes nothing.
+-- `plan_stacks::part_stacks` meets its contract: the stops below `stop` have their regions. Assumes nothing.
 use Prim.Native.Nat.{ℕ, _+_, _-_, _≤_}
 use mathlib.Core.List.{List}
 use mathlib.Core.Path.{_≡_, _∙_}
@@ -6,12 +6,12 @@ use native.Mathlib.Omega.{arith}
 use lib.ListN.{getD, set, length-set}
 use lib.Seq.{getD-set-other}
 use Rattle.plan_cells.specs.Cells.{stopCells, sizeCells}
 use Rattle.plan_stacks.specs.Stacks.{stackSize}
-use Rattle.plan_scan.specs.Regions.{below}
-use Rattle.plan_scan.proofs.Regions.{below-later, below-next}
-use Rattle.plan_scan.proofs.Parting.{Parting, parting-begins, parting-on}
-use Rattle.plan_scan.proofs.part_stacks.Statement.{statement}
-use Rattle.plan_scan.proofs.part_stacks.Tie as tie
+use Rattle.plan_stacks.specs.Regions.{below}
+use Rattle.plan_stacks.proofs.Regions.{below-later, below-next}
+use Rattle.plan_stacks.proofs.Parting.{Parting, parting-begins, parting-on}
+use Rattle.plan_stacks.proofs.part_stacks.Statement.{statement}
+use Rattle.plan_stacks.proofs.part_stacks.Tie as tie
 
 abbrev Inv-loop : tie.InvT-loop
 Inv-loop from work₀ stop₀ start₀ work stop start = (stop ≤ 200) × (start ≡ from + below (stackSize work₀) stop) × Parting from stop work₀ work

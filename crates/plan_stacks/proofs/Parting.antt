@@ -11,8 +11,8 @@ use Rattle.laws.proofs.Tests.{ifb}
 use Rattle.plan_cells.specs.Cells.{stopCells, sizeCells, pairCells}
 use Rattle.plan_cells.specs.Outside.{SameOutside}
 use Rattle.plan_cells.proofs.Outside.{outside-same, outside-then, outside-set}
 use Rattle.plan_stacks.specs.Stacks.{startPair, stackSize}
-use Rattle.plan_scan.specs.Regions.{below}
+use Rattle.plan_stacks.specs.Regions.{below}
 
 pub record Parting (from stop : ℕ) (w w' : List ℕ) : Type 0 where
   pub outside : SameOutside stopCells pairCells w w'
