@@ -10,6 +10,7 @@ use mathlib.Core.Path.{_≡_, refl, sym, ap, subst, _∙_}
 use lib.Dec.{leb, eqb}
 use lib.ListN.{length}
 use borrow.Author.Tests.{eqb-true, eqb-false, leb-true, leb-false}
+use Rattle.timetable.specs.Limits.{mostStops, mostTrips}
 use Rattle.laws.proofs.Tests.{ifb}
 use Rattle.laws.proofs.Options.{present-or-absent}
 use Rattle.timetable.specs.Timetable.{Timetable, rowOf}
@@ -27,15 +28,15 @@ use Rattle.plan_earliest.proofs.Sweep.{Seaworthy, reached-since, reache
 -- one has set out: only the source is reached, and no trip is boarded
 pub record SetOut (source minute : ℕ) (work : List ℕ) : Type 0 where
   pub here : ready work source ≡ minute
-  pub elsewhere : (stop : ℕ) → stop < 200 → stop ≢ source → ready work stop ≡ missing
-  pub ashore : (trip : ℕ) → trip < 2000 → aboard work trip ≡ 0
+  pub elsewhere : (stop : ℕ) → stop < mostStops → stop ≢ source → ready work stop ≡ missing
+  pub ashore : (trip : ℕ) → trip < mostTrips → aboard work trip ≡ 0
 
 module _ (t : Timetable) (ship : Seaworthy t) (source minute : ℕ) where
   -- who sets out at the query's minute can board no row that departs before it
   none-boardable : {i : ℕ} → rowOf (t .rows) i .departure < minute → Boardable t source minute i → ⊥
   none-boardable gone b = let no' : ⊥ = omega (arith, reached-since t ship source minute (b .there), b .in-time) in no'
 
-  told-first : (work : List ℕ) → SetOut source minute work → (stop : ℕ) → stop < 200 → Told t source minute stop (ready work stop)
+  told-first : (work : List ℕ) → SetOut source minute work → (stop : ℕ) → stop < mostStops → Told t source minute stop (ready work stop)
   told-first work out stop small =
       ifb (λ b. eqb stop source ≡ b → Told t source minute stop (ready work stop)) (eqb stop source)
       (λ e _. inr (subst (λ s. Reached t source minute s (ready work s)) (sym (eqb-true stop source e))
@@ -61,12 +62,12 @@ module _ (t : Timetable) (ship : Seaworthy t) (source minute : ℕ) where
 
   -- all rows are swept
   pub swept-all :
-      (stop : ℕ) {work : List ℕ} → stop < 200 → Swept t source minute (length (t .rows)) work → EarliestReady t source minute stop (ready work stop)
+      (stop : ℕ) {work : List ℕ} → stop < mostStops → Swept t source minute (length (t .rows)) work → EarliestReady t source minute stop (ready work stop)
   swept-all stop small sw = record { told = sw .told stop small; least = λ m k. least-of-all sw k }
 
   -- the next row departs at or after the stop's minute: whatever is caught from it on lands later
   pub swept-enough :
-      (stop i : ℕ) {work : List ℕ} → stop < 200 → i < length (t .rows) → ready work stop ≤ rowOf (t .rows) i .departure
+      (stop i : ℕ) {work : List ℕ} → stop < mostStops → i < length (t .rows) → ready work stop ≤ rowOf (t .rows) i .departure
       → Swept t source minute i work → EarliestReady t source minute stop (ready work stop)
   swept-enough stop i {work} small inside reached sw = record { told = sw .told stop small; least = least }
     where

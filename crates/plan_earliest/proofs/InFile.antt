@@ -8,6 +8,7 @@ use mathlib.Core.Path.{_≡_, sym, ap, subst, _∙_}
 use lib.Dec.{leb}
 use lib.ListN.{length}
 use borrow.Author.Tests.{leb-true}
+use Rattle.timetable.specs.Limits.{mostStops}
 use Rattle.timetable.specs.Timetable.{Timetable, rowOf}
 use Rattle.timetable.specs.declared.Row.{Row}
 use Rattle.plans.specs.Sound.{Timely}
@@ -69,7 +70,7 @@ module _ (file : List ℕ) (s : SectionPlaces) (stand : FileReadable file s) whe
       row-behind same = outside-then same (sails-behind row (landing t i) (row-placed .trip) (row-placed .land) sailed-row)
 
       pub row-swept :
-          2400 ≤ length before → (source minute : ℕ) → Swept (timetableIn file s) source minute i before
+          pairCells ≤ length before → (source minute : ℕ) → Swept (timetableIn file s) source minute i before
           → Swept (timetableIn file s) source minute (i + 1) after
       row-swept room source minute sw =
           subst (λ k. Swept t source minute k after) (sym (add-one i))
@@ -78,7 +79,7 @@ module _ (file : List ℕ) (s : SectionPlaces) (stand : FileReadable file s) whe
 
   -- the next row departs when the stop is reached already
   pub stops-there :
-      (i : ℕ) → i < s .rows → {read : Row} → read ≡ rowOf (rowsIn file s) i → (stop : ℕ) → stop < 200 → (work : List ℕ) {cell : ℕ}
+      (i : ℕ) → i < s .rows → {read : Row} → read ≡ rowOf (rowsIn file s) i → (stop : ℕ) → stop < mostStops → (work : List ℕ) {cell : ℕ}
       → cell ≡ ready work stop → leb cell (read .departure) ≡ true → (source minute : ℕ)
       → Swept (timetableIn file s) source minute i work → EarliestReady (timetableIn file s) source minute stop (ready work stop)
   stops-there i inside {read} as-filed stop small work {cell} e test source minute sw =
@@ -87,7 +88,7 @@ module _ (file : List ℕ) (s : SectionPlaces) (stand : FileReadable file s) whe
 
   -- no row is left
   pub ends-there :
-      (i : ℕ) → i ≡ s .rows → (stop : ℕ) → stop < 200 → (work : List ℕ) → (source minute : ℕ)
+      (i : ℕ) → i ≡ s .rows → (stop : ℕ) → stop < mostStops → (work : List ℕ) → (source minute : ℕ)
       → Swept (timetableIn file s) source minute i work → EarliestReady (timetableIn file s) source minute stop (ready work stop)
   ends-there i all stop small work source minute sw =
       swept-all t seaworthy source minute stop small (subst (λ k. Swept t source minute k work) (all ∙ sym (stand .rows-count)) sw)

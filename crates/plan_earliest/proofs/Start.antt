@@ -5,6 +5,7 @@ use mathlib.Core.List.{List}
 use mathlib.Core.Path.{_≡_, sym, ap, subst, _∙_}
 use lib.ListN.{length, set}
 use lib.Seq.{getD-set-same, getD-set-other}
+use Rattle.timetable.specs.Limits.{mostStops, mostTrips}
 use Rattle.plan_cells.specs.Cells.{tripCells, stopCells, pairCells, missing, filled}
 use Rattle.plan_cells.specs.Outside.{SameOutside}
 use Rattle.plan_cells.proofs.Filled.{filled-ahead, filled-inside}
@@ -14,13 +15,13 @@ use Rattle.plan_earliest.proofs.Final.{SetOut}
 
 -- all cells of trips and stops are blank
 pub record Blank (work blank : List ℕ) : Type 0 where
-  pub room : 2400 ≤ length work
+  pub room : pairCells ≤ length work
   pub behind : SameOutside tripCells pairCells work blank
-  pub no-trip : (trip : ℕ) → trip < 2000 → aboard blank trip ≡ 0
-  pub no-stop : (stop : ℕ) → stop < 200 → ready blank stop ≡ missing
+  pub no-trip : (trip : ℕ) → trip < mostTrips → aboard blank trip ≡ 0
+  pub no-stop : (stop : ℕ) → stop < mostStops → ready blank stop ≡ missing
 
 pub blanked :
-    {work cleared blank : List ℕ} → 2400 ≤ length work → cleared ≡ filled work tripCells 2000 0 → blank ≡ filled cleared stopCells 200 missing
+    {work cleared blank : List ℕ} → pairCells ≤ length work → cleared ≡ filled work tripCells mostTrips 0 → blank ≡ filled cleared stopCells mostStops missing
     → Blank work blank
 blanked {work} {cleared} room trips-filled stops-filled =
     record {
@@ -28,22 +29,22 @@ blanked {work} {cleared} room trips-filled stops-filled =
       behind =
           outside-then trips-stay
           (subst (λ (l : List ℕ). SameOutside tripCells pairCells cleared l) (sym stops-filled)
-          (outside-wider (omega arith) (omega arith) (outside-filled cleared stopCells 200 missing (omega (arith, trips-stay .same-length)))));
+          (outside-wider (omega arith) (omega arith) (outside-filled cleared stopCells mostStops missing (omega (arith, trips-stay .same-length)))));
       no-trip =
           λ trip small. ap (λ l. aboard l trip) stops-filled
-          ∙ filled-ahead cleared stopCells 200 missing (tripCells + trip) (omega (arith, trips-stay .same-length)) (omega arith)
-          ∙ ap (λ l. aboard l trip) trips-filled ∙ filled-inside work tripCells 2000 0 trip (omega arith) small;
+          ∙ filled-ahead cleared stopCells mostStops missing (tripCells + trip) (omega (arith, trips-stay .same-length)) (omega arith)
+          ∙ ap (λ l. aboard l trip) trips-filled ∙ filled-inside work tripCells mostTrips 0 trip (omega arith) small;
       no-stop =
           λ stop small. ap (λ l. ready l stop) stops-filled
-          ∙ filled-inside cleared stopCells 200 missing stop (omega (arith, trips-stay .same-length)) small;
+          ∙ filled-inside cleared stopCells mostStops missing stop (omega (arith, trips-stay .same-length)) small;
     }
   where
     trips-stay : SameOutside tripCells pairCells work cleared
     trips-stay =
         subst (λ (l : List ℕ). SameOutside tripCells pairCells work l) (sym trips-filled)
-        (outside-wider (omega arith) (omega arith) (outside-filled work tripCells 2000 0 (omega arith)))
+        (outside-wider (omega arith) (omega arith) (outside-filled work tripCells mostTrips 0 (omega arith)))
 
-module _ {work blank : List ℕ} (clean : Blank work blank) (source : ℕ) {minute cell : ℕ} (small : source < 200) (as-asked : cell ≡ minute) where
+module _ {work blank : List ℕ} (clean : Blank work blank) (source : ℕ) {minute cell : ℕ} (small : source < mostStops) (as-asked : cell ≡ minute) where
   pub start-behind : SameOutside tripCells pairCells work (set blank (stopCells + source) cell)
   start-behind = outside-then (clean .behind) (outside-set blank (stopCells + source) cell (omega arith) (omega arith))
 

@@ -8,6 +8,7 @@ use mathlib.Core.Logic.{_⊎_, inl, inr, ⊎-elim}
 use mathlib.Core.Path.{_≡_, refl, sym, ap, subst, _∙_}
 use lib.ListN.{length, getD, set}
 use lib.Seq.{getD-set-same, getD-set-other}
+use Rattle.timetable.specs.Limits.{mostStops, mostTrips}
 use Rattle.timetable.specs.declared.Row.{Row}
 use Rattle.plan_cells.specs.Cells.{tripCells, stopCells, pairCells}
 use Rattle.plan_cells.specs.Outside.{SameOutside}
@@ -29,7 +30,7 @@ record AboardNow (row : Row) (before after : List ℕ) : Type 0 where
   since : (trip : ℕ) → (aboard after trip ≡ 0 → ⊥) → Since row before trip
 
 aboard-now :
-    (row : Row) {before after : List ℕ} → row .trip < 2000 → 2400 ≤ length before → Boarded row before after true
+    (row : Row) {before after : List ℕ} → row .trip < mostTrips → pairCells ≤ length before → Boarded row before after true
     → AboardNow row before after
 aboard-now row trip-small room (already n) = record { now = n; same-stops = λ _. refl; still = λ _ z. z; since = λ _ z. inl z }
 aboard-now row {before} trip-small room (boards in-time) =
@@ -53,12 +54,12 @@ aboard-now row {before} trip-small room (boards in-time) =
 -- one is at the stop by the landing: the trips' cells are as they were, and no stop's is later
 record ThereNow (stop landing : ℕ) (before after : List ℕ) : Type 0 where
   by-then : ready after stop ≤ landing
-  same-trips : (trip : ℕ) → trip < 2000 → aboard after trip ≡ aboard before trip
+  same-trips : (trip : ℕ) → trip < mostTrips → aboard after trip ≡ aboard before trip
   no-later : (other : ℕ) → ready after other ≤ ready before other
   so : (other : ℕ) → (ready after other ≡ ready before other) ⊎ ((other ≡ stop) × (ready after other ≡ landing))
 
 there-now :
-    (stop landing : ℕ) {before after : List ℕ} → stop < 200 → 2400 ≤ length before → Landed stop landing before after
+    (stop landing : ℕ) {before after : List ℕ} → stop < mostStops → pairCells ≤ length before → Landed stop landing before after
     → ThereNow stop landing before after
 there-now stop landing {before} stop-small room (no-sooner h) =
     record { by-then = h; same-trips = λ _ _. refl; no-later = λ other. le-refl (ready before other); so = λ _. inl refl }
@@ -84,14 +85,14 @@ there-now stop landing {before} stop-small room (sooner h) =
 pub record Step (row : Row) (landing : ℕ) (before after : List ℕ) : Type 0 where
   pub misses : aboard after (row .trip) ≡ 0 → row .departure < ready before (row .board)
   pub lands : (aboard after (row .trip) ≡ 0 → ⊥) → ready after (row .land) ≤ landing
-  pub still : (trip : ℕ) → trip < 2000 → aboard after trip ≡ 0 → aboard before trip ≡ 0
+  pub still : (trip : ℕ) → trip < mostTrips → aboard after trip ≡ 0 → aboard before trip ≡ 0
   pub no-later : (stop : ℕ) → ready after stop ≤ ready before stop
-  pub since : (trip : ℕ) → trip < 2000 → (aboard after trip ≡ 0 → ⊥) → Since row before trip
+  pub since : (trip : ℕ) → trip < mostTrips → (aboard after trip ≡ 0 → ⊥) → Since row before trip
   pub so :
       (stop : ℕ)
       → (ready after stop ≡ ready before stop) ⊎ ((stop ≡ row .land) × (aboard after (row .trip) ≡ 0 → ⊥) × (ready after stop ≡ landing))
 
-module _ (row : Row) (landing : ℕ) (trip-small : row .trip < 2000) (land-small : row .land < 200) where
+module _ (row : Row) (landing : ℕ) (trip-small : row .trip < mostTrips) (land-small : row .land < mostStops) where
   boarded-behind : {before after : List ℕ} {b : Bool} → Boarded row before after b → SameOutside tripCells pairCells before after
   boarded-behind {before} (already n) = outside-same tripCells pairCells before
   boarded-behind {before} (boards in-time) = outside-set before (tripCells + row .trip) 1 (omega arith) (omega arith)
@@ -127,7 +128,7 @@ module _ (row : Row) (landing : ℕ) (trip-small : row .trip < 2000) (land-small
         so = λ _. inl refl;
       }
 
-  pub sails-step : {before after : List ℕ} → 2400 ≤ length before → RowSailed row landing before after → Step row landing before after
+  pub sails-step : {before after : List ℕ} → pairCells ≤ length before → RowSailed row landing before after → Step row landing before after
   sails-step {before} room (missed (misses z late)) = misses-step before z late
   sails-step room (sailed b l) =
       lands-step (aboard-now row trip-small room b)

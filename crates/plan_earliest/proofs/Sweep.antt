@@ -6,6 +6,7 @@ use mathlib.Core.List.{List}
 use mathlib.Core.Logic.{inr, ⊎-elim}
 use mathlib.Core.Path.{_≡_, refl, sym, ap, subst, _∙_}
 use lib.ListN.{length}
+use Rattle.timetable.specs.Limits.{mostStops, mostTrips}
 use Rattle.timetable.specs.Timetable.{Timetable, sharesOf, maximumDelay, rowOf}
 use Rattle.timetable.specs.declared.Row.{Row}
 use Rattle.plans.specs.Rides.{Ride, rideOf, IsRide, landsBy}
@@ -82,7 +83,7 @@ module _ (t : Timetable) (ship : Seaworthy t) (source minute : ℕ) where
           let late : row .departure < ready before (row .board) = step .misses z in
           let no' : ⊥ = omega (arith, known sw (b .there) (b .in-time), b .in-time) in no'
 
-      not-underway-more : (trip : ℕ) → trip < 2000 → aboard after trip ≡ 0 → Underway t source minute (suc i) trip → ⊥
+      not-underway-more : (trip : ℕ) → trip < mostTrips → aboard after trip ≡ 0 → Underway t source minute (suc i) trip → ⊥
       not-underway-more trip small z u =
           below-suc ⊥ (u .row) i (u .swept)
           (λ h. sw .not-underway trip small (step .still trip small z)
@@ -95,7 +96,7 @@ module _ (t : Timetable) (ship : Seaworthy t) (source minute : ℕ) where
           ⊎-elim (λ e. absurd (let no' : ⊥ = omega (arith, row-fits .lands, row-fits .onward) in no'))
           (λ k. record { since = ready before (row .board); there = k; in-time = in-time }) (sw .told (row .board) (row-fits .board))
 
-      underway-more : (trip : ℕ) → trip < 2000 → (aboard after trip ≡ 0 → ⊥) → Underway t source minute (suc i) trip
+      underway-more : (trip : ℕ) → trip < mostTrips → (aboard after trip ≡ 0 → ⊥) → Underway t source minute (suc i) trip
       underway-more trip small n =
           ⊎-elim
           (λ k. let u = sw .underway trip small k in
@@ -111,7 +112,7 @@ module _ (t : Timetable) (ship : Seaworthy t) (source minute : ℕ) where
           rides {r = rideOf t (u .row) i} (u .boardable .there) (u .boardable .in-time)
           (record { onward = onward; inside = inside; one-trip = u .same-trip; as-timed = refl })
 
-      told-more : (stop : ℕ) → stop < 200 → Told t source minute stop (ready after stop)
+      told-more : (stop : ℕ) → stop < mostStops → Told t source minute stop (ready after stop)
       told-more stop small =
           ⊎-elim (λ e. subst (λ k. Told t source minute stop k) (sym e) (sw .told stop small))
           (λ (e : (stop ≡ row .land) × (aboard after (row .trip) ≡ 0 → ⊥) × (ready after stop ≡ landing t i)).

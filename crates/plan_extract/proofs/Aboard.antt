@@ -6,6 +6,7 @@ use mathlib.Core.Path.{_≡_, sym, ap, ap₂, subst, _∙_}
 use native.Mathlib.Nat.{add-zero}
 use native.Mathlib.Omega.{arith}
 use lib.ListN.{length, getD}
+use Rattle.timetable.specs.Limits.{mostStops}
 use Rattle.timetable.specs.Timetable.{sharesOf, maximumDelay, rowOf}
 use Rattle.plans.specs.Rides.{landsBy}
 use Rattle.plans.specs.Worth.{Valued}
@@ -22,7 +23,7 @@ pub record Aboard (file : List ℕ) (s : SectionPlaces) (tables work : List ℕ)
   pub inside : v .ride .leave < s .rows
   pub to : v .ride .to ≡ rowOf (rowsIn file s) (v .ride .leave) .land
   pub arrives : v .ride .arrives ≡ rowOf (rowsIn file s) (v .ride .leave) .arrival
-  pub stop : v .ride .to < 200
+  pub stop : v .ride .to < mostStops
   pub class : rowOf (rowsIn file s) (v .ride .leave) .class < 16
   pub lands :
       rowOf (rowsIn file s) (v .ride .leave) .arrival + getD tables (256 * rowOf (rowsIn file s) (v .ride .leave) .class + 0) 0
@@ -52,7 +53,7 @@ module _ {file : List ℕ} {s : SectionPlaces} {tables work : List ℕ} (stand :
         inside = below;
         to = k .to;
         arrives = k .arrives;
-        stop = subst (λ j. j < 200) (sym (k .to)) (fits .land);
+        stop = subst (λ j. j < mostStops) (sym (k .to)) (fits .land);
         class = (let z : row .class < 16 = omega (arith, fits .class, stand .few-classes) in z);
         lands = lands;
         minute =

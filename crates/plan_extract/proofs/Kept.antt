@@ -14,7 +14,7 @@ use Rattle.plan_scan.specs.Scanned.{ScanHeld, PairHolds, bestIn}
 
 module _ {old new : List ℕ} (k : SameOutside tripCells stopCells old new) where
   same-start : (stop : ℕ) → stackStart new stop ≡ stackStart old stop
-  same-start stop = ap (λ x. pairCells + 2 * x) (k .behind (2000 + stop) (omega arith))
+  same-start stop = ap (λ x. pairCells + 2 * x) (k .behind (stopCells + stop) (omega arith))
 
   same-size : (stop : ℕ) → stackSize new stop ≡ stackSize old stop
   same-size stop = k .behind (2200 + stop) (omega arith)

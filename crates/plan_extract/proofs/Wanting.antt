@@ -11,6 +11,8 @@ use native.Mathlib.Omega.{arith}
 use borrow.Author.Tests.{leb-true, leb-false}
 use lib.Dec.{leb}
 use lib.ListN.{length, getD}
+use Rattle.plan_cells.specs.Cells.{pairCells}
+use Rattle.timetable.specs.Limits.{mostStops}
 use Rattle.laws.proofs.Alternatives.{or-left, or-right}
 use Rattle.laws.proofs.Tests.{ifb, either}
 use Rattle.plans.specs.Rides.{landsBy}
@@ -142,7 +144,7 @@ module _ {chosen behind : List Valued} {v safe : Valued} (l : Lands chosen behin
         (eq-or-lt-of-le (let z : 0 ≤ k = omega arith in z))
 
     -- the stack of the landing stop, as catching asks for it
-    pub catching : (n : ℕ) → v .ride .to < 200 → 2400 ≤ length work → start + 2 * size ≤ length work → n ≤ 2000
+    pub catching : (n : ℕ) → v .ride .to < mostStops → pairCells ≤ length work → start + 2 * size ≤ length work → n ≤ 2000
         → ((u : Valued) → List·Memᴰ u chosen → u .ride .board < n) → Catching work (v .ride .to) (v .ride .arrives) (landsBy (v .ride))
     catching n stop cells room few rows =
         let lowest = bottom-last (safe-place .0) (safe-place .1 .inside) in

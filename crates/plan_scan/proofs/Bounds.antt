@@ -5,6 +5,7 @@ use mathlib.Core.Path.{_≡_, sym, ap, subst, _∙_}
 use native.Mathlib.Omega.{arith}
 use lib.ListN.{getD}
 use lib.Seq.{slice, slice-empty, length-slice}
+use Rattle.timetable.specs.Limits.{mostStops, mostTrips}
 use Rattle.plans.specs.Chosen.{inTicks, Scan, scan, nextOf}
 use Rattle.plan_cells.specs.Cells.{tripCells, missing, pairCell}
 use Rattle.plan_stacks.specs.Stacks.{stackAt, stackStart, startPair, stackSize}
@@ -31,9 +32,9 @@ module _ (file : List ℕ) (s : SectionPlaces) (goal : Goal) (first end : ℕ) (
 
   -- no row has been weighed: no trip has a next row, the stacks are empty
   pub held-begins :
-      (w : List ℕ) → ((trip : ℕ) → trip < 2000 → getD w (tripCells + trip) 0 ≡ s .rows) → rowWorth w (s .rows) ≡ missing
-      → ((stop : ℕ) → stop < 200 → startPair w stop ≡ suc (s .rows) + below (λ k. countAt k (slice first end (rowsIn file s))) stop)
-      → ((stop : ℕ) → stop < 200 → stackSize w stop ≡ 0) → Held file s goal first end end w
+      (w : List ℕ) → ((trip : ℕ) → trip < mostTrips → getD w (tripCells + trip) 0 ≡ s .rows) → rowWorth w (s .rows) ≡ missing
+      → ((stop : ℕ) → stop < mostStops → startPair w stop ≡ suc (s .rows) + below (λ k. countAt k (slice first end (rowsIn file s))) stop)
+      → ((stop : ℕ) → stop < mostStops → stackSize w stop ≡ 0) → Held file s goal first end end w
   unfolding nextOf atStop stackAt
   held-begins w no-next last starts empty =
       record {
@@ -66,7 +67,7 @@ module _ (file : List ℕ) (s : SectionPlaces) (goal : Goal) (first end : ℕ) (
         stack-inside = λ stop h.
             let start = held .stacks-held stop h .start in
             let few = held .stacks-held stop h .room in
-            let ends = below-later (λ k. countAt k (slice first end (rowsIn file s))) stop 200 h in
-            let total = below-count (slice first end (rowsIn file s)) 200 in
+            let ends = below-later (λ k. countAt k (slice first end (rowsIn file s))) stop mostStops h in
+            let total = below-count (slice first end (rowsIn file s)) mostStops in
             let rows = length-slice first end (rowsIn file s) (omega (arith, stand .rows-count)) in omega arith;
       }

@@ -9,6 +9,7 @@ use native.Mathlib.Omega.{arith}
 use lib.Dec.{eqb, ltb}
 use lib.ListN.{length, getD}
 use borrow.Author.Tests.{eqb-true, eqb-false, ltb-true, ltb-false}
+use Rattle.timetable.specs.Limits.{mostStops}
 use Rattle.laws.proofs.Tests.{ifb}
 use Rattle.timetable.specs.declared.Row.{Row}
 use Rattle.plans.specs.Worth.{Valued}
@@ -33,7 +34,7 @@ use Rattle.plan_stacks.proofs.Stored.{stored-start, stored-size, stored-other, 
 
 -- what is known of a row that has been weighed, and of the rides chosen behind it
 pub record Choosable (row : Row) (i : ℕ) (aim : Aim) (best : Option Valued) (chosen : List Valued) : Type 0 where
-  pub board : row .board < 200
+  pub board : row .board < mostStops
   pub away : row .board ≢ aim .target
   pub boarded : (v : Valued) → best ≡ some v → v .ride .board ≡ i
   pub stop : (v : Valued) → best ≡ some v → v .ride .from ≡ row .board
@@ -56,8 +57,8 @@ worth-some none a b h has = absurd (has h)
 worth-some (some v) a b h has = (v, refl, h .0)
 
 module _ (row : Row) (i : ℕ) (aim : Aim) (best : Option Valued) (chosen : List Valued) (c : Choosable row i aim best chosen) (w : List ℕ)
-    (from : ℕ) (all rest : List Row) (held : (stop : ℕ) → stop < 200 → StackHeld w from all rest chosen stop)
-    (suffix : (stop : ℕ) → countAt stop (row ∷ rest) ≤ countAt stop all) (room : pairCell (from + below (λ s. countAt s all) 200) ≤ length w) where
+    (from : ℕ) (all rest : List Row) (held : (stop : ℕ) → stop < mostStops → StackHeld w from all rest chosen stop)
+    (suffix : (stop : ℕ) → countAt stop (row ∷ rest) ≤ countAt stop all) (room : pairCell (from + below (λ s. countAt s all) mostStops) ≤ length w) where
   own : StackHeld w from all rest chosen (row .board)
   own = held (row .board) (c .board)
 
@@ -73,13 +74,13 @@ module _ (row : Row) (i : ℕ) (aim : Aim) (best : Option Valued) (chosen : List
   pub stored-inside : (k : ℕ) → k ≤ stackSize w (row .board) → stackStart w (row .board) + 2 * k + 1 < length w
   stored-inside k h =
       let region = in-region k h in
-      let ends = below-later (λ s. countAt s all) (row .board) 200 (c .board) in omega arith
+      let ends = below-later (λ s. countAt s all) (row .board) mostStops (c .board) in omega arith
 
   -- other stops' regions lie apart
   Beside : (k j : ℕ) → Type 0
   Beside k j = (j ≡ stackStart w (row .board) + 2 * k → ⊥) × (j ≡ stackStart w (row .board) + 2 * k + 1 → ⊥)
 
-  apart : (k : ℕ) → k ≤ stackSize w (row .board) → (stop : ℕ) → stop < 200 → (row .board ≡ stop → ⊥) → (j : ℕ)
+  apart : (k : ℕ) → k ≤ stackSize w (row .board) → (stop : ℕ) → stop < mostStops → (row .board ≡ stop → ⊥) → (j : ℕ)
       → stackStart w stop ≤ j → j < stackStart w stop + 2 * stackSize w stop → Beside k j
   unfolding Beside
   apart k h stop inside ne j low high =
@@ -102,7 +103,7 @@ module _ (row : Row) (i : ℕ) (aim : Aim) (best : Option Valued) (chosen : List
   elsewhere v stop ne e q = ne (sym (c .stop v e) ∙ q)
 
   -- nothing was stored
-  kept : atStop (row .board) (choose aim best chosen) ≡ atStop (row .board) chosen → (stop : ℕ) → stop < 200
+  kept : atStop (row .board) (choose aim best chosen) ≡ atStop (row .board) chosen → (stop : ℕ) → stop < mostStops
       → StackHeld w from all (row ∷ rest) (choose aim best chosen) stop
   kept same stop h =
       let old = held stop h in
@@ -118,7 +119,7 @@ module _ (row : Row) (i : ℕ) (aim : Aim) (best : Option Valued) (chosen : List
   -- the row's entry was stored k pairs behind the start
   put : (k : ℕ) → k ≤ stackSize w (row .board)
       → entry (keyOf (row .departure) i) (rowWorth w i) ∷ stackAt w (stackStart w (row .board)) k ≡ map entryOf (atStop (row .board) (choose aim best chosen))
-      → (stop : ℕ) → stop < 200 → StackHeld (stored row i k w) from all (row ∷ rest) (choose aim best chosen) stop
+      → (stop : ℕ) → stop < mostStops → StackHeld (stored row i k w) from all (row ∷ rest) (choose aim best chosen) stop
   unfolding Beside
   put k low now stop h =
       ifb (λ b. eqb (row .board) stop ≡ b → StackHeld (stored row i k w) from all (row ∷ rest) (choose aim best chosen) stop) (eqb (row .board) stop)
@@ -169,7 +170,7 @@ module _ (row : Row) (i : ℕ) (aim : Aim) (best : Option Valued) (chosen : List
       topped k under stack now =
           ap₂ (λ (e : Entry) (es : List Entry). e ∷ es) own-entry stack ∙ ap (map entryOf) (sym (to-own (v ∷ under) now))
 
-      first-put : stackSize w (row .board) ≡ 0 → (stop : ℕ) → stop < 200 → StackHeld (stored row i 0 w) from all (row ∷ rest) (choose aim best chosen) stop
+      first-put : stackSize w (row .board) ≡ 0 → (stop : ℕ) → stop < mostStops → StackHeld (stored row i 0 w) from all (row ∷ rest) (choose aim best chosen) stop
       first-put size =
           let stack : stackAt w (stackStart w (row .board)) 0 ≡ map entryOf (atStop (row .board) chosen) =
           subst (λ n. stackAt w (stackStart w (row .board)) n ≡ map entryOf (atStop (row .board) chosen)) size (own .holds) in
@@ -219,7 +220,7 @@ module _ (row : Row) (i : ℕ) (aim : Aim) (best : Option Valued) (chosen : List
           below-first = omega (arith, top-worth)
 
           replace-put : entryDeparture w (stackStart w (row .board)) k ≡ row .departure
-              → (stop : ℕ) → stop < 200 → StackHeld (stored row i k w) from all (row ∷ rest) (choose aim best chosen) stop
+              → (stop : ℕ) → stop < mostStops → StackHeld (stored row i k w) from all (row ∷ rest) (choose aim best chosen) stop
           replace-put same =
               put k (omega arith)
               (topped k (top .rest) (top .below)
@@ -227,7 +228,7 @@ module _ (row : Row) (i : ℕ) (aim : Aim) (best : Option Valued) (chosen : List
               (first-member .1 ∙ sym (c .stop v is)) (sym top-departs ∙ same ∙ sym (c .minute v is))))
 
           ahead-put : (entryDeparture w (stackStart w (row .board)) k ≡ row .departure → ⊥)
-              → (stop : ℕ) → stop < 200 → StackHeld (stored row i (suc k) w) from all (row ∷ rest) (choose aim best chosen) stop
+              → (stop : ℕ) → stop < mostStops → StackHeld (stored row i (suc k) w) from all (row ∷ rest) (choose aim best chosen) stop
           ahead-put other =
               put (suc k) (omega arith)
               (topped (suc k) (top .first ∷ top .rest) (stack ∙ ap (map entryOf) (top .all))
@@ -239,7 +240,7 @@ module _ (row : Row) (i : ℕ) (aim : Aim) (best : Option Valued) (chosen : List
     found has = worth-some best (getD w (pairCell i) 0) (getD w (pairCell i + 1) 0) (pair-holds w i best holds) has
 
     pub stacks-chosen :
-        (w' : List ℕ) → Chose row i w w' → (stop : ℕ) → stop < 200 → StackHeld w' from all (row ∷ rest) (choose aim best chosen) stop
+        (w' : List ℕ) → Chose row i w w' → (stop : ℕ) → stop < mostStops → StackHeld w' from all (row ∷ rest) (choose aim best chosen) stop
     stacks-chosen w' (worthless e q) stop h =
         subst (λ (l : List ℕ). StackHeld l from all (row ∷ rest) (choose aim best chosen) stop) (sym q) (kept (none-chosen e) stop h)
     stacks-chosen w' (alone has size q) stop h =

@@ -7,6 +7,7 @@ use lib.Dec.{eqb}
 use lib.ListN.{length}
 use lib.Seq.{getD-set-same, getD-set-other}
 use borrow.Author.Tests.{eqb-true, eqb-false}
+use Rattle.timetable.specs.Limits.{mostStops}
 use Rattle.timetable.specs.declared.Row.{Row}
 use Rattle.laws.proofs.Tests.{ifb}
 use Rattle.plan_cells.specs.Cells.{stopCells, sizeCells, pairCells}
@@ -18,13 +19,13 @@ use Rattle.plan_scan.proofs.Regions.{count-here, count-elsewhere}
 
 pub record Counting (all rest : List Row) (w w' : List ℕ) : Type 0 where
   pub outside : SameOutside stopCells pairCells w w'
-  pub so-far : (stop : ℕ) → stop < 200 → stackSize w' stop + countAt stop rest ≡ countAt stop all
+  pub so-far : (stop : ℕ) → stop < mostStops → stackSize w' stop + countAt stop rest ≡ countAt stop all
 
-pub counting-begins : (rows : List Row) (w : List ℕ) → ((stop : ℕ) → stop < 200 → stackSize w stop ≡ 0) → Counting rows rows w w
+pub counting-begins : (rows : List Row) (w : List ℕ) → ((stop : ℕ) → stop < mostStops → stackSize w stop ≡ 0) → Counting rows rows w w
 counting-begins rows w empty = record { outside = outside-same stopCells pairCells w; so-far = λ stop h. let e : stackSize w stop ≡ 0 = empty stop h in omega arith }
 
 counts-on :
-    (all rest : List Row) (r : Row) (w : List ℕ) → pairCells ≤ length w → r .board < 200 → (stop : ℕ) → stop < 200
+    (all rest : List Row) (r : Row) (w : List ℕ) → pairCells ≤ length w → r .board < mostStops → (stop : ℕ) → stop < mostStops
     → stackSize w stop + countAt stop (r ∷ rest) ≡ countAt stop all
     → stackSize (withSize w (r .board) (stackSize w (r .board) + 1)) stop + countAt stop rest ≡ countAt stop all
 counts-on all rest r w room board stop h so-far =
@@ -43,7 +44,7 @@ counts-on all rest r w room board stop h so-far =
     omega arith) refl
 
 pub counting-on :
-    (all rest : List Row) (r : Row) (w w' : List ℕ) → pairCells ≤ length w → r .board < 200 → Counting all (r ∷ rest) w w'
+    (all rest : List Row) (r : Row) (w w' : List ℕ) → pairCells ≤ length w → r .board < mostStops → Counting all (r ∷ rest) w w'
     → Counting all rest w (withSize w' (r .board) (stackSize w' (r .board) + 1))
 counting-on all rest r w w' room board c =
     record {

@@ -5,6 +5,7 @@ use mathlib.Core.Path.{_≡_, sym, ap, subst, _∙_}
 use native.Mathlib.Omega.{arith}
 use lib.ListN.{length, getD, set}
 use lib.Seq.{slice, length-slice, getD-set-same, getD-set-other}
+use Rattle.timetable.specs.Limits.{mostStops, mostTrips}
 use Rattle.plan_cells.specs.Cells.{tripCells, stopCells, sizeCells, pairCells, used, missing, filled, pairCell}
 use Rattle.plan_cells.specs.Outside.{SameOutside}
 use Rattle.plan_cells.proofs.Filled.{filled-ahead, filled-inside}
@@ -21,12 +22,12 @@ use Rattle.plan_scan.proofs.Regions.{below-count}
 use Rattle.plan_scan.proofs.Bounds.{held-begins}
 
 -- no trip has a next row, no stop a size
-module _ (n : ℕ) (w w₁ w₂ : List ℕ) (value : ℕ) (room : used n ≤ length w) (is : value ≡ n) (trips-filled : w₁ ≡ filled w tripCells 2000 value)
-    (sizes-filled : w₂ ≡ filled w₁ sizeCells 200 0) where
+module _ (n : ℕ) (w w₁ w₂ : List ℕ) (value : ℕ) (room : used n ≤ length w) (is : value ≡ n) (trips-filled : w₁ ≡ filled w tripCells mostTrips value)
+    (sizes-filled : w₂ ≡ filled w₁ sizeCells mostStops 0) where
   first-stays : SameOutside tripCells (used n) w w₁
   first-stays =
       subst (λ (l : List ℕ). SameOutside tripCells (used n) w l) (sym trips-filled)
-      (outside-wider (omega arith) (omega arith) (outside-filled w tripCells 2000 value (omega arith)))
+      (outside-wider (omega arith) (omega arith) (outside-filled w tripCells mostTrips value (omega arith)))
 
   room₁ : used n ≤ length w₁
   room₁ = omega (arith, first-stays .same-length)
@@ -35,30 +36,30 @@ module _ (n : ℕ) (w w₁ w₂ : List ℕ) (value : ℕ) (room : used n ≤ len
   emptied =
       outside-then first-stays
       (subst (λ (l : List ℕ). SameOutside tripCells (used n) w₁ l) (sym sizes-filled)
-      (outside-wider (omega arith) (omega arith) (outside-filled w₁ sizeCells 200 0 (omega (arith, room₁)))))
+      (outside-wider (omega arith) (omega arith) (outside-filled w₁ sizeCells mostStops 0 (omega (arith, room₁)))))
 
-  pub no-sizes : (stop : ℕ) → stop < 200 → stackSize w₂ stop ≡ 0
-  no-sizes stop h = ap (λ (l : List ℕ). stackSize l stop) sizes-filled ∙ filled-inside w₁ sizeCells 200 0 stop (omega (arith, room₁)) h
+  pub no-sizes : (stop : ℕ) → stop < mostStops → stackSize w₂ stop ≡ 0
+  no-sizes stop h = ap (λ (l : List ℕ). stackSize l stop) sizes-filled ∙ filled-inside w₁ sizeCells mostStops 0 stop (omega (arith, room₁)) h
 
-  pub no-next : (trip : ℕ) → trip < 2000 → getD w₂ (tripCells + trip) 0 ≡ n
+  pub no-next : (trip : ℕ) → trip < mostTrips → getD w₂ (tripCells + trip) 0 ≡ n
   no-next trip h =
-      ap (λ (l : List ℕ). getD l (tripCells + trip) 0) sizes-filled ∙ filled-ahead w₁ sizeCells 200 0 (tripCells + trip) (omega (arith, room₁)) (omega arith)
-      ∙ ap (λ (l : List ℕ). getD l (tripCells + trip) 0) trips-filled ∙ filled-inside w tripCells 2000 value trip (omega arith) h ∙ is
+      ap (λ (l : List ℕ). getD l (tripCells + trip) 0) sizes-filled ∙ filled-ahead w₁ sizeCells mostStops 0 (tripCells + trip) (omega (arith, room₁)) (omega arith)
+      ∙ ap (λ (l : List ℕ). getD l (tripCells + trip) 0) trips-filled ∙ filled-inside w tripCells mostTrips value trip (omega arith) h ∙ is
 
 module _ (file : List ℕ) (s : SectionPlaces) (goal : Goal) (first end : ℕ) (stand : FileReadable file s) (inside : end ≤ s .rows) (w₂ w₃ : List ℕ)
     (room : used (s .rows) ≤ length w₂) (counted : Counted (slice first end (rowsIn file s)) w₂ w₃) where
-  below-counts : (k : ℕ) → k ≤ 200 → below (stackSize w₃) k ≡ below (λ stop. countAt stop (slice first end (rowsIn file s))) k
+  below-counts : (k : ℕ) → k ≤ mostStops → below (stackSize w₃) k ≡ below (λ stop. countAt stop (slice first end (rowsIn file s))) k
   below-counts k h = below-same (stackSize w₃) (λ stop. countAt stop (slice first end (rowsIn file s))) k (λ stop l. counted .counts stop (omega arith))
 
   -- the regions are as many pairs as the rows are at most
-  pub parts-fit : s .rows + 1 + below (stackSize w₃) 200 < 4294967296
+  pub parts-fit : s .rows + 1 + below (stackSize w₃) mostStops < 4294967296
   parts-fit =
-      let same = below-counts 200 (let z : 200 ≤ 200 = omega arith in z) in
-      let few = below-count (slice first end (rowsIn file s)) 200 in
+      let same = below-counts mostStops (let z : mostStops ≤ mostStops = omega arith in z) in
+      let few = below-count (slice first end (rowsIn file s)) mostStops in
       let rows = length-slice first end (rowsIn file s) (omega (arith, stand .rows-count)) in
       omega (arith, stand .few-rows)
 
-  module _ (w₄ : List ℕ) (parted : Parted (s .rows + 1) w₃ w₄) (no-next : (trip : ℕ) → trip < 2000 → getD w₂ (tripCells + trip) 0 ≡ s .rows) where
+  module _ (w₄ : List ℕ) (parted : Parted (s .rows + 1) w₃ w₄) (no-next : (trip : ℕ) → trip < mostTrips → getD w₂ (tripCells + trip) 0 ≡ s .rows) where
     -- pair n holds no worth
     abbrev pub closed : List ℕ
     closed = set w₄ (pairCell (s .rows)) missing

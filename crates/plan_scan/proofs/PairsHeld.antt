@@ -9,6 +9,7 @@ use lib.Dec.{eqb}
 use lib.ListN.{length, getD, set, length-set}
 use lib.Seq.{getD-set-same, getD-set-other}
 use borrow.Author.Tests.{eqb-true, eqb-false, eq-eqb, ne-eqb, lt-ltb, le-ltb}
+use Rattle.timetable.specs.Limits.{mostTrips}
 use Rattle.laws.proofs.Tests.{ifb, cond-true, cond-false}
 use Rattle.timetable.specs.declared.Row.{Row}
 use Rattle.plans.specs.Rides.{Ride}
@@ -69,7 +70,7 @@ module _ (i : ℕ) (row : Row) (r : Ride) (at-row : r .leave ≡ i) where
 abbrev pub inFront : Row → Option Valued → Scan → List Valued → Scan
 inFront row best later chosen = record { weighed = record { trip = row .trip; best = best } ∷ later .weighed; chosen = chosen }
 
-module _ (w : List ℕ) (n i end : ℕ) (row : Row) (trip : row .trip < 2000) (below : i < end) (inside : end ≤ n) (room : used n ≤ length w) where
+module _ (w : List ℕ) (n i end : ℕ) (row : Row) (trip : row .trip < mostTrips) (below : i < end) (inside : end ≤ n) (room : used n ≤ length w) where
   -- the pair of row i and its trip's cell, after other stores at places that hold no pair of a later row
   entered-cell : (a b : ℕ) → getD (paired (entered w (row .trip) i) i a b) (tripCells + row .trip) 0 ≡ i
   entered-cell a b =
@@ -119,7 +120,7 @@ module _ (w : List ℕ) (n i end : ℕ) (row : Row) (trip : row .trip < 2000) (b
         }
 
     next-elsewhere :
-        (t : ℕ) → t < 2000 → (row .trip ≡ t → ⊥)
+        (t : ℕ) → t < mostTrips → (row .trip ≡ t → ⊥)
         → NextHolds (paired (entered w (row .trip) i) i a b) n i t (nextOf (inFront row best later chosen .weighed) t)
     unfolding nextOf
     next-elsewhere t small apart =
@@ -210,11 +211,11 @@ pairs-kept w w' n i end sc inside held ahead behind =
     at j best h = pair-same w w' j best (behind (pairCell j) (omega arith) (omega arith)) (behind (pairCell j + 1) (omega arith) (omega arith))
 
 -- weighing stores in cells that planning uses
-entered-stays : (n i trip a b : ℕ) (w : List ℕ) → trip < 2000 → i < n → SameOutside tripCells (used n) w (paired (entered w trip i) i a b)
+entered-stays : (n i trip a b : ℕ) (w : List ℕ) → trip < mostTrips → i < n → SameOutside tripCells (used n) w (paired (entered w trip i) i a b)
 entered-stays n i trip a b w small h =
     outside-then (outside-set w (tripCells + trip) i (omega arith) (omega arith)) (outside-two (entered w trip i) (pairCell i) a b (omega arith) (omega arith))
 
-pub weighs-stays : (n : ℕ) (row : Row) (i off : ℕ) (w w' : List ℕ) → row .trip < 2000 → i < n → Weighs row i off w w'
+pub weighs-stays : (n : ℕ) (row : Row) (i off : ℕ) (w w' : List ℕ) → row .trip < mostTrips → i < n → Weighs row i off w w'
     → SameOutside tripCells (used n) w w'
 weighs-stays n row i off w w' small h (gets-off less e) =
     subst (λ (l : List ℕ). SameOutside tripCells (used n) w l) (sym e) (entered-stays n i (row .trip) off i w small h)

@@ -10,6 +10,7 @@ use denote.Ref.{now}
 use denote.Triple.Clauses.{AtExit}
 use lib.ListN.{length, getD}
 use borrow.Fn.Kinds.{Dens, resT, endedOf}
+use Rattle.timetable.specs.Limits.{mostStops}
 use Rattle.plans.specs.Worth.{Valued}
 use Rattle.plan_cells.specs.Cells.{used, missing, pairCell}
 use Rattle.plan_stacks.specs.Stacks.{stackOf}
@@ -32,7 +33,7 @@ same-leave w w' i (some v) one other has = one .1 ∙ sym (other .1)
 pub record SameScan (n first end : ℕ) (w w' : List ℕ) : Type 0 where
   pub worths : (i : ℕ) → first ≤ i → i < end → rowWorth w i ≡ rowWorth w' i
   pub leaves : (i : ℕ) → first ≤ i → i < end → (rowWorth w i ≡ missing → ⊥) → getD w (pairCell i + 1) 0 ≡ getD w' (pairCell i + 1) 0
-  pub stacks : (stop : ℕ) → stop < 200 → stackOf w stop ≡ stackOf w' stop
+  pub stacks : (stop : ℕ) → stop < mostStops → stackOf w stop ≡ stackOf w' stop
   pub lengths : length w ≡ length w'
   pub rest : (i : ℕ) → used n ≤ i → getD w i 0 ≡ getD w' i 0
 

@@ -8,6 +8,7 @@ use native.Mathlib.Nat.{suc-pred-eq-of-pos}
 use native.Mathlib.Omega.{arith}
 use lib.ListN.{length, getD}
 use lib.Seq.{slice, slice-cons, length-slice}
+use Rattle.timetable.specs.Limits.{mostStops}
 use Rattle.timetable.specs.Timetable.{rowOf, noRow, sharesOf}
 use Rattle.timetable.specs.declared.Row.{Row}
 use Rattle.plans.specs.Worth.{Valued, arrivalWorth, changeWorth}
@@ -49,8 +50,8 @@ module _ (file : List ℕ) (s : SectionPlaces) (goal : Goal) (first end : ℕ) (
   all-few : length (slice first end rows) ≤ s .rows
   all-few = omega (arith, length-slice first end rows (omega (arith, stand .rows-count)))
 
-  regions-end : pairCell (suc (s .rows) + below (λ stop. countAt stop (slice first end rows)) 200) ≤ used (s .rows)
-  regions-end = let few = below-count (slice first end rows) 200 in omega (arith, all-few)
+  regions-end : pairCell (suc (s .rows) + below (λ stop. countAt stop (slice first end rows)) mostStops) ≤ used (s .rows)
+  regions-end = let few = below-count (slice first end rows) mostStops in omega (arith, all-few)
 
   front : (i : ℕ) → i < end → slice i end rows ≡ rowAt i ∷ slice (suc i) end rows
   front i h = slice-cons i end rows noRow h (omega (arith, stand .rows-count))
@@ -73,14 +74,14 @@ module _ (file : List ℕ) (s : SectionPlaces) (goal : Goal) (first end : ℕ) (
         }
 
     stack-in :
-        (stop : ℕ) → stop < 200 → StackHeld w (suc (s .rows)) (slice first end rows) (slice (suc i) end rows) (after (suc i) .chosen) stop
+        (stop : ℕ) → stop < mostStops → StackHeld w (suc (s .rows)) (slice first end rows) (slice (suc i) end rows) (after (suc i) .chosen) stop
         → stackStart w stop + 2 * stackSize w stop ≤ used (s .rows)
     stack-in stop h held =
         let start = held .start in
         let few = held .room in
         let more = suffix stop in
         let fewer = count-more stop (rowAt i) (slice (suc i) end rows) in
-        let ends = below-later (λ k. countAt k (slice first end rows)) stop 200 h in
+        let ends = below-later (λ k. countAt k (slice first end rows)) stop mostStops h in
         omega (arith, regions-end)
 
     -- the row can be got off
@@ -127,7 +128,7 @@ module _ (file : List ℕ) (s : SectionPlaces) (goal : Goal) (first end : ℕ) (
           weighs-other w (s .rows) i end (rowAt i) (fits .trip) high inside room w' (cellOf (offInTicks goal (ownRide file s i) (after (suc i) .chosen))) k weighs
 
       pub stacks-after :
-          (stop : ℕ) → stop < 200
+          (stop : ℕ) → stop < mostStops
           → StackHeld w' (suc (s .rows)) (slice first end rows) (slice (suc i) end rows) (after (suc i) .chosen) stop
       stacks-after stop h =
           let old = held .stacks-held stop h in
@@ -146,7 +147,7 @@ module _ (file : List ℕ) (s : SectionPlaces) (goal : Goal) (first end : ℕ) (
     -- a row that boards at the target is not chosen
     pub held-unchosen :
         rowAt i .board ≡ goal .target → PairsHeld w (s .rows) i end (after i)
-        → ((stop : ℕ) → stop < 200 → StackHeld w (suc (s .rows)) (slice first end rows) (slice (suc i) end rows) (after (suc i) .chosen) stop)
+        → ((stop : ℕ) → stop < mostStops → StackHeld w (suc (s .rows)) (slice first end rows) (slice (suc i) end rows) (after (suc i) .chosen) stop)
         → Held file s goal first end i w
     held-unchosen there pairs-held stacks =
         let same : after i .chosen ≡ after (suc i) .chosen =
@@ -165,7 +166,7 @@ module _ (file : List ℕ) (s : SectionPlaces) (goal : Goal) (first end : ℕ) (
         }
 
     module _ (away : rowAt i .board ≢ goal .target)
-        (stacks : (stop : ℕ) → stop < 200 → StackHeld w (suc (s .rows)) (slice first end rows) (slice (suc i) end rows) (after (suc i) .chosen) stop) where
+        (stacks : (stop : ℕ) → stop < mostStops → StackHeld w (suc (s .rows)) (slice first end rows) (slice (suc i) end rows) (after (suc i) .chosen) stop) where
       choosable : Choosable (rowAt i) i (inTicks goal) (bestRow file s goal end i) (after (suc i) .chosen)
       choosable =
           record {
@@ -179,7 +180,7 @@ module _ (file : List ℕ) (s : SectionPlaces) (goal : Goal) (first end : ℕ) (
             rising = λ v m. rising-behind file s goal end stand inside i high v m;
           }
 
-      regions-room : pairCell (suc (s .rows) + below (λ stop. countAt stop (slice first end rows)) 200) ≤ length w
+      regions-room : pairCell (suc (s .rows) + below (λ stop. countAt stop (slice first end rows)) mostStops) ≤ length w
       regions-room = omega (arith, regions-end)
 
       region-used : (k : ℕ) → k ≤ stackSize w (rowAt i .board) → stackStart w (rowAt i .board) + 2 * k + 1 < used (s .rows)
@@ -189,7 +190,7 @@ module _ (file : List ℕ) (s : SectionPlaces) (goal : Goal) (first end : ℕ) (
           let few = own .room in
           let more = suffix (rowAt i .board) in
           let here = count-here (rowAt i .board) (rowAt i) (slice (suc i) end rows) refl in
-          let ends = below-later (λ stop. countAt stop (slice first end rows)) (rowAt i .board) 200 (fits .board) in
+          let ends = below-later (λ stop. countAt stop (slice first end rows)) (rowAt i .board) mostStops (fits .board) in
           omega (arith, regions-end)
 
       pub pushable : Pushable (rowAt i) i w

@@ -6,6 +6,7 @@ use mathlib.Core.Path.{_≡_, sym, ap, subst, _∙_}
 use native.Mathlib.Omega.{arith}
 use lib.ListN.{length}
 use lib.Seq.{slice}
+use Rattle.timetable.specs.Limits.{mostStops}
 use Rattle.timetable.specs.Timetable.{rowOf, sharesOf}
 use Rattle.timetable.specs.declared.Row.{Row}
 use Rattle.plans.specs.Worth.{Valued}
@@ -28,7 +29,7 @@ use Rattle.plan_scan.proofs.Step.{weighable, ready, off-same, pairs-aft
 pub record Weighed (file : List ℕ) (s : SectionPlaces) (goal : Goal) (first end i : ℕ) (w w' : List ℕ) : Type 0 where
   pub pairs-held : PairsHeld w' (s .rows) i end (scanIn file s goal i end)
   pub stacks-held :
-      (stop : ℕ) → stop < 200
+      (stop : ℕ) → stop < mostStops
       → StackHeld w' (suc (s .rows)) (slice first end (rowsIn file s)) (slice (suc i) end (rowsIn file s)) (scanIn file s goal (suc i) end .chosen) stop
   pub stays : SameOutside tripCells (used (s .rows)) w w'
 

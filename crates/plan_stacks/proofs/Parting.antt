@@ -7,6 +7,7 @@ use lib.Dec.{eqb}
 use lib.ListN.{length, set, length-set}
 use lib.Seq.{getD-set-same, getD-set-other}
 use borrow.Author.Tests.{eqb-true, eqb-false}
+use Rattle.timetable.specs.Limits.{mostStops}
 use Rattle.laws.proofs.Tests.{ifb}
 use Rattle.plan_cells.specs.Cells.{stopCells, sizeCells, pairCells}
 use Rattle.plan_cells.specs.Outside.{SameOutside}
@@ -18,7 +19,7 @@ pub record Parting (from stop : ℕ) (w w' : List ℕ) : Type 0 where
   pub outside : SameOutside stopCells pairCells w w'
   pub starts : (k : ℕ) → k < stop → startPair w' k ≡ from + below (stackSize w) k
   pub empty : (k : ℕ) → k < stop → stackSize w' k ≡ 0
-  pub left : (k : ℕ) → stop ≤ k → k < 200 → stackSize w' k ≡ stackSize w k
+  pub left : (k : ℕ) → stop ≤ k → k < mostStops → stackSize w' k ≡ stackSize w k
 
 pub parting-begins : (from : ℕ) (w : List ℕ) → Parting from 0 w w
 parting-begins from w =
@@ -33,7 +34,7 @@ parting-begins from w =
 abbrev pub partedNext : (stop start : ℕ) → List ℕ → List ℕ
 partedNext stop start w = set (set w (stopCells + stop) start) (sizeCells + stop) 0
 
-module _ (from stop start : ℕ) (w w' : List ℕ) (room : pairCells ≤ length w') (inside : stop < 200) where
+module _ (from stop start : ℕ) (w w' : List ℕ) (room : pairCells ≤ length w') (inside : stop < mostStops) where
   next-start : startPair (partedNext stop start w') stop ≡ start
   next-start =
       getD-set-other (set w' (stopCells + stop) start) (sizeCells + stop) (stopCells + stop) 0 0 (λ e. omega arith)
@@ -42,12 +43,12 @@ module _ (from stop start : ℕ) (w w' : List ℕ) (room : pairCells ≤ length 
   next-size : stackSize (partedNext stop start w') stop ≡ 0
   next-size = getD-set-same (set w' (stopCells + stop) start) (sizeCells + stop) 0 0 (omega (arith, length-set w' (stopCells + stop) start))
 
-  kept-start : (k : ℕ) → k < 200 → (k ≡ stop → ⊥) → startPair (partedNext stop start w') k ≡ startPair w' k
+  kept-start : (k : ℕ) → k < mostStops → (k ≡ stop → ⊥) → startPair (partedNext stop start w') k ≡ startPair w' k
   kept-start k h ne =
       getD-set-other (set w' (stopCells + stop) start) (sizeCells + stop) (stopCells + k) 0 0 (λ e. omega arith)
       ∙ getD-set-other w' (stopCells + stop) (stopCells + k) start 0 (λ e. ne (omega arith))
 
-  kept-size : (k : ℕ) → k < 200 → (k ≡ stop → ⊥) → stackSize (partedNext stop start w') k ≡ stackSize w' k
+  kept-size : (k : ℕ) → k < mostStops → (k ≡ stop → ⊥) → stackSize (partedNext stop start w') k ≡ stackSize w' k
   kept-size k h ne =
       getD-set-other (set w' (stopCells + stop) start) (sizeCells + stop) (sizeCells + k) 0 0 (λ e. ne (omega arith))
       ∙ getD-set-other w' (stopCells + stop) (sizeCells + k) start 0 (λ e. omega arith)

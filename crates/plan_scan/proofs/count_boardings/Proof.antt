@@ -5,6 +5,7 @@ use mathlib.Core.Path.{_≡_, sym, ap, ap₂, subst, _∙_}
 use native.Mathlib.Numerals.{add-one}
 use native.Mathlib.Omega.{arith}
 use lib.Seq.{slice, slice-empty, slice-cons, length-slice}
+use Rattle.timetable.specs.Limits.{mostStops}
 use Rattle.timetable.specs.Timetable.{noRow}
 use Rattle.timetable.specs.declared.Row.{Row}
 use Rattle.plan_rows.specs.Reading.{rowsIn}
@@ -29,10 +30,10 @@ nth-row-requires : tie.Need-nth-row-requires Inv-loop μ-loop
 nth-row-requires c κs = (c .before .before .before .before .pre .0, omega arith)
 
 -- the row that is counted
-boards : (c : tie.After-nth-row Inv-loop μ-loop) → c .nth-row .result .board < 200
+boards : (c : tie.After-nth-row Inv-loop μ-loop) → c .nth-row .result .board < mostStops
 boards c =
     let a = c .before .before .before .before .before in
-    subst (λ (r : Row). r .board < 200) (sym (c .nth-row .ensures .0)) (a .pre .0 .row-fits (c .before .before .loop .i) (omega arith) .board)
+    subst (λ (r : Row). r .board < mostStops) (sym (c .nth-row .ensures .0)) (a .pre .0 .row-fits (c .before .before .loop .i) (omega arith) .board)
 
 few : (c : tie.After-nth-row Inv-loop μ-loop) → stackSize (c .before .before .loop .work) (c .nth-row .result .board) ≤ 2000
 few c =

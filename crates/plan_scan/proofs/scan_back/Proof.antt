@@ -5,6 +5,7 @@ use mathlib.Core.Path.{_≡_}
 use native.Mathlib.Omega.{arith}
 use borrow.Author.Needs.{needs}
 use lib.ListN.{length, getD, set}
+use Rattle.timetable.specs.Limits.{mostStops, mostTrips}
 use Rattle.plan_cells.specs.Cells.{tripCells, used, missing, pairCell}
 use Rattle.plan_cells.specs.Outside.{SameOutside}
 use Rattle.plan_cells.proofs.Outside.{outside-then}
@@ -50,13 +51,13 @@ emptied-here c =
 room-here : (c : tie.After-fill2) → used (begun c .args .s .rows) ≤ length (c .fill2 .last .0)
 room-here c = omega (arith, begun c .pre .4, emptied-here c .same-length)
 
-no-sizes-here : (c : tie.After-fill2) → (stop : ℕ) → stop < 200 → stackSize (c .fill2 .last .0) stop ≡ 0
+no-sizes-here : (c : tie.After-fill2) → (stop : ℕ) → stop < mostStops → stackSize (c .fill2 .last .0) stop ≡ 0
 no-sizes-here c =
     let n = c .before .before .before .before .before .cell in
     no-sizes (begun c .args .s .rows) (begun c .args .work .now) (filled-trips c) (c .fill2 .last .0) (n .result) (begun c .pre .4) (n .ensures)
     (c .before .before .before .before .fill .ensures) (c .fill2 .ensures)
 
-no-next-here : (c : tie.After-fill2) → (trip : ℕ) → trip < 2000 → getD (c .fill2 .last .0) (tripCells + trip) 0 ≡ begun c .args .s .rows
+no-next-here : (c : tie.After-fill2) → (trip : ℕ) → trip < mostTrips → getD (c .fill2 .last .0) (tripCells + trip) 0 ≡ begun c .args .s .rows
 no-next-here c =
     let n = c .before .before .before .before .before .cell in
     no-next (begun c .args .s .rows) (begun c .args .work .now) (filled-trips c) (c .fill2 .last .0) (n .result) (begun c .pre .4) (n .ensures)

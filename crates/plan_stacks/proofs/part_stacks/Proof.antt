@@ -5,6 +5,7 @@ use mathlib.Core.Path.{_≡_, _∙_}
 use native.Mathlib.Omega.{arith}
 use lib.ListN.{getD, set, length-set}
 use lib.Seq.{getD-set-other}
+use Rattle.timetable.specs.Limits.{mostStops}
 use Rattle.plan_cells.specs.Cells.{stopCells, sizeCells}
 use Rattle.plan_stacks.specs.Stacks.{stackSize}
 use Rattle.plan_stacks.specs.Regions.{below}
@@ -14,10 +15,10 @@ use Rattle.plan_stacks.proofs.part_stacks.Statement.{statement}
 use Rattle.plan_stacks.proofs.part_stacks.Tie as tie
 
 abbrev Inv-loop : tie.InvT-loop
-Inv-loop from work₀ stop₀ start₀ work stop start = (stop ≤ 200) × (start ≡ from + below (stackSize work₀) stop) × Parting from stop work₀ work
+Inv-loop from work₀ stop₀ start₀ work stop start = (stop ≤ mostStops) × (start ≡ from + below (stackSize work₀) stop) × Parting from stop work₀ work
 
 abbrev μ-loop : tie.MeasureT-loop
-μ-loop from work₀ stop₀ start₀ work stop start = 200 - stop
+μ-loop from work₀ stop₀ start₀ work stop start = mostStops - stop
 
 cell-requires : tie.Need-cell-requires Inv-loop μ-loop
 cell-requires c κs = omega arith
@@ -64,7 +65,7 @@ slice-read-start c = simp length-set (omega (arith, c .before .before .loop .inv
 add-start-2 : tie.Need-add-start-2 Inv-loop μ-loop
 add-start-2 c =
     let a = c .before .before .before .before .before .args in
-    omega (arith, size-left c, below-later (stackSize (a .work .now)) (c .before .before .loop .stop) 200 (omega arith))
+    omega (arith, size-left c, below-later (stackSize (a .work .now)) (c .before .before .loop .stop) mostStops (omega arith))
 
 add-work-2 : tie.Need-add-work-2 Inv-loop μ-loop
 add-work-2 c = omega arith
