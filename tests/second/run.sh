@@ -8,9 +8,11 @@ here=$(cd "$(dirname "$0")" && pwd)
 place=$(mktemp -d)
 trap 'rm -rf "$place"' EXIT
 build="${CXX:-g++} -std=c++17 -O2 -Wall -Wextra"
+# all parts at once; one that fails is missed when they are linked
 for part in file_check house rides worths plan sheet safe_plans walk generate; do
-  $build -c "$here/$part.cpp" -o "$place/$part.o"
+  $build -c "$here/$part.cpp" -o "$place/$part.o" &
 done
+wait
 alone="$here/calls.cpp -DWITHOUT_SUBJECT"
 $build "$here/cases.cpp" $alone "$place"/*.o -o "$place/cases"
 ${RUN:-} "$place/cases"
