@@ -1,53 +1,97 @@
-/* A booking desk in C99: plans case W and prints each ride of the plan. */
+/*
+ * A booking desk in C99: plans a query and prints its sheet.
+ *   host FILE SOURCE TARGET MINUTE [BOUND]
+ * FILE is a sailing file; the others are numbers, as sayurimpak_plan takes them.
+ * The exit status is 0 after a whole sheet, 1 after a refusal, 2 otherwise.
+ */
+#include <errno.h>
 #include <inttypes.h>
 #include <stdio.h>
+#include <stdlib.h>
+#include <string.h>
 
 #include "sayurimpak.h"
 
-/* Case W: three stops, two classes, four rows. */
-static const uint8_t SAILINGS[] = {
-    /* rows: boarding stop, landing stop, departure, arrival, trip, class */
-    0, 0, 1, 0, 0x58, 0x02, 0x76, 0x02, 0, 0, 1, 0, /* 0 to 1, 600 to 630 */
-    1, 0, 2, 0, 0x78, 0x02, 0x94, 0x02, 1, 0, 0, 0, /* 1 to 2, 632 to 660 */
-    1, 0, 2, 0, 0x7c, 0x02, 0xbc, 0x02, 2, 0, 0, 0, /* 1 to 2, 636 to 700 */
-    1, 0, 2, 0, 0x8a, 0x02, 0xb2, 0x02, 3, 0, 0, 0, /* 1 to 2, 650 to 690 */
-    /* class 0: never late */
-    0, 0, 0x00, 0x10,
-    /* class 1: at most 10 minutes late; half on time, a quarter 5, a quarter 10 */
-    10, 0, 0x00, 0x08, 0, 0, 0, 0, 0, 0, 0, 0, 0x00, 0x04, 0, 0, 0, 0, 0, 0, 0,
-    0, 0x00, 0x04,
-    /* trailer: version, stops, rows, classes, where rows and tables start */
-    1, 0, 3, 0, 4, 0, 2, 0, 0, 0, 0, 0, 48, 0, 0, 0};
+enum { REFUSED = 1, TROUBLE = 2 };
 
-/* Four bytes, the lowest first. */
-static uint32_t number_at(const uint8_t *bytes) {
-  return (uint32_t)bytes[0] | (uint32_t)bytes[1] << 8 |
-         (uint32_t)bytes[2] << 16 | (uint32_t)bytes[3] << 24;
+/* One byte more than the longest file, so that a longer one is seen as such. */
+static uint8_t file[SAYURIMPAK_LONGEST_FILE + 1];
+static uint8_t plan[SAYURIMPAK_MOST_BYTES];
+
+static int trouble(const char *what, const char *why) {
+  fprintf(stderr, "host: %s: %s\n", what, why);
+  return TROUBLE;
 }
 
-/* A worth in ticks, rounded up to a minute. */
-static void print_arrival(uint32_t ticks) {
-  const uint32_t minute = (ticks + 255) / 256;
-  printf("d%" PRIu32 " %02" PRIu32 ":%02" PRIu32, minute / 1440 + 1,
-         minute % 1440 / 60, minute % 60);
+/* Reads the file's bytes; whether that went well. */
+static int read_file(const char *path, size_t *length) {
+  FILE *in = fopen(path, "rb");
+  if (in == NULL) return 0;
+  *length = fread(file, 1, sizeof file, in);
+  const int well = !ferror(in);
+  fclose(in);
+  return well;
 }
 
-int main(void) {
-  static uint8_t out[SAYURIMPAK_MOST_BYTES];
-  const uint32_t answer = sayurimpak_plan(SAILINGS, sizeof SAILINGS, 0, 2, 590,
-                                          0, out, sizeof out);
-  if (answer > SAYURIMPAK_REFUSED) {
-    printf("refused %" PRIu32 "\n", answer - SAYURIMPAK_REFUSED);
-    return 1;
+/* A number of plain digits that fits 32 bits; whether the word is one. */
+static int read_number(const char *word, uint32_t *number) {
+  if (*word == '\0' || strspn(word, "0123456789") != strlen(word)) return 0;
+  errno = 0;
+  const unsigned long long value = strtoull(word, NULL, 10);
+  if (errno != 0 || value > UINT32_MAX) return 0;
+  *number = (uint32_t)value;
+  return 1;
+}
+
+static void print_time(const char *before, uint32_t minute) {
+  const struct sayurimpak_time time = sayurimpak_time(minute);
+  printf("%sd%" PRIu32 " %02" PRIu32 ":%02" PRIu32, before, time.day, time.hour,
+         time.minute);
+}
+
+static void print_ride(size_t length, struct sayurimpak_ride ride) {
+  const struct sayurimpak_row board =
+      sayurimpak_row(file, length, ride.boarding_row);
+  const struct sayurimpak_row leave =
+      sayurimpak_row(file, length, ride.leaving_row);
+  printf("%" PRIu32, board.boarding_stop);
+  print_time(" ", board.departure);
+  printf(" %" PRIu32, leave.landing_stop);
+  print_time(" ", leave.arrival);
+  print_time(" ", sayurimpak_minute(ride.worth));
+  printf("\n");
+}
+
+/* The sheet: rides, expected and latest arrival, then a line a ride. */
+static void print_sheet(size_t length, uint32_t rides) {
+  printf("plan %" PRIu32, rides);
+  print_time(" ", sayurimpak_minute(sayurimpak_ride(plan, 0).worth));
+  print_time(" ", sayurimpak_latest(file, length, plan, rides));
+  printf("\n");
+  for (uint32_t place = 0; place < rides; place++)
+    print_ride(length, sayurimpak_ride(plan, place));
+}
+
+int main(int count, char **words) {
+  uint32_t asked[4] = {0, 0, 0, 0};
+  size_t length;
+  if (count != 5 && count != 6)
+    return trouble("usage", "host FILE SOURCE TARGET MINUTE [BOUND]");
+  for (int place = 2; place < count; place++)
+    if (!read_number(words[place], &asked[place - 2]))
+      return trouble(words[place], "not a number");
+  if (!read_file(words[1], &length))
+    return trouble(words[1], "cannot be read");
+  const uint32_t answer = sayurimpak_plan(file, length, asked[0], asked[1],
+                                          asked[2], asked[3], plan, sizeof plan);
+  if (answer < SAYURIMPAK_REFUSED) {
+    print_sheet(length, answer);
+  } else {
+    const uint32_t number = answer - SAYURIMPAK_REFUSED;
+    printf("refused %" PRIu32 "\n", number);
+    fprintf(stderr, "host: %s\n", sayurimpak_refusal_words(number));
   }
-  printf("%" PRIu32 " rides\n", answer);
-  for (uint32_t i = 0; i < answer; i++) {
-    const uint8_t *ride = out + (size_t)SAYURIMPAK_RIDE_BYTES * i;
-    const uint32_t board = number_at(ride + SAYURIMPAK_BOARDING_ROW);
-    const uint32_t leave = number_at(ride + SAYURIMPAK_LEAVING_ROW);
-    printf("board row %" PRIu32 ", leave row %" PRIu32 ", expect ", board, leave);
-    print_arrival(number_at(ride + SAYURIMPAK_WORTH));
-    printf("\n");
-  }
-  return 0;
+  if (fflush(stdout) != 0 || ferror(stdout))
+    return trouble("standard output", "could not be written");
+  return answer < SAYURIMPAK_REFUSED ? 0 : REFUSED;
 }

@@ -4,11 +4,14 @@
  * One call reads a sailing file, finds the safe plan whose expected arrival is
  * earliest and writes it to bytes of yours. It is proved, for every file, query
  * and room, that the answer and every byte of `out` afterwards are what this
- * page says.
+ * page says. The small readers at the end are plain C and not proved; they are
+ * run against the sheet program.
  *
- * Build:   cc -std=c99 host.c libsayurimpak.a -o host
- * (the archive is for x86-64 Linux, and `rt staticlib sayurimpak` writes it to
- * target/staticlib/)
+ * Build, with the archive's lib/pkgconfig on PKG_CONFIG_PATH:
+ *   cc -std=c99 host.c $(pkg-config --cflags --libs sayurimpak) -o host
+ * or without:
+ *   cc -std=c99 -Iinclude host.c lib/libsayurimpak.a -o host
+ * The library is for x86-64 Linux.
  */
 #ifndef SAYURIMPAK_H
 #define SAYURIMPAK_H
@@ -19,6 +22,32 @@
 #ifdef __cplusplus
 extern "C" {
 #endif
+
+/* Of this header and the library beside it: it rises with every call added. */
+#define SAYURIMPAK_VERSION 1
+
+/*
+ * The sailing file
+ * ----------------
+ * Numbers are little-endian: u16 of two bytes, u32 of four.
+ *   The last 16 bytes are the trailer:
+ *     byte 0 version (u16, 1)      byte 2 stops (u16)     byte 4 rows (u16)
+ *     byte 6 classes (u16)         byte 8 where the rows start (u32)
+ *     byte 12 where the class blocks start (u32)
+ *   A row is six u16, 12 bytes:
+ *     byte 0 boarding stop         byte 2 landing stop    byte 4 departure
+ *     byte 6 arrival               byte 8 trip            byte 10 class
+ *   A class block, one behind the other: its maximum delay M (u16), then M + 1
+ *   shares (u16), of 4,096 landings those exactly 0, 1, .. M minutes late.
+ * Stops, rows, trips and classes count from 0, minutes from the midnight that
+ * opens day 1; a day has 1,440. docs/FORMAT.md has every rule and limit.
+ */
+#define SAYURIMPAK_LONGEST_FILE 27920u
+#define SAYURIMPAK_TRAILER_BYTES 16u
+#define SAYURIMPAK_ROW_BYTES 12u
+#define SAYURIMPAK_DAY_MINUTES 1440u
+#define SAYURIMPAK_LAST_MINUTE 10079u
+#define SAYURIMPAK_TICKS_A_MINUTE 256u
 
 /*
  * What a call answers
@@ -31,7 +60,8 @@ extern "C" {
  *   1  the file's length is not 20 to 27,920 bytes, or its trailer has another
  *      version than 1, or stops (2 to 200), rows (0 to 2,000) or classes (1 to
  *      16) out of range.
- *      -> Is it a sailing file at all, and whole? Ask for it again.
+ *      -> Is it a sailing file, and whole? If it counts too many rows, fewer
+ *         days in one file help.
  *   2  a class block runs past the trailer's start, or the two sections do not
  *      join: one starts at 0, the other where it ends, the second ends where
  *      the trailer starts.
@@ -44,24 +74,39 @@ extern "C" {
  *   5  a row departs before the row ahead of it, or does not carry on where
  *      and when its trip last landed.
  *      (4 and 5 are looked for row by row, 4 first.)
- *      -> 2 to 5: the file was made wrongly. Send it back to whoever made it;
- *         the program `explain` names the class or the row.
+ *      -> 2 to 5: bytes were lost, or the file was made wrongly. Ask for it
+ *         again; if it stays so, whoever makes it has to correct it. The
+ *         program `explain` names the class or the row.
  *   6  the query is wrong: source or target is not below the file's stops, they
  *      are equal, the minute is above 10,079, or the bound code is not 0 or 4
  *      to 16.
- *      -> Ask again.
+ *      -> Correct the numbers that are passed.
  *   7  out_len is below 12 bytes for each of the file's rows.
  *      -> Lend SAYURIMPAK_MOST_BYTES, which is enough for every file.
  *   8  there is no safe journey from the source at or after the minute to the
  *      target.
- *      -> Offer the passenger another minute, or another day.
+ *      -> A later minute cannot help, nor can another bound code, since a bound
+ *         never causes 8. An earlier minute, another target, next week's file or
+ *         a relief sailing can; `explain` says until when, and from where, there
+ *         is a safe journey.
  */
 #define SAYURIMPAK_REFUSED 10000u
+
+enum sayurimpak_refusal {
+  SAYURIMPAK_BAD_SIZES = 1,
+  SAYURIMPAK_BAD_SECTIONS = 2,
+  SAYURIMPAK_BAD_CLASS = 3,
+  SAYURIMPAK_BAD_ROW = 4,
+  SAYURIMPAK_BAD_ORDER = 5,
+  SAYURIMPAK_BAD_QUERY = 6,
+  SAYURIMPAK_NO_ROOM = 7,
+  SAYURIMPAK_NO_JOURNEY = 8
+};
 
 /* Room that no file exceeds: 12 bytes a row, at most 2,000 rows. */
 #define SAYURIMPAK_MOST_BYTES 24000u
 
-/* Stack that a call needs, with room to spare: tests/hard measures some 82,500 bytes. */
+/* Stack that a call needs, with room to spare: some 82,500 bytes were measured. */
 #define SAYURIMPAK_STACK_BYTES 131072u
 
 /* Bytes of a ride in `out`, and where its three numbers start. */
@@ -87,15 +132,21 @@ extern "C" {
  *
  *   bytes 0 to 3    the row where the passenger boards
  *   bytes 4 to 7    the row where the passenger leaves (the same, or a later
- *                   row of the same trip)
+ *                   row of the same trip); its arrival and its class are the
+ *                   ride's
  *   bytes 8 to 11   what the ride is worth: the expected arrival at the target
  *                   after boarding it, in ticks of 1/256 minute
  *
- * Rows are counted from 0 in the file's order. The first ride from the source
- * at or after the minute is the one to begin with, and its worth is the plan's
- * expected arrival. Whoever lands takes the first ride of the plan from that
- * stop that departs at that very minute or later: there always is one, until
- * the target.
+ * How to follow it: ride 0 is the first ride, and its worth is the plan's
+ * expected arrival. Whoever lands short of the target takes the first ride of
+ * the plan from that stop that departs in that very minute or later. The latest
+ * arrival is the largest, over all rides, of the leaving row's arrival plus its
+ * class's maximum delay (sayurimpak_latest works it out).
+ *
+ * The limit of the promise: as long as no ride is later than its class's
+ * maximum delay, such a ride is always there and the target is reached by the
+ * latest arrival. Where one is later, or does not sail, call again for the stop
+ * and the minute where the passenger stands.
  *
  * What stays: bytes of `out` behind the plan's last ride, and all of them on a
  * refusal. Nothing else of yours is written.
@@ -121,7 +172,7 @@ extern "C" {
  *   uint32_t rides = sayurimpak_plan(file, file_len, 0, 2, 590, 0,
  *                                    out, sizeof out);
  *   if (rides > SAYURIMPAK_REFUSED)
- *     printf("refused %u\n", (unsigned)(rides - SAYURIMPAK_REFUSED));
+ *     puts(sayurimpak_refusal_words(rides - SAYURIMPAK_REFUSED));
  *
  * examples/host.c is a whole program.
  */
@@ -133,6 +184,121 @@ uint32_t sayurimpak_plan(const uint8_t *file, size_t file_len, uint32_t source,
  * This call will stay as it is. A request that adds a number to the query adds
  * a call with a name of its own, which takes all the numbers known by then.
  */
+
+/*
+ * Readers
+ * -------
+ * For a file and a plan that a call has answered with rides, and for row, class
+ * and ride numbers below their counts: they look at no other bytes and check
+ * nothing.
+ */
+struct sayurimpak_row {
+  uint32_t boarding_stop, landing_stop, departure, arrival, trip, sailing_class;
+};
+
+struct sayurimpak_ride {
+  uint32_t boarding_row, leaving_row, worth;
+};
+
+struct sayurimpak_time {
+  uint32_t day, hour, minute;
+};
+
+static inline uint32_t sayurimpak_u16(const uint8_t *bytes) {
+  return (uint32_t)bytes[0] | (uint32_t)bytes[1] << 8;
+}
+
+static inline uint32_t sayurimpak_u32(const uint8_t *bytes) {
+  return sayurimpak_u16(bytes) | sayurimpak_u16(bytes + 2) << 16;
+}
+
+static inline const uint8_t *sayurimpak_trailer(const uint8_t *file,
+                                                size_t file_len) {
+  return file + (file_len - SAYURIMPAK_TRAILER_BYTES);
+}
+
+/* A row by its number. */
+static inline struct sayurimpak_row sayurimpak_row(const uint8_t *file,
+                                                   size_t file_len,
+                                                   uint32_t number) {
+  const uint8_t *trailer = sayurimpak_trailer(file, file_len);
+  const uint8_t *bytes = file + sayurimpak_u32(trailer + 8) +
+                         (size_t)SAYURIMPAK_ROW_BYTES * number;
+  struct sayurimpak_row row;
+  row.boarding_stop = sayurimpak_u16(bytes);
+  row.landing_stop = sayurimpak_u16(bytes + 2);
+  row.departure = sayurimpak_u16(bytes + 4);
+  row.arrival = sayurimpak_u16(bytes + 6);
+  row.trip = sayurimpak_u16(bytes + 8);
+  row.sailing_class = sayurimpak_u16(bytes + 10);
+  return row;
+}
+
+/* A class's maximum delay, by the class's number. */
+static inline uint32_t sayurimpak_maximum_delay(const uint8_t *file,
+                                                size_t file_len,
+                                                uint32_t number) {
+  const uint8_t *trailer = sayurimpak_trailer(file, file_len);
+  const uint8_t *block = file + sayurimpak_u32(trailer + 12);
+  for (; number > 0; number--) block += 4 + 2 * (size_t)sayurimpak_u16(block);
+  return sayurimpak_u16(block);
+}
+
+/* A ride of the plan in `out`, by its place from 0. */
+static inline struct sayurimpak_ride sayurimpak_ride(const uint8_t *out,
+                                                     uint32_t place) {
+  const uint8_t *bytes = out + (size_t)SAYURIMPAK_RIDE_BYTES * place;
+  struct sayurimpak_ride ride;
+  ride.boarding_row = sayurimpak_u32(bytes + SAYURIMPAK_BOARDING_ROW);
+  ride.leaving_row = sayurimpak_u32(bytes + SAYURIMPAK_LEAVING_ROW);
+  ride.worth = sayurimpak_u32(bytes + SAYURIMPAK_WORTH);
+  return ride;
+}
+
+/* The latest arrival of a plan of so many rides, in minutes. */
+static inline uint32_t sayurimpak_latest(const uint8_t *file, size_t file_len,
+                                         const uint8_t *out, uint32_t rides) {
+  uint32_t latest = 0;
+  for (uint32_t place = 0; place < rides; place++) {
+    const struct sayurimpak_row row = sayurimpak_row(
+        file, file_len, sayurimpak_ride(out, place).leaving_row);
+    const uint32_t landing =
+        row.arrival +
+        sayurimpak_maximum_delay(file, file_len, row.sailing_class);
+    if (latest < landing) latest = landing;
+  }
+  return latest;
+}
+
+/* Ticks as a minute, rounded up, as sheets print an expected arrival. */
+static inline uint32_t sayurimpak_minute(uint32_t ticks) {
+  return ticks / SAYURIMPAK_TICKS_A_MINUTE +
+         (ticks % SAYURIMPAK_TICKS_A_MINUTE != 0);
+}
+
+/* A minute as day (from 1), hour and minute. */
+static inline struct sayurimpak_time sayurimpak_time(uint32_t minute) {
+  struct sayurimpak_time time;
+  time.day = minute / SAYURIMPAK_DAY_MINUTES + 1;
+  time.hour = minute % SAYURIMPAK_DAY_MINUTES / 60;
+  time.minute = minute % 60;
+  return time;
+}
+
+/* A refusal's number, 1 to 8, in a few words. */
+static inline const char *sayurimpak_refusal_words(uint32_t number) {
+  switch (number) {
+  case SAYURIMPAK_BAD_SIZES: return "no sailing file of version 1, or too large";
+  case SAYURIMPAK_BAD_SECTIONS: return "the sailing file's sections do not join";
+  case SAYURIMPAK_BAD_CLASS: return "a class of the sailing file is wrong";
+  case SAYURIMPAK_BAD_ROW: return "a row of the sailing file is wrong";
+  case SAYURIMPAK_BAD_ORDER: return "a row is out of order, or breaks off its trip";
+  case SAYURIMPAK_BAD_QUERY: return "the query is wrong";
+  case SAYURIMPAK_NO_ROOM: return "too little room for the plan";
+  case SAYURIMPAK_NO_JOURNEY: return "there is no safe journey";
+  default: return "no refusal";
+  }
+}
 
 #ifdef __cplusplus
 }
