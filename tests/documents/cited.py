@@ -1,6 +1,6 @@
 """Every crate, path and name that the documents cite exists.
 
-Looked for in README.md and docs/*.md:
+Looked for in README.md, CONTRIBUTING.md, dist/README.md and docs/*.md:
   `crate/path: name, ..`   the file under crates/ (without its ending), and each name defined in it
   `crate: name, ..`        each name defined in the crate's code
   `crate::name`            the same; `Type::name` is looked for by both words
@@ -18,7 +18,7 @@ INSIDE = r"(?:specs|proofs|src|must-fail|data)"
 LISTED = re.compile(rf"([a-z_]+)((?:/{INSIDE}(?:/[A-Za-z_]+)*)?): (\S.*)")
 CODE = re.compile(r"([a-z_]+)::([A-Za-z_]+(?:::[A-Za-z_]+)*)")
 CRATE_PATH = re.compile(rf"(?<![\w/.-])(?:crates/)?([a-z_]+/{INSIDE}(?:/[A-Za-z_]+)*(?:\.(?:antt|rt|edit))?)(?![\w/])")
-TREE_PATH = re.compile(r"(?<![\w/.-])((?:tests|docs|examples|bench|include|crates)/[\w/.-]*\w)")
+TREE_PATH = re.compile(r"(?<![\w/.-])((?:tests|docs|examples|bench|include|crates|office|dist|tools)/[\w/.-]*\w)")
 BEFORE_NAME = r"^\s*(?:(?:abbrev|unfoldable|opaque|pub|const|static|fn|record|data|struct|enum|extern|\"C\") +)*"
 
 
@@ -78,7 +78,7 @@ def looked_at(page):
 
 
 def main():
-    pages = [pathlib.Path("README.md"), *sorted(pathlib.Path("docs").glob("*.md"))]
+    pages = [*map(pathlib.Path, ("README.md", "CONTRIBUTING.md", "dist/README.md")), *sorted(pathlib.Path("docs").glob("*.md"))]
     count = 0
     for page in pages:
         for number, line in looked_at(page):
