@@ -10,6 +10,15 @@ _Static_assert(SAYURIMPAK_MOST_BYTES == 24000, "12 bytes for each of 2,000 rows"
 _Static_assert(SAYURIMPAK_BOARDING_ROW == 0, "boarding row first");
 _Static_assert(SAYURIMPAK_LEAVING_ROW == 4, "leaving row next, four bytes on");
 _Static_assert(SAYURIMPAK_WORTH == 8, "then the worth");
+_Static_assert(SAYURIMPAK_LONGEST_FILE == 27920, "the longest file");
+_Static_assert(SAYURIMPAK_TRAILER_BYTES == 16, "the last 16 bytes are a trailer");
+_Static_assert(SAYURIMPAK_ROW_BYTES == 12, "a row has six u16");
+_Static_assert(SAYURIMPAK_DAY_MINUTES == 1440, "every day has 1,440 minutes");
+_Static_assert(SAYURIMPAK_LAST_MINUTE == 10079, "seven days");
+_Static_assert(SAYURIMPAK_TICKS_A_MINUTE == 256, "a tick is 1/256 minute");
+_Static_assert(SAYURIMPAK_BAD_SIZES == 1 && SAYURIMPAK_BAD_SECTIONS == 2 && SAYURIMPAK_BAD_CLASS == 3 && SAYURIMPAK_BAD_ROW == 4 &&
+                   SAYURIMPAK_BAD_ORDER == 5 && SAYURIMPAK_BAD_QUERY == 6 && SAYURIMPAK_NO_ROOM == 7 && SAYURIMPAK_NO_JOURNEY == 8,
+               "the refusals' numbers");
 
 enum { W_BYTES = 92, W_ROOM = 48, DIRT = 0xa5, LENT = 24000, LONGEST = 27920 };
 
