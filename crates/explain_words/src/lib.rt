@@ -1,16 +1,17 @@
 // For the office: words, numbers and times on the standard output.
 ghost use Prim.Native.Nat.{_<_};
 use clock::Minute;
-use libc::STDOUT_FILENO;
+use files::write_number;
+use files::write_out;
 
 pub fn say(words: &[u8]) {
-    io::write_all(STDOUT_FILENO, words);
+    write_out(words);
 }
 
 // Words, then a number.
 pub fn say_number(words: &[u8], number: usize) {
     say(words);
-    io::print_decimal(STDOUT_FILENO, number as u64);
+    write_number(number);
 }
 
 // Words, then a time.
