@@ -1,9 +1,12 @@
-"""Runs `sheet` and `explain` on files that document 01 draws lines between, and compares all that they print.
+"""Runs `sheet` and `explain` on files that document 01 draws lines between, and compares all that they print; then every program where
+the standard output cannot be written, which must be told in one line on standard error.
 
 usage: programs.py RUNNER FOLDER
 
 What must be printed is written beside each case, from document 01; that of the longest sheet is counted out by its own rule.
 """
+import fcntl
+import os
 import pathlib
 import subprocess
 import sys
@@ -24,7 +27,8 @@ From stop 0 take the d1 10:00 (trip 0) to stop 1, due at d1 10:30.
 Landing at stop 1 by d1 10:32, take the d1 10:32 (trip 1) to stop 2, due at d1 11:00; by d1 10:50, take the d1 10:50 (trip 3) to stop 2, due at d1 11:30.
 """
 
-MISSING, FOLDER = None, "a folder"
+MISSING, FOLDER, LOOP, FAILS = None, "a folder", "a link to itself", "a file whose reading fails, for root too"
+REASONS = {FOLDER: "Is a directory", LOOP: "Too many levels of symbolic links", FAILS: "Input/output error"}
 LATE = 120
 SHARES = [3976] + [1] * LATE
 MEAN_TICKS = -(-sum(late * share for late, share in enumerate(SHARES)) // 16)
@@ -99,30 +103,40 @@ def length_refused(length):
     return f"refused 1\nThe file length is {length}, but it must be 20 to 27920.\n"
 
 
-def query_refused(length):
-    return f"The file is sound. Stops: 3. Rows: 4. Classes: 2.\nrefused 6\nThe query has {length} bytes, not 8; a missing file counts as empty.\n"
+def query_refused(reason):
+    return f"The file is sound. Stops: 3. Rows: 4. Classes: 2.\nrefused 6\n{reason}\n"
+
+
+def query_length(length):
+    return query_refused(f"The query has {length} bytes, not 8.")
 
 
 def cases():
     """What the case is, the files `sailings` and `query`, the sheet, and the words (None: only the first line, that of the refusal)."""
-    none = "refused 1\nThe file sailings is missing or empty.\n"
+    missing = "refused 1\nThere is no file sailings in this folder.\n"
+    unreadable = "refused 1\nThe file sailings cannot be read.\n"
+    no_query = query_refused("The file query cannot be read.")
     yield "W", W, ASK, W_SHEET, W_WORDS
-    yield "both files missing", MISSING, MISSING, "refused 1\n", none
-    yield "sailings missing", MISSING, ASK, "refused 1\n", none
-    yield "sailings empty", b"", ASK, "refused 1\n", none
-    yield "sailings a folder", FOLDER, ASK, "refused 1\n", None
-    yield "both a folder", FOLDER, FOLDER, "refused 1\n", None
-    yield "query missing", W, MISSING, "refused 6\n", query_refused(0)
-    yield "query empty", W, b"", "refused 6\n", query_refused(0)
-    yield "query a folder", W, FOLDER, "refused 6\n", None
+    yield "both files missing", MISSING, MISSING, "refused 1\n", missing
+    yield "sailings missing", MISSING, ASK, "refused 1\n", missing
+    yield "sailings empty", b"", ASK, "refused 1\n", "refused 1\nThe file sailings is empty.\n"
+    yield "sailings a folder", FOLDER, ASK, "refused 1\n", unreadable
+    yield "sailings a link to itself", LOOP, ASK, "refused 1\n", unreadable
+    yield "sailings a file whose reading fails", FAILS, ASK, "refused 1\n", unreadable
+    yield "both a folder", FOLDER, FOLDER, "refused 1\n", unreadable
+    yield "query missing", W, MISSING, "refused 6\n", query_refused("There is no file query in this folder.")
+    yield "query empty", W, b"", "refused 6\n", query_refused("The file query is empty.")
+    yield "query a folder", W, FOLDER, "refused 6\n", no_query
+    yield "query a link to itself", W, LOOP, "refused 6\n", no_query
+    yield "query a file whose reading fails", W, FAILS, "refused 6\n", no_query
     # one byte ahead moves the sections away from their offsets: class 0 then has a share of 0; one behind moves the trailer
     yield "a byte ahead of W", b"\0" + W, ASK, "refused 3\n", "refused 3\nClass 0: the shares sum to 0, not 4096.\n"
     yield "a byte behind W", W + b"\0", ASK, "refused 1\n", None
-    yield "query of 7 bytes", W, ASK[:7], "refused 6\n", query_refused(7)
-    yield "query of 9 bytes", W, ASK + b"\0", "refused 6\n", query_refused(9)
-    yield "query of 16 bytes", W, ASK + ASK, "refused 6\n", query_refused(16)
-    yield "query of 17 bytes", W, ASK + ASK + b"\0", "refused 6\n", None
-    yield "query of 1,000 bytes", W, ASK * 125, "refused 6\n", None
+    yield "query of 7 bytes", W, ASK[:7], "refused 6\n", query_length(7)
+    yield "query of 9 bytes", W, ASK + b"\0", "refused 6\n", query_length(9)
+    yield "query of 16 bytes", W, ASK + ASK, "refused 6\n", query_length(16)
+    yield "query of 17 bytes", W, ASK + ASK + b"\0", "refused 6\n", query_length("at least 17")
+    yield "query of 1,000 bytes", W, ASK * 125, "refused 6\n", query_length("at least 17")
     # a wrong file before a wrong query
     yield "both too short", W[-19:], ASK[:7], "refused 1\n", length_refused(19)
     file, ask, sheet, words = longest()
@@ -135,21 +149,30 @@ def cases():
     yield "27,920 bytes, a query of 9", file, ask + b"\0", "refused 6\n", None
 
 
-def lay(path, content):
-    if content == FOLDER:
-        path.mkdir()
-    elif content is not MISSING:
-        path.write_bytes(content)
+def lay(folder, sailings, query):
+    for name, content in (("sailings", sailings), ("query", query)):
+        path = pathlib.Path(folder, name)
+        if content == FOLDER:
+            path.mkdir()
+        elif content == LOOP:
+            path.symlink_to(name)
+        elif content == FAILS:
+            path.symlink_to("/proc/self/mem")
+        elif content is not MISSING:
+            path.write_bytes(content)
 
 
-def printed(runner, program, sailings, query):
-    with tempfile.TemporaryDirectory() as folder:
-        lay(pathlib.Path(folder, "sailings"), sailings)
-        lay(pathlib.Path(folder, "query"), query)
-        ended = subprocess.run([runner, "run", program], cwd=folder, stdin=subprocess.DEVNULL, capture_output=True, timeout=60)
-    if ended.returncode != 0 or ended.stderr:
-        return f"ended with {ended.returncode}: {ended.stderr.decode(errors='replace')}"
-    return ended.stdout.decode(errors="replace")
+def run(words, folder, out):
+    """What a command in this folder prints, on `out` and on standard error."""
+    ended = subprocess.run(words, cwd=folder, stdin=subprocess.DEVNULL, stdout=out, stderr=subprocess.PIPE, timeout=60)
+    told = ended.stderr.decode(errors="replace") + (f"ended with {ended.returncode}" if ended.returncode else "")
+    return (ended.stdout or b"").decode(errors="replace"), told
+
+
+def unreadable(program, sailings, query):
+    """What a program must tell of files that it cannot read."""
+    files = (("sailings", sailings), ("query", query))
+    return "".join(f"{program}: {name} cannot be read: {REASONS[content]}\n" for name, content in files if content in REASONS)
 
 
 def refusal(words):
@@ -166,18 +189,63 @@ def differs(case, program, wanted, found):
     return True
 
 
+def unwritten(reason):
+    return f"sayurimpak: standard output could not be written: {reason}\n"
+
+
+def full(words, folder):
+    with open("/dev/full", "wb") as out:
+        return run(words, folder, out)[1], unwritten("No space left on device")
+
+
+def closed(words, folder):
+    return run(["sh", "-c", 'exec "$@" >&-', "sh", *words], folder, subprocess.DEVNULL)[1], unwritten("Bad file descriptor")
+
+
+def stuck(words, folder):
+    """What goes out and what is told where nobody reads a pipe that does not wait: it is full part-way."""
+    there, here = os.pipe()
+    fcntl.fcntl(here, fcntl.F_SETPIPE_SZ, 4096)
+    os.set_blocking(here, False)
+    with open(there, "rb") as behind:
+        with open(here, "wb") as out:
+            told = run(words, folder, out)[1]
+        return behind.read().decode(), told
+
+
+def outputs_told(runner, programs):
+    """Every program with an output that is full from the start, that is closed, and, of the longest sheet and its words, full part-way."""
+    file, ask, sheet, words = longest()
+    with tempfile.TemporaryDirectory() as folder:
+        lay(folder, file, ask)
+        stored = {name: pathlib.Path("crates", name, "data") for name in ("run_check", "run_sheets", "run_explain")}
+        for program, place in {"sheet": folder, "explain": folder, **stored}.items():
+            for kind in (full, closed):
+                found, wanted = kind([runner, "run", programs / program], place)
+                yield differs(f"output {kind.__name__}", program, wanted, found)
+        for program, whole in (("sheet", sheet), ("explain", words)):
+            begun, told = stuck([runner, "run", programs / program], folder)
+            differs_told = differs("output full part-way", program, unwritten("Resource temporarily unavailable"), told)
+            yield differs_told + differs("output full part-way", program, whole[: len(begun)] or whole, begun)
+
+
+def files_told(runner, programs):
+    for case, sailings, query, sheet, words in cases():
+        with tempfile.TemporaryDirectory() as folder:
+            lay(folder, sailings, query)
+            for program, wanted in (("sheet", sheet), ("explain", words)):
+                found, told = run([runner, "run", programs / program], folder, subprocess.PIPE)
+                if wanted is None:
+                    wanted, found = sheet, refusal(found)
+                yield differs(case, program, wanted, found) + differs(case, program, unreadable(program, sailings, query), told)
+
+
 def main():
     runner, programs = (pathlib.Path(word).resolve() for word in sys.argv[1:])
-    failed = count = 0
-    for case, sailings, query, sheet, words in cases():
-        count += 1
-        failed += differs(case, "sheet", sheet, printed(runner, programs / "sheet", sailings, query))
-        found = printed(runner, programs / "explain", sailings, query)
-        if words is None:
-            failed += differs(case, "explain", sheet, refusal(found))
-        else:
-            failed += differs(case, "explain", words, found)
-    print(f"programs: {count} pairs of files, {failed} differences")
+    files = list(files_told(runner, programs))
+    outputs = list(outputs_told(runner, programs))
+    failed = sum(files) + sum(outputs)
+    print(f"programs: {len(files)} runs on files, {len(outputs)} on outputs that fail, {failed} differences")
     sys.exit(failed > 0)
 
 

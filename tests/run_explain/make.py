@@ -22,7 +22,7 @@ def with_row(place, **changed):
 
 
 def sizes():
-    yield b"", "refused 1\nThe file sailings is missing or empty.\n"
+    yield b"", "refused 1\nThe file sailings is empty.\n"
     yield b"\0" * 19, "refused 1\nThe file length is 19, but it must be 20 to 27920.\n"
     yield b"\0" * 27921, "refused 1\nThe file length is 27921, but it must be 20 to 27920.\n"
     yield sailing_file(version=2), "refused 1\nThe version is 2, but only version 1 is known.\n"
@@ -75,9 +75,9 @@ def rows():
 
 
 def queries():
-    yield b"", "refused 6\nThe query has 0 bytes, not 8; a missing file counts as empty.\n"
-    yield W_QUERY[:7], "refused 6\nThe query has 7 bytes, not 8; a missing file counts as empty.\n"
-    yield W_QUERY + b"\0", "refused 6\nThe query has 9 bytes, not 8; a missing file counts as empty.\n"
+    yield b"", "refused 6\nThe file query is empty.\n"
+    yield W_QUERY[:7], "refused 6\nThe query has 7 bytes, not 8.\n"
+    yield W_QUERY + b"\0", "refused 6\nThe query has 9 bytes, not 8.\n"
     yield query_bytes(source=3), "refused 6\nThe query's source is stop 3, but there are 3 stops, numbered from 0.\n"
     yield query_bytes(target=200), "refused 6\nThe query's target is stop 200, but there are 3 stops, numbered from 0.\n"
     yield query_bytes(source=2), "refused 6\nSource and target of the query are both stop 2.\n"

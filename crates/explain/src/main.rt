@@ -1,25 +1,25 @@
 // For the office: explains the files `sailings` and `query` of the folder it is run in.
-ghost use Rattle.io.specs.Counts.{Counts};
+use files::open_out;
+use files::read_file;
 use rooms::query_room;
 use rooms::sailings_room;
 
-// How many bytes of the file at `path` were read into `room`; a missing file counts as empty.
-fn read_file(path: &[u8], room: &mut [u8]) -> usize
-    ensures { λ r. ⌜ Counts r (now (room .exit)) ⌝ }
-{
-    let fd = os::open_read(path);
-    if fd < 0 {
-        return io::count(0, room);
-    }
-    let count = io::read_full(fd, room);
-    libc::close(fd);
-    count
-}
-
 fn main() {
+    open_out();
     let mut sailings = sailings_room();
     let mut query = query_room();
-    let long = read_file(b"sailings", &mut sailings);
-    let short = read_file(b"query", &mut query);
-    explain_all::explain(&sailings[..long], &query[..short]);
+    let long = read_file(
+        b"sailings",
+        b"explain: sailings cannot be read",
+        &mut sailings,
+    );
+    let short = read_file(b"query", b"explain: query cannot be read", &mut query);
+    let sailings_end = long.ending;
+    let query_end = short.ending;
+    explain_all::explain(
+        &sailings[..long.count],
+        sailings_end,
+        &query[..short.count],
+        query_end,
+    );
 }

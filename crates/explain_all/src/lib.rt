@@ -16,21 +16,24 @@ use file_layout::Checked;
 use file_layout::Format;
 use file_layout::Trailer;
 use file_layout::VERSION_ONE;
+use files::Ending;
+use files::goes_on;
 use numbers::number;
 use plan_whole::Planned;
 use planner::plan_checked;
+use query::QUERY_BYTES;
 use query::Query;
 use query::query_in;
 use rooms::plan_room;
 use rooms::work_room;
 
-// Says why the two files are refused and what to look at, or S, n, K and the plan.
-pub fn explain(sailings: &[u8], query: &[u8]) {
-    explain_as(sailings, VERSION_ONE, query);
+// Says why the two files are refused and what to look at, or S, n, K and the plan. Behind each file's bytes stands how its reading ended.
+pub fn explain(sailings: &[u8], sailings_end: Ending, query: &[u8], query_end: Ending) {
+    explain_as(sailings, sailings_end, VERSION_ONE, query, query_end);
 }
 
 // The same for a file of a version.
-fn explain_as(sailings: &[u8], f: Format, query: &[u8])
+fn explain_as(sailings: &[u8], sailings_end: Ending, f: Format, query: &[u8], query_end: Ending)
     requires { ⌜ Plannable f ⌝ }
 {
     let checked = check_as(sailings, f);
@@ -40,13 +43,37 @@ fn explain_as(sailings: &[u8], f: Format, query: &[u8])
             place,
         } => {
             say_refused(refusal);
-            print_file_fault(sailings, refusal, place);
+            explain_file(sailings, sailings_end, refusal, place);
         }
         Checked::Sound { trailer } => {
             say_sound(trailer);
-            explain_query(sailings, f, trailer, query);
+            explain_query(sailings, f, trailer, query, query_end);
         }
     }
+}
+
+// A file that the check refuses.
+fn explain_file(sailings: &[u8], ending: Ending, refusal: usize, place: usize) {
+    if sailings.len() == 0 {
+        say_no_bytes(b"sailings", ending);
+        return;
+    }
+    print_file_fault(sailings, refusal, place);
+}
+
+// Why there are no bytes of the file of that name.
+fn say_no_bytes(name: &[u8], ending: Ending) {
+    match ending {
+        Ending::Missing => say_named(b"There is no file ", name, b" in this folder.\n"),
+        Ending::Unreadable => say_named(b"The file ", name, b" cannot be read.\n"),
+        _ => say_named(b"The file ", name, b" is empty.\n"),
+    }
+}
+
+fn say_named(before: &[u8], name: &[u8], behind: &[u8]) {
+    say(before);
+    say(name);
+    say(behind);
 }
 
 fn say_refused(refusal: usize) {
@@ -62,7 +89,7 @@ fn say_sound(trailer: Trailer) {
 }
 
 // A sound file goes on to planning.
-fn explain_query(sailings: &[u8], f: Format, trailer: Trailer, query: &[u8])
+fn explain_query(sailings: &[u8], f: Format, trailer: Trailer, query: &[u8], ending: Ending)
     requires { ⌜ Plannable f × (checkedAs f (now sailings) ≡ Sound trailer) ⌝ }
 {
     let q = query_in(query);
@@ -73,7 +100,14 @@ fn explain_query(sailings: &[u8], f: Format, trailer: Trailer, query: &[u8])
         Planned::Refused {
             number: refusal,
             place: _,
-        } => explain_refusal(query.len(), q, trailer.stops, f.lastminute, number(refusal)),
+        } => explain_refusal(
+            query,
+            ending,
+            q,
+            trailer.stops,
+            f.lastminute,
+            number(refusal),
+        ),
         Planned::Plan {
             rides: count,
             expected,
@@ -86,14 +120,40 @@ fn explain_query(sailings: &[u8], f: Format, trailer: Trailer, query: &[u8])
     }
 }
 
-// Room is lent in full, so planning refuses the query of so many bytes or finds no safe journey.
-fn explain_refusal(bytes: usize, q: Query, stops: usize, last: usize, refusal: usize) {
+// Room is lent in full, so planning refuses the query or finds no safe journey.
+fn explain_refusal(
+    query: &[u8],
+    ending: Ending,
+    q: Query,
+    stops: usize,
+    last: usize,
+    refusal: usize,
+) {
     say_refused(refusal);
     if refusal == 8 {
         print_no_journey(q);
         return;
     }
-    print_query_fault(bytes, q, stops, last);
+    if query.len() != QUERY_BYTES {
+        say_query_length(query, ending);
+        return;
+    }
+    print_query_fault(q, stops, last);
+}
+
+// 6: the query has other than 8 bytes.
+fn say_query_length(query: &[u8], ending: Ending) {
+    if query.len() == 0 {
+        say_no_bytes(b"query", ending);
+        return;
+    }
+    if goes_on(ending) {
+        say_number(b"The query has at least ", query.len() + 1);
+    } else {
+        say_number(b"The query has ", query.len());
+    }
+    say_number(b" bytes, not ", QUERY_BYTES);
+    say(b".\n");
 }
 
 fn say_plan(rides: usize, expected: u32, latest: u32) {

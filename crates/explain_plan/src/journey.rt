@@ -2,18 +2,11 @@
 use explain_words::say;
 use explain_words::say_number;
 use explain_words::say_time;
-use query::QUERY_BYTES;
 use query::Query;
 use query::query_rule;
 
-// 6: how many bytes the query has, or the first of its numbers that breaks its rule, in a file of so many stops whose last minute is `last`.
-pub fn print_query_fault(bytes: usize, q: Query, stops: usize, last: usize) {
-    if bytes != QUERY_BYTES {
-        say_number(b"The query has ", bytes);
-        say_number(b" bytes, not ", QUERY_BYTES);
-        say(b"; a missing file counts as empty.\n");
-        return;
-    }
+// 6: the first number of the query that breaks its rule, in a file of so many stops whose last minute is `last`.
+pub fn print_query_fault(q: Query, stops: usize, last: usize) {
     if stops <= q.source {
         say_no_stop(b"source", q.source, stops);
         return;

@@ -1,29 +1,31 @@
 // Files at both sides of every line of the check (tests/run_check/make.py packs them): prints what `check` answers to each.
 use file_layout::Checked;
-use libc::STDOUT_FILENO;
+use files::open_out;
+use files::write_number;
+use files::write_out;
 use rooms::SAILINGS;
 use rooms::sailings_room;
 
 fn print_number(n: usize) {
-    io::write_all(STDOUT_FILENO, b" ");
-    io::print_decimal(STDOUT_FILENO, n as u64);
+    write_out(b" ");
+    write_number(n);
 }
 
 fn print_answer(answer: Checked) {
     match answer {
         Checked::Sound { trailer } => {
-            io::write_all(STDOUT_FILENO, b" sound");
+            write_out(b" sound");
             print_number(trailer.stops);
             print_number(trailer.rows);
             print_number(trailer.classes);
         }
         Checked::Refused { number, place } => {
-            io::write_all(STDOUT_FILENO, b" refused");
+            write_out(b" refused");
             print_number(number);
             print_number(place);
         }
     }
-    io::write_all(STDOUT_FILENO, b"\n");
+    write_out(b"\n");
 }
 
 // Prints what the check answers to the next file; false where there is none.
@@ -33,12 +35,13 @@ fn print_next(fd: i32, place: usize) -> bool {
     if long == SAILINGS {
         return false;
     }
-    io::print_decimal(STDOUT_FILENO, place as u64);
+    write_number(place);
     print_answer(file_check::check(&file[..long]));
     true
 }
 
 fn main() {
+    open_out();
     let fd = os::open_read(b"files");
     if fd < 0 {
         os::fail(b"files");

@@ -1,5 +1,7 @@
 // Stored cases of the sheet (tests/run_sheets/make.py packs them): prints the sheet of each.
-use libc::STDOUT_FILENO;
+use files::open_out;
+use files::write_number;
+use files::write_out;
 use rooms::SAILINGS;
 use rooms::sailings_room;
 use sheet_text::SHEET_ROOM;
@@ -7,15 +9,15 @@ use sheet_text::Sheeted;
 use sheet_text::sheet_room;
 
 fn print_sheet(place: usize, sailings: &[u8], query: &[u8]) {
-    io::write_all(STDOUT_FILENO, b"case ");
-    io::print_decimal(STDOUT_FILENO, place as u64);
-    io::write_all(STDOUT_FILENO, b"\n");
+    write_out(b"case ");
+    write_number(place);
+    write_out(b"\n");
     let mut out = sheet_room();
     let sheeted = sheet_text::sheet(sailings, query, &mut out);
     if let Sheeted::Text { end } = sheeted {
         if end <= SHEET_ROOM {
             let shown = io::count(end as isize, &out);
-            io::write_all(STDOUT_FILENO, &out[..shown]);
+            write_out(&out[..shown]);
         }
     }
 }
@@ -34,6 +36,7 @@ fn print_next(fd: i32, place: usize) -> bool {
 }
 
 fn main() {
+    open_out();
     let fd = os::open_read(b"cases");
     if fd < 0 {
         os::fail(b"cases");

@@ -13,8 +13,8 @@ enum-known-checked c = search needs
 say-refused-requires : tie.Need-say-refused-requires
 say-refused-requires c κs = search needs
 
-print-file-fault-requires : tie.Need-print-file-fault-requires
-print-file-fault-requires c κs = search needs
+explain-file-requires : tie.Need-explain-file-requires
+explain-file-requires c κs = search needs
 
 enum-known-checked-2 : tie.Need-enum-known-checked-2
 enum-known-checked-2 c = search needs
@@ -41,7 +41,7 @@ explain-as-spec =
     check-as-requires
     enum-known-checked
     say-refused-requires
-    print-file-fault-requires
+    explain-file-requires
     enum-known-checked-2
     say-sound-requires
     explain-query-requires

@@ -10,6 +10,9 @@ Inv-loop fd place₀ place = place ≤ 1000
 abbrev μ-loop : tie.MeasureT-loop
 μ-loop fd place₀ place = 1000 - place
 
+open-out-requires : tie.Need-open-out-requires Inv-loop μ-loop
+open-out-requires c κs = search needs
+
 slice-aggregate-open-read : tie.Need-slice-aggregate-open-read Inv-loop μ-loop
 slice-aggregate-open-read c = search needs
 
@@ -52,6 +55,7 @@ main-spec =
     (tie.spec
     Inv-loop
     μ-loop
+    open-out-requires
     slice-aggregate-open-read
     open-read-requires
     slice-aggregate-fail
