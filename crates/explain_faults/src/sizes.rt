@@ -11,10 +11,6 @@ use timetable::MOST_STOPS;
 
 // The first number that is out of its range.
 pub fn print_size_fault(length: usize, trailer: Trailer) {
-    if length == 0 {
-        say(b"The file sailings is missing or empty.\n");
-        return;
-    }
     if length < VERSION_ONE.fewestbytes {
         say_range(
             b"file length",
