@@ -1,4 +1,4 @@
-// The system's side of every program: a file is read and it is told apart how that ended, and a standard output that cannot be written is told.
+// The system's side of every program: reading a file, and how that ended; writing the standard output, and telling where that fails.
 ghost use Rattle.io.specs.Counts.{Counts};
 use libc::STDOUT_FILENO;
 
@@ -54,7 +54,7 @@ fn unopened(words: &[u8]) -> Ending {
     Ending::Unreadable
 }
 
-// How a reading that filled the room or stopped before ended, by one read more.
+// How a reading ended that filled the room or stopped before, by one read more. A byte behind one that stopped shows that a read failed.
 fn ending_of(fd: i32, full: bool, words: &[u8]) -> Ending {
     let mut byte = [0u8; 1];
     let got = libc::read(fd, &mut byte);
@@ -78,10 +78,12 @@ pub fn goes_on(ending: Ending) -> bool {
     false
 }
 
-// To be called first by a program: tells a standard output that is closed from the start.
+// To be called first by a program: tells a standard output that is closed from the start, which the writes pass over.
 pub fn open_out() {
     if libc::write(STDOUT_FILENO, b"") < 0 {
-        end_out();
+        if os::errno() == libc::EBADF {
+            tell_out();
+        }
     }
 }
 
@@ -99,16 +101,15 @@ pub fn write_number(number: usize) {
     }
 }
 
-// A write that fails since the output is closed was told when it was closed.
+// A failed write is told once: the output is then closed, and a write that fails since it is closed is passed over. A file that is
+// opened later may get its number, but is open for reading only, so that a write fails in the same way.
 fn out_failed() {
     if os::errno() != libc::EBADF {
-        end_out();
+        tell_out();
+        libc::close(STDOUT_FILENO);
     }
 }
 
-// Tells that the standard output cannot be written, and closes it, so that it is told once. A file that is opened later may get its
-// number, but is open for reading, so that writing it fails in the same way.
-fn end_out() {
+fn tell_out() {
     os::fail(b"sayurimpak: standard output could not be written");
-    libc::close(STDOUT_FILENO);
 }
