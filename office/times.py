@@ -1,0 +1,83 @@
+"""Days, times of day, and from when to when a sailing goes."""
+import re
+
+from timetable import DAY, LAST_DAY, LAST_MINUTE, time_text
+from values import is_number, number
+from words import Word, WrongLine
+
+CLOCK = re.compile("([0-9]{1,2}):([0-9]{2})")
+NAMED_DAY = re.compile(f"d([1-{LAST_DAY}])")
+NEXT_DAY = "+1"
+
+
+def clock(word):
+    """Minutes since midnight."""
+    found = None if word.quoted else CLOCK.fullmatch(word.text)
+    if not found or int(found[1]) > 23 or int(found[2]) > 59:
+        raise WrongLine(word, "a time of day from 00:00 to 23:59")
+    return int(found[1]) * 60 + int(found[2])
+
+
+def day(word, asked):
+    """A day's first minute."""
+    found = None if word.quoted else NAMED_DAY.fullmatch(word.text)
+    if not found:
+        raise WrongLine(word, f"{asked}, d1 to d{LAST_DAY}")
+    return (int(found[1]) - 1) * DAY
+
+
+def days(word):
+    """The numbers of the days that a word such as 1,3,6-7 names, rising."""
+    named = []
+    for part in word.text.split(","):
+        ends = [Word(end, word.quoted) for end in part.split("-")]
+        if len(ends) > 2 or not all(is_number(end) for end in ends):
+            raise WrongLine(f"days {word}", "days such as 1-5 or 1,3,6-7, without blanks")
+        first, last = (number(end, 1, LAST_DAY, "a day's number") for end in (ends[0], ends[-1]))
+        if len(ends) == 2 and first >= last:
+            raise WrongLine(f"days {word}", "days from a lower to a higher number")
+        named += range(first, last + 1)
+    if len(set(named)) < len(named):
+        raise WrongLine(f"days {word}", "each day once")
+    return sorted(named)
+
+
+def moment(words, asked):
+    """A day and a time of day, as a minute."""
+    return day(words.take(asked), asked) + clock(words.take("a time of day"))
+
+
+def departure(words, repeated):
+    """Minutes into the week, or into each day where the sailing is repeated."""
+    if not repeated:
+        return moment(words, "the departure's day behind two stops (a name of several words stands in double quotes)")
+    word = words.take("the departure's time")
+    if ":" not in word.text:
+        raise WrongLine(word, "a departure such as 07:00 behind two stops, without a day since the line has days")
+    return clock(word)
+
+
+def arrival(words, departs, repeated):
+    """The arrival, counted as the departure is; and whether its day was left to the departure's."""
+    word = words.take("the arrival")
+    if ":" in word.text:
+        return departs - departs % DAY + clock(word), True
+    if word == Word(NEXT_DAY):
+        return departs - departs % DAY + DAY + clock(words.take("a time of day")), False
+    if repeated:
+        raise WrongLine(word, "an arrival such as 07:40 or +1 00:20, without a day since the line has days")
+    return day(word, "an arrival such as 07:40 or +1 00:20, or its day") + clock(words.take("a time of day")), False
+
+
+def spans(words, repeated):
+    """The (departure, arrival) of each day; of the one day that is written if the sailing isn't repeated."""
+    departs = departure(words, repeated)
+    arrives, day_left_out = arrival(words, departs, repeated)
+    if arrives <= departs:
+        hint = f"; on the next day it is {NEXT_DAY} {time_text(arrives)[3:]}" if day_left_out else ""
+        read = f"an arrival at {time_text(arrives)[3 * bool(repeated):]}"
+        raise WrongLine(read, f"one after the departure at {time_text(departs)[3 * bool(repeated):]}{hint}")
+    found = [(first + departs, first + arrives) for first in ((number - 1) * DAY for number in repeated or [1])]
+    if found[-1][1] > LAST_MINUTE:
+        raise WrongLine(f"an arrival at {time_text(found[-1][1])}", f"one by {time_text(LAST_MINUTE)}, where the file's week ends")
+    return found

@@ -1,0 +1,104 @@
+"""Trips: which rows are one boat, what number it has in the file, and document 01's rule that it goes on where it landed."""
+from dataclasses import dataclass
+from typing import Optional, Union
+
+from timetable import time_text
+from values import is_own, trip
+from words import WrongLine
+
+
+@dataclass(frozen=True)
+class Trip:
+    """One boat: by its number, by its name, or by its name on one day."""
+
+    called: Union[int, str]
+    day: Optional[int] = None
+
+    def __str__(self):
+        return f"trip {self.called}" + (f" of day {self.day}" if self.day else "")
+
+
+@dataclass(frozen=True)
+class Leg:
+    """A row before its trip has a number, with the line that it comes from."""
+
+    line: int
+    board: int
+    land: int
+    departure: int
+    arrival: int
+    trip: Trip
+    kind: int
+
+
+def of_sailing(sailing):
+    """The trip of each of a sailing's spans: a number is one boat in the file, a name with days one a day."""
+    if sailing.days and isinstance(sailing.trip, str):
+        return [Trip(sailing.trip, day) for day in sailing.days]
+    return [Trip(sailing.trip)] * len(sailing.spans)
+
+
+def numbers(legs):
+    """Each trip's number: its own, or for names the lowest free ones in the order in which they come."""
+    trips = list(dict.fromkeys(leg.trip for leg in legs))
+    taken = {trip.called for trip in trips if isinstance(trip.called, int)}
+    free = (number for number in range(len(trips)) if number not in taken)
+    return {trip: trip.called if isinstance(trip.called, int) else next(free) for trip in trips}
+
+
+def tell_mixed(text):
+    """Tells a trip's name that stands on lines with days and on lines without."""
+    first = {}
+    for line, sailing in text.said["sail"].items():
+        before, repeated = first.setdefault(sailing.trip, (line, bool(sailing.days)))
+        if isinstance(sailing.trip, str) and repeated != bool(sailing.days):
+            here, there = ("with", "without") if sailing.days else ("without", "with")
+            text.tell(line, f"trip {sailing.trip} {here} days", f"the trip {there} days as on line {before}, or another name")
+
+
+def readable(words):
+    """What the trip of a wrong line is called; None if that can't be told."""
+    places = [place for place, word in enumerate(words) if is_own(word, "trip")]
+    if len(places) != 1 or places[0] + 1 == len(words):
+        return None
+    try:
+        return trip(words[places[0] + 1])
+    except WrongLine:
+        return None
+
+
+def left_open(text, legs):
+    """What the trips are called that lines without rows belong to; None among them stands for any trip."""
+    whole = {leg.line for leg in legs} - set(text.faults)
+    unread = [readable(words) for words in text.wrong["sail"].values()]
+    return {sailing.trip for line, sailing in text.said["sail"].items() if line not in whole}.union(unread)
+
+
+def broken(legs):
+    """Each leg that doesn't go on where and when its trip last landed, with the leg that landed there."""
+    last = {}
+    for leg in sorted(legs, key=lambda leg: leg.departure):
+        before = last.get(leg.trip)
+        if before and (before.land != leg.board or before.arrival > leg.departure):
+            yield leg, before
+        last[leg.trip] = leg
+
+
+def tell_broken(text, legs, stops):
+    """Tells the rows that break the rule of their trips, of trips that no wrong line can belong to."""
+    unjudged = left_open(text, legs)
+    if None in unjudged or not stops.complete:
+        return
+    names = {place: name for name, place in stops.names.items()}
+    for leg, before in broken(legs):
+        if leg.trip.called in unjudged:
+            continue
+        there = "this line" if before.line == leg.line else f"line {before.line}"
+        landing = f"{there} lands it at {time_text(before.arrival)}"
+        asked = f"its departure no earlier than {landing}"
+        if before.land != leg.board:
+            asked = f"it to go on from {names.get(before.land, f'stop {before.land}')}, where {landing}"
+        if isinstance(leg.trip.called, int) and text.said["sail"][leg.line].days:
+            asked += "; a number is one boat in the whole week, a name on lines with days is one boat a day"
+        read = f"{leg.trip} from {names.get(leg.board, f'stop {leg.board}')} at {time_text(leg.departure)}"
+        text.tell(leg.line, read, asked)

@@ -1,0 +1,76 @@
+"""The numbers and names that a word can be."""
+import re
+
+from timetable import MOST_TRIPS
+from words import Word, WrongLine
+
+OWN_WORDS = ("stop", "stops", "class", "shares", "house", "sail", "trip", "days", "query", "name", "bound", "tables", "first")
+LONGEST_NAME = 60
+DIGITS = re.compile("[0-9]+")
+FOLDER_NAME = re.compile("[A-Za-z0-9_-]+")
+BARE_NAME = re.compile("[^ #]+")
+
+
+def is_own(word, *own):
+    """Whether it is one of these of the form's own words; what is in quotes never is."""
+    return not word.quoted and word.text in own
+
+
+def is_number(word):
+    return not word.quoted and DIGITS.fullmatch(word.text) is not None
+
+
+def number(word, least, most, asked):
+    if is_number(word):
+        digits = word.text.lstrip("0") or "0"
+        if len(digits) <= len(str(most)) and least <= int(digits) <= most:
+            return int(digits)
+    span = f"{least} to {most}" if least < most else f"only {most} here"
+    raise WrongLine(word, f"{asked} ({span}, in plain digits)")
+
+
+def name(word, asked):
+    if word.text in OWN_WORDS:
+        raise WrongLine(word, f"{asked} that is none of the form's own words")
+    if not any(letter.isalpha() for letter in word.text):
+        raise WrongLine(word, f"{asked} with a letter in it")
+    if len(word.text) > LONGEST_NAME:
+        raise WrongLine(word, f"{asked} of at most {LONGEST_NAME} characters, not {len(word.text)}")
+    return word.text
+
+
+def query_name(word):
+    """It becomes a folder's name."""
+    text = name(word, "a query's name")
+    if not FOLDER_NAME.fullmatch(text):
+        raise WrongLine(word, "a query's name of the letters a to z and A to Z, digits, - and _")
+    return text
+
+
+def trip(word):
+    """A trip's number, or its name."""
+    if is_number(word):
+        return number(word, 0, MOST_TRIPS - 1, "a trip's number")
+    return name(word, "a trip's number or its name")
+
+
+def in_text(name):
+    """A name as the text form writes it."""
+    return name if BARE_NAME.fullmatch(name) else f'"{name}"'
+
+
+def one_edit_apart(some, other):
+    """Whether one letter added, left out, changed, or swapped with its neighbour makes one name the other."""
+    while some and other and some[0] == other[0]:
+        some, other = some[1:], other[1:]
+    while some and other and some[-1] == other[-1]:
+        some, other = some[:-1], other[:-1]
+    return len(some) <= 1 and len(other) <= 1 or len(some) == 2 and some == other[::-1]
+
+
+def suggestion(word, known):
+    """A question for the one who may have meant a known name."""
+    for meant in known:
+        if meant.casefold() == word.text.casefold() or one_edit_apart(meant, word.text):
+            return f" (is {Word(meant, word.quoted)} meant?)"
+    return ""

@@ -1,0 +1,242 @@
+"""Wrong texts, each with the lines that must be told and a piece of what is told of them."""
+import re
+
+from running import called, files_in, finish, room
+
+BASE = """stop Harbour
+stop "North Island"
+stop Lighthouse
+class bus shares 4096
+class ferry house 5 30
+sail Harbour "North Island" d1 07:00 d1 07:40 trip early class ferry
+sail "North Island" Lighthouse d1 08:00 d1 08:30 trip early class bus
+sail Lighthouse Harbour 09:00 09:30 trip back class 0 days 1-5
+query Harbour Lighthouse d1 06:45
+""".splitlines()
+SHORT = ["stops 3", "class 4096", "query 0 2 d1 09:50"]
+LAST = len(BASE) + 1
+
+
+def changed(**lines):
+    """The base with the lines `line6=..` changed; a line that is None is left out."""
+    numbered = {f"line{place}": line for place, line in enumerate(BASE, 1)}
+    return [line for line in (numbered | lines).values() if line is not None]
+
+
+def added(*lines):
+    return [*BASE, *lines]
+
+
+def of_lines(cases):
+    """Lines that are wrong by themselves, behind the base, with a piece of the message."""
+    for line, piece in cases:
+        yield line, added(line), {LAST: piece}
+
+
+SAILS = [
+    ("sail 0 1 d1 10:00 d1 10:75 trip 8 class 1", "read 10:75, asked for a time of day"),
+    ("sail 0 1 d1 10:-5 d1 10:30 trip 8 class 1", "read 10:-5"),
+    ("sail 0 1 x1 10:00 d1 10:30 trip 8 class 1", "read x1, asked for the departure's day"),
+    ("sail 0 1 d1 10:00 x1 10:30 trip 8 class 1", "read x1"),
+    ("sail 0 1 d1 1_0:00 d1 10:30 trip 8 class 1", "read 1_0:00"),
+    ("sail 0 1 d1 ١٠:00 d1 10:30 trip 8 class 1", "read ١٠:00"),
+    ("sail 0 1 d1 24:00 d2 00:30 trip 8 class 1", "read 24:00"),
+    ("sail 0 1 d1 10:0 d1 10:30 trip 8 class 1", "read 10:0"),
+    ("sail 0 1 d1 10.00 d1 10:30 trip 8 class 1", "read 10.00"),
+    ("sail 0 1 d0 10:00 d1 10:30 trip 8 class 1", "read d0"),
+    ("sail 0 1 d8 10:00 d8 10:30 trip 8 class 1", "read d8"),
+    ("sail 0 1 D1 10:00 D1 10:30 trip 8 class 1", "read D1"),
+    ("sail 0 1 d1 10:00 d8 00:30 trip 8 class 1", "read d8"),
+    ("sail 0 1 d7 23:50 +1 00:10 trip 8 class 1", "read an arrival at d8 00:10"),
+    ("sail 0 1 23:50 +1 00:10 trip x class 1 days 5-7", "read an arrival at d8 00:10"),
+    ("sail 0 1 d1 10:00 d1 10:00 trip 8 class 1", "asked for one after the departure"),
+    ("sail 0 1 d1 23:50 00:20 trip 8 class 1", "on the next day it is +1 00:20"),
+    ("sail 0 1 23:50 00:20 trip x class 1 days 2", "on the next day it is +1 00:20"),
+    ("sail 0 1 d2 10:00 d1 10:30 trip 8 class 1", "asked for one after the departure at d2 10:00"),
+    ("sail 0 1 d1 10:00 +2 10:30 trip 8 class 1", "read +2"),
+    ("sail 0 1 d1 10:00 +1 trip 8 class 1", "read the line's end"),
+    ("sail 0 1 10:00 10:30 trip 8 class 1", "read 10:00, asked for the departure's day"),
+    ("sail 0 1 d1 10:00 10:30 trip x class 1 days 1-5", "read d1, asked for a departure such as"),
+    ("sail 0 1 10:00 d1 10:30 trip x class 1 days 1-5", "read d1, asked for an arrival such as"),
+    ("sail 0 1 10:00 10:30 trip x class 1 days 1 - 5", "read -, asked for the line's end"),
+    ("sail 0 1 10:00 10:30 trip x class 1 days 1,", "read days 1,"),
+    ("sail 0 1 10:00 10:30 trip x class 1 days 5-1", "lower to a higher"),
+    ("sail 0 1 10:00 10:30 trip x class 1 days 1-5,3", "each day once"),
+    ("sail 0 1 10:00 10:30 trip x class 1 days 0-5", "read 0, asked for a day's number (1 to 7"),
+    ("sail 0 1 10:00 10:30 trip x class 1 days 1-8", "read 8, asked for a day's number (1 to 7"),
+    ("sail 0 1 10:00 10:30 trip x class 1 days Mon-Fri", "read days Mon-Fri"),
+    ("sail 0 1 10:00 10:30 trip x class 1 days", "read days without a value"),
+    ("sail 0 1 10:00 10:30 trip x class 1 days 1 days 2", "read a second days"),
+    ("sail 0 1 d1 10:00 d1 10:30 class 1", "read no trip"),
+    ("sail 0 1 d1 10:00 d1 10:30 trip 8", "read no class"),
+    ("sail 0 1 d1 10:00 d1 10:30 trip class 1", "read trip without a value"),
+    ("sail 0 1 d1 10:00 d1 10:30 trip 8 class", "read class without a value"),
+    ("sail 0 1 d1 10:00 d1 10:30 trip 8 class 1 trip 8", "read a second trip"),
+    ("sail 0 1 d1 10:00 d1 10:30 trip 8 class 1 class 0", "read a second class"),
+    ("sail 0 1 d1 10:00 d1 10:30 trip 2000 class 1", "read 2000, asked for a trip's number (0 to 1999"),
+    ("sail 0 1 d1 10:00 d1 10:30 trip -1 class 1", "with a letter in it"),
+    ("sail 0 1 d1 10:00 d1 10:30 trip ٣ class 1", "with a letter in it"),
+    ("sail 0 1 d1 10:00 d1 10:30 trip \"8\" class 1", "with a letter in it"),
+    ("sail 0 1 d1 10:00 d1 10:30 trip 8 class 2", "read 2, asked for a class's name or number (0 to 1"),
+    ("sail 0 1 d1 10:00 d1 10:30 trip 8 class Ferry", "is ferry meant?"),
+    ("sail 0 1 d1 10:00 d1 10:30 trip 8 class fast", "read fast, asked for a class's name or number"),
+    ("sail 0 3 d1 10:00 d1 10:30 trip 8 class 1", "read 3, asked for a stop's name or number (0 to 2"),
+    ("sail 0 99999999999999999999 d1 10:00 d1 10:30 trip 8 class 1", "a stop's name or number (0 to 2"),
+    ("sail harbour 1 d1 10:00 d1 10:30 trip 8 class 1", "is Harbour meant?"),
+    ("sail Lighthuose 1 d1 10:00 d1 10:30 trip 8 class 1", "is Lighthouse meant?"),
+    ("sail Nowhere 1 d1 10:00 d1 10:30 trip 8 class 1", "read Nowhere, asked for a stop's name or number"),
+    ("sail \"0\" 1 d1 10:00 d1 10:30 trip 8 class 1", "read \"0\", asked for a stop's name or number"),
+    ("sail North Island Harbour d1 10:00 d1 10:30 trip 8 class 1", "several words stands in double quotes"),
+    ("sail 0 0 d1 10:00 d1 10:30 trip 8 class 1", "two different stops"),
+    ("sail 0 Harbour d1 10:00 d1 10:30 trip 8 class 1", "two different stops"),
+    ("sail 0 1 d1 10:00 d1 10:30 trip 8 class 1 2", "read 2, asked for the line's end"),
+    ("sail 0 1 d1 10:00 d1 10:30 trip 8 class 1 bound 4", "read bound, asked for the line's end"),
+    ("sail 0 1 d1 10:00 trip 8 class 1", "read the line's end, asked for the arrival"),
+    ("sail", "read no trip"),
+]
+OTHERS = [
+    ("stop Harbour", "another name than line 1 has"),
+    ("stop", "read the line's end, asked for a stop's name"),
+    ("stop South Island", "several words stands in double quotes"),
+    ("stop 7", "with a letter in it"),
+    ('stop ""', "with a letter in it"),
+    ("stop class", "none of the form's own words"),
+    ('stop "days"', "none of the form's own words"),
+    ("stop " + "x" * 61, "at most 60 characters, not 61"),
+    ('stop "a"b', "a double quote inside a word"),
+    ('stop a"b', "a double quote inside a word"),
+    ('stop "South Island', "a double quote that is not closed"),
+    ("stop South\u00a0Island", "U+00A0 (NO-BREAK SPACE)"),
+    ("stop A\x00B", "U+0000"),
+    ("stop A\rstop B", "U+000D"),
+    ('stop "A\tB"', "U+0009"),
+    ("stop A\udce9", "the byte 0xe9 behind 6 others, asked for text saved as UTF-8"),
+    ("stops 2 3", "read 3, asked for the line's end"),
+    ("stops 1", "(2 to 200"),
+    ("stops 201", "(2 to 200"),
+    ("stops x", "read x"),
+    ("stops", "read the line's end"),
+    ("class bus shares 4096", "another name than line 4 has"),
+    ("class", "read class alone"),
+    ("class fast", "read the line's end"),
+    ("class shares", "read the line's end"),
+    ("class fast shares 4095", "shares that sum to 4095"),
+    ("class fast shares 4097", "(0 to 4096"),
+    ("class fast 4000 -4 100", "read -4"),
+    ("class -4 4100", "read -4"),
+    ("class fast shares 4096 0", "a last share of 0"),
+    ("class fast shares 3975" + " 1" * 121, "read 122 shares"),
+    ("class fast shares 4,096", "read 4,096"),
+    ("class fast house 5 31", "one of the house pairs 2 10, 5 30"),
+    ("class fast house 5", "asked for a house pair"),
+    ("class fast house 5 30 2", "read 2, asked for the line's end"),
+    ("class house 4096", "asked for a house pair"),
+    ("class house shares 4096", "read house shares 4096"),
+    ("tables last", "asked for tables first"),
+    ("tables", "asked for tables first"),
+    ("tables first first", "asked for tables first"),
+    ("sial 0 1 d1 10:00 d1 10:30 trip 8 class 1", "(is sail meant?)"),
+    ("STOP A", "(is stop meant?)"),
+    ('"stop" A', 'read "stop"'),
+    ("trip 8", "read trip, asked for one of"),
+]
+QUERIES = [
+    ("query Harbour Harbour d1 06:45", "two different stops"),
+    ("query Harbour 3 d1 06:45", "a stop's name or number (0 to 2"),
+    ("query Harbour d1 06:45", "read 06:45, asked for the day behind two stops"),
+    ("query Harbour", "read the line's end, asked for the target stop"),
+    ("query 0 2 06:45", "read 06:45, asked for the day"),
+    ("query 0 2 d1 06:45 07:00", "read 07:00, asked for the line's end"),
+    ("query 0 2 d1 06:45 bound 3", "read bound 3, asked for a bound code, 0 or 4 to 16"),
+    ("query 0 2 d1 06:45 bound 17", "read bound 17"),
+    ("query 0 2 d1 06:45 bound", "read bound without a value"),
+    ("query 0 2 d1 06:45 bound 4 bound 4", "read a second bound"),
+    ("query 0 2 d1 06:45 name", "read name without a value"),
+    ("query 0 2 d1 06:45 name a name b", "read a second name"),
+    ("query 0 2 d1 06:45 name ..", "with a letter in it"),
+    ("query 0 2 d1 06:45 name 7", "with a letter in it"),
+    ("query 0 2 d1 06:45 name a/b", "the letters a to z"),
+    ("query 0 2 d1 06:45 name früh", "the letters a to z"),
+    ("query 0 2 d8 06:45", "read d8"),
+]
+
+
+def of_queries():
+    for line, piece in QUERIES:
+        yield line, changed(line9=line), {9: piece}
+
+
+def of_texts():
+    """Faults that belong to several lines, or to the whole text."""
+    yield "empty", [], {1: "a text without a statement"}
+    yield "only remarks", ["# a", "", "  # b"], {1: "a text without a statement"}
+    yield "no stops", SHORT[1:] + ["#"], {3: "no stops in the whole text"}
+    yield "one stop", ["stop A", *SHORT[1:]], {3: "only one stop"}
+    yield "no class", [SHORT[0], SHORT[2]], {2: "no class"}
+    yield "no query", SHORT[:2], {2: "no query"}
+    yield "nothing but stops", ["stops 3", ""], {2: "no class and no query"}
+    yield "a second stops", ["stops 3", *SHORT], {2: "a second line with stops"}
+    yield "more stop lines than stops", ["stop A", "stop B", "stop C", "stop D", *SHORT], {4: "3 stops, as line 5 says"}
+    yield "a second query", [*SHORT, "query 1 2 d1 09:50"], {3: "a query without a name", 4: "a query without a name"}
+    yield "one of three without a name", [*SHORT[:2], "query name a 0 1 d1 00:00", SHORT[2], "query 0 1 d1 00:00 name b"], {4: "without a name"}
+    yield "names alike but for case", [*SHORT[:2], "query name a 0 1 d1 00:00", "query name A 0 1 d1 00:00"], {4: "another name than line 3"}
+    yield "tables first twice", ["tables first", *SHORT, "tables first"], {5: "a second line with tables"}
+    yield "201 stops", [f"stop s{place}" for place in range(202)] + SHORT[1:], {201: "stop number 201"}
+    yield "17 classes", [*SHORT, *["class 4096"] * 17], {19: "class number 17"}
+    yield "2,001 rows", [*SHORT, *[f"sail 0 1 10:00 10:30 trip t{place} class 0 days 1-7" for place in range(287)]], {289: "row number 2001"}
+    yield "class and trip swapped", [*SHORT, "sail 0 1 d1 10:00 d1 10:30 class 1 trip 0"], {4: "read 1, asked for a class's name or number (only 0"}
+    yield "all wrong lines at once", ["stops", "class", "sail", "query", "what"], dict.fromkeys(range(1, 6), "read")
+    yield "a wrong stop line, names left alone", changed(line2="stop North Island"), {2: "in double quotes"}
+    yield "a wrong class line, names left alone", changed(line5="class ferry house 6 30"), {5: "house pairs"}
+    yield "a misspelt query, none missing", changed(line9="qeury Harbour Lighthouse d1 06:45"), {9: "is query meant"}
+    yield "CR LF, a fault behind it", [line + "\r" for line in added("stops 1")], {LAST: "read 1"}
+    yield "UTF-16", "\ufeffstops 3\n".encode("utf-16").decode("utf-8", "surrogateescape").split("\n"), {1: "UTF-8", 2: "U+0000"}
+
+
+def of_trips():
+    early = "sail Lighthouse Harbour d1 08:20 d1 09:00 trip early class bus"
+    yield "leaves before it landed", changed(line9=early, line10=BASE[8]), {9: "no earlier than line 7 lands it at d1 08:30"}
+    away = "sail Harbour Lighthouse d1 10:00 d1 11:00 trip early class bus"
+    yield "goes on elsewhere", changed(line9=away, line10=BASE[8]), {9: "from Lighthouse, where line 7 lands it at d1 08:30"}
+    number = "sail 0 1 10:00 10:30 trip 5 class bus days 1-5"
+    yield "a number with days", added(number), {LAST: "this line lands it at d1 10:30; a number is one boat in the whole week"}
+    mixed = "sail 0 1 10:00 10:30 trip early class bus days 1-5"
+    yield "a name with and without days", added(mixed), {LAST: "without days as on line 6"}
+    bad = "sail 0 1 d1 10:00 d1 10:75 trip early class bus"
+    yield "a wrong line of the trip, the trip not judged", added(away, bad), {LAST + 1: "10:75"}
+    other = "sail 0 1 d1 10:00 d1 10:75 trip other class bus"
+    yield "a wrong line of another trip", added(away, other), {LAST: "trip early", LAST + 1: "10:75"}
+    unknown = "sail 0 1 d1 10:00 d1 10:30 trip class bus"
+    yield "a wrong line of any trip", added(away, unknown), {LAST + 1: "trip without"}
+    yield "a misspelt line, no trip judged", added(away, "sial"), {LAST + 1: "is sail meant"}
+    twice = [f"sail 0 1 d1 10:0{place} 10:30 trip 9 class bus" for place in range(2)]
+    yield "the same boat twice", added(*twice), {LAST + 1: f"line {LAST} lands it"}
+
+
+def failure(what, lines, wanted):
+    with room() as folder:
+        path = f"{folder}/text"
+        with open(path, "wb") as file:
+            file.write("".join(f"{line}\n" for line in lines).encode("utf-8", "surrogateescape"))
+        status, out, err = called("pack", path, f"{folder}/packed/deep")
+        written = set(files_in(folder)) - {"text"}
+    told = re.findall(re.escape(path) + r":([0-9]+): (read .+, asked for .+)\n", err)
+    if status != 1 or out or written or err.count("\n") != len(told):
+        return f"{what}: ended with {status}, printed {out!r}, wrote {written}: {err}"
+    if [int(line) for line, _ in told] != sorted(wanted):
+        return f"{what}: told {err}"
+    missed = [message for line, message in told if wanted[int(line)] not in message]
+    return f"{what}: {missed} instead of {wanted}" if missed else None
+
+
+def main():
+    cases = [*of_lines(SAILS), *of_lines(OTHERS), *of_queries(), *of_texts(), *of_trips()]
+    failures = [failure(*case) for case in cases]
+    with room() as folder:
+        with open(f"{folder}/text", "w") as file:
+            file.write("\n".join(BASE))
+        failures.append(called("pack", "--quiet", f"{folder}/text", f"{folder}/packed") != (0, "", "") and "the base is refused")
+    finish("wrong texts", len(cases), [one for one in failures if one])
+
+
+main()
