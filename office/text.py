@@ -46,8 +46,9 @@ class Text:
 
     def tell_second(self, kind):
         """Tells the lines behind the first, of a kind that a text has once."""
-        for line in self.lines_of(kind)[1:]:
-            self.tell(line, f"a second line with {kind}", f"one; line {self.lines_of(kind)[0]} has it")
+        first, *others = self.lines_of(kind) or [None]
+        for line in others:
+            self.tell(line, f"a second line with {kind}", f"one; line {first} has it")
 
     def tell_equal(self, kind, names, key=str):
         """Tells the names that are given again; `names` has the name, if any, of each line."""

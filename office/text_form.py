@@ -33,9 +33,10 @@ def all_legs(text, stops, classes):
 def all_queries(text, stops):
     asked = text.said["query"]
     text.tell_equal("query", {line: one.name for line, one in asked.items()}, str.lower)
+    several = len(text.lines_of("query")) > 1
     queries = []
     for line, one in asked.items():
-        if one.name is None and len(text.lines_of("query")) > 1:
+        if one.name is None and several:
             text.tell(line, "a query without a name", "name and a word, since there are several queries")
         try:
             queries.append(Query(*stops.two((one.source, one.target)), one.minute, one.bound, one.name))

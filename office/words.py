@@ -54,18 +54,16 @@ def refuse_unseen(text):
 def split(text):
     """The words of a line."""
     words, place = [], 0
-    while not NO_WORDS.match(text, place):
-        found = WORD.match(text, place)
-        if not found:
-            rest = text[place:].lstrip(" \t")
-            closed = not rest.startswith('"') or rest.count('"') > 1
-            read = "a double quote inside a word" if closed else "a double quote that is not closed"
-            raise WrongLine(f"{read}: {Word(rest)}", "a name between two double quotes, with blanks around them")
+    while found := WORD.match(text, place):
         quoted = found["quoted"] is not None
-        word = Word(found["quoted"] if quoted else found["plain"], quoted)
-        refuse_unseen(word.text)
-        words.append(word)
+        words.append(Word(found["quoted"] if quoted else found["plain"], quoted))
+        refuse_unseen(words[-1].text)
         place = found.end()
+    if not NO_WORDS.match(text, place):
+        rest = text[place:].lstrip(" \t")
+        closed = not rest.startswith('"') or rest.count('"') > 1
+        read = "a double quote inside a word" if closed else "a double quote that is not closed"
+        raise WrongLine(f"{read}: {Word(rest)}", "a name between two double quotes, with blanks around them")
     return words
 
 

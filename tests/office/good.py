@@ -182,4 +182,5 @@ def main():
     finish("good texts", len(failures), [one for one in failures if one])
 
 
-main()
+if __name__ == "__main__":
+    main()

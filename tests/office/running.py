@@ -1,5 +1,6 @@
 """The office's command for its tests, called in this process or as one of its own, and the tests' own writer of files."""
 import contextlib
+import functools
 import importlib.machinery
 import importlib.util
 import io
@@ -23,6 +24,7 @@ def loaded(name, path):
 
 
 office = loaded("office_command", SCRIPT)
+office.parser = functools.cache(office.parser)  # built once: it takes longer than a command
 writer = loaded("tests_sailing_file", ROOT / "tests" / "sailing_file.py")
 
 

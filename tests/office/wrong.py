@@ -239,4 +239,5 @@ def main():
     finish("wrong texts", len(cases), [one for one in failures if one])
 
 
-main()
+if __name__ == "__main__":
+    main()

@@ -1,0 +1,174 @@
+"""Sound files of every shape come back from unpack and pack byte for byte; damaged ones are refused with document 01's number."""
+import pathlib
+import random
+import shutil
+
+import sound
+from good import PAIRS, house_table
+from running import called, files_in, finish, room, writer
+
+COUNT = 2000
+SEED = 1
+LETTERS = "abcxyzABC äßéйλ北é-_.,:'()/\\+#0123456789"
+ORDINARY = ("Harbour", "d1", "days of old", "07:00x", "Sail", "#one")
+
+
+def chance_table(chance):
+    kind = chance.randrange(4)
+    if kind == 0:
+        return list(house_table(*chance.choice(PAIRS)))
+    longest = chance.choice((0, 1, 3, 10, 120))
+    marks = sorted(chance.randrange(4096) for _ in range(longest))
+    return [after - before for before, after in zip([0, *marks], [*marks, 4096])]
+
+
+def chance_rows(chance, stops, classes, count):
+    """Rows by rising departure; a trip goes on from where it landed, once it has."""
+    rows, at = [], {}
+    departs = chance.randrange(200)
+    for _ in range(count):
+        departs += chance.choice((0, 0, 1, 7, 60))
+        trip = chance.choice((chance.randrange(5), chance.randrange(2000)))
+        board, landed = at.get(trip, (chance.randrange(stops), 0))
+        if departs > 10000 or landed > departs:
+            continue
+        land = chance.choice([stop for stop in range(stops) if stop != board])
+        arrives = min(departs + chance.choice((1, 5, 30, 900)), 10079)
+        rows.append((board, land, departs, arrives, trip, chance.randrange(classes)))
+        at[trip] = land, arrives
+    return rows
+
+
+def chance_names(chance, count):
+    """Different names, each with a letter."""
+    found = {}
+    while len(found) < count:
+        name = chance.choice(ORDINARY) if chance.random() < 0.1 else "".join(chance.choice(LETTERS) for _ in range(chance.randrange(1, 20)))
+        name = f"{name}n{len(found)}"
+        found[name] = None
+    return list(found)
+
+
+def as_word(name):
+    return f'"{name}"' if " " in name or "#" in name else name
+
+
+def chance_files(chance):
+    stops, classes = chance.choice((2, 3, 7, 200)), chance.choice((1, 2, 16))
+    tables = [chance_table(chance) for _ in range(classes)]
+    rows = chance_rows(chance, stops, classes, chance.choice((0, 1, 5, 40)))
+    source, target = chance.sample(range(stops), 2)
+    query = writer.query_bytes(source, target, chance.choice((0, 590, 10079)), chance.choice((0, 4, 9, 16)))
+    names = ""
+    if chance.random() < 0.7:
+        names += "".join(f"stop {as_word(name)}\n" for name in chance_names(chance, chance.choice((0, 1, stops))))
+        for kind, name in enumerate(chance_names(chance, classes)):
+            names += f"class {kind} {as_word(name)}\n" if chance.random() < 0.7 else ""
+        names += chance.choice(("", "query to-day_1\n"))
+    return {"sailings": writer.sailing_file(rows, tables, stops, chance.random() < 0.5), "query": query, "names": names.encode()}
+
+
+def lay(folder, files):
+    shutil.rmtree(folder, ignore_errors=True)
+    for name, data in files.items():
+        path = pathlib.Path(folder, name)
+        path.parent.mkdir(parents=True, exist_ok=True)
+        path.write_bytes(data)
+
+
+def round_failure(folder, files):
+    """Unpacked and packed again; `names` without a name may as well be missing."""
+    lay(f"{folder}/old", {name: data for name, data in files.items() if data})
+    status, out, err = called("unpack", f"{folder}/old")
+    if (status, err) != (0, ""):
+        return f"unpack ended with {status}: {err}"
+    pathlib.Path(folder, "text").write_bytes(out.encode())
+    shutil.rmtree(f"{folder}/new", ignore_errors=True)
+    ended = called("pack", "--quiet", f"{folder}/text", f"{folder}/new")
+    if ended != (0, "", ""):
+        return f"pack ended with {ended}: {out}"
+    return None if files_in(f"{folder}/new") == files else f"other files came back: {out}"
+
+
+def hurt(chance, data):
+    """One number, bit or stretch of the bytes changed; mostly near the ends, where trailer and first row stand."""
+    at = chance.choice((chance.randrange(len(data)), len(data) - 1 - chance.randrange(min(16, len(data))), chance.randrange(min(12, len(data)))))
+    kind = chance.randrange(7)
+    if kind == 0:
+        return data[:at]
+    if kind == 1:
+        return data[:at] + chance.randbytes(chance.choice((1, 2, 12))) + data[at:]
+    if kind == 2:
+        return data[:at] + bytes([data[at] ^ 1 << chance.randrange(8)]) + data[at + 1:]
+    if kind == 3:
+        return data[:at // 2 * 2] + chance.choice((0, 1, 121, 200, 2000, 10080)).to_bytes(2, "little") + data[at // 2 * 2 + 2:]
+    if kind == 4:
+        return data[:at] + data[at + chance.choice((1, 2, 12)):]
+    if kind == 5:
+        return data[12:24] + data[:12] + data[24:]
+    return data + bytes(27900) if chance.random() < 0.1 else data[::-1]
+
+
+def refusal_failure(folder, chance, files, seen):
+    name = chance.choice(("sailings", "sailings", "sailings", "query"))
+    files = {**files, "names": b"", name: hurt(chance, files[name])}
+    wanted = sound.refusal(files["sailings"], files["query"])
+    seen[wanted] = seen.get(wanted, 0) + 1
+    lay(f"{folder}/old", files)
+    status, out, err = called("unpack", f"{folder}/old")
+    if wanted == 0:
+        return None if (status, err) == (0, "") else f"sound, but ended with {status}: {err}"
+    told = f": refused {wanted}: " in err and "explain" in err and err.count("\n") == 1
+    return None if status == 1 and told and out == "" else f"refused {wanted} by document 01; ended with {status}: {out}{err}"
+
+
+WRONG_NAMES = (b"stop A\nstop B\nstop C\nstop D\n", b"stop A\nstop A\n", b"class 2 x\n", b"class 0 x\nclass 0 y\n", b"class 0 x\nclass 1 x\n",
+               b"query a\nquery b\n", b"query a/b\n", b"stop\n", b"stop 5\n", b"stop A B\n", b"\xff\n", b'stop "A\n', b"what A\n", b"class x 0\n")
+
+
+def names_failure(folder, names):
+    lay(f"{folder}/old", {"sailings": writer.sailing_file(), "query": writer.query_bytes(), "names": names})
+    status, out, err = called("unpack", f"{folder}/old")
+    return None if status == 1 and not out and "/names:" in err and "read " in err else f"names {names}: ended with {status}: {out}{err}"
+
+
+def several():
+    """What the folder has, whether it is one text's, and a piece of the text or message."""
+    one = {"sailings": writer.sailing_file(), "query": writer.query_bytes(), "names": b"stop A\nquery one\n"}
+    two = one | {"query": writer.query_bytes(2, 0), "names": b"stop A\nquery two\n"}
+    both = {"one": one, "two": two}
+    yield both, True, "query name two 2 A"
+    yield {"one": one, "two": two | {"names": b"stop B\nquery two\n"}}, False, "names are not those of one"
+    yield {"one": one, "two": two | {"sailings": writer.sailing_file(rows_first=False)}}, False, "names are not those of one"
+    yield {"one": one, "three": two}, False, "call the query two"
+    yield {"one": one, "a b": two | {"names": b"stop A\n"}}, False, "asked for a query's name"
+    yield both | {".": one}, False, "two packings"
+    yield {"one": two | {"sailings": b""}}, False, "refused 1"
+    yield {"one": {"query": b""}}, False, "No such file"
+
+
+def several_failure(folder, folders, fine, piece):
+    files = {f"{name}/{kind}": data for name, kinds in folders.items() for kind, data in kinds.items()}
+    lay(f"{folder}/old", files)
+    status, out, err = called("unpack", f"{folder}/old")
+    if piece not in (out if fine else err) or status != 1 - fine:
+        return f"{list(files)}: ended with {status}: {out}{err}"
+    return round_failure(folder, files) if fine else None
+
+
+def main():
+    chance, failures, seen = random.Random(SEED), [], {}
+    with room() as folder:
+        for _ in range(COUNT):
+            files = chance_files(chance)
+            assert sound.refusal(files["sailings"], files["query"]) == 0
+            failures.append(round_failure(folder, files))
+            failures.append(refusal_failure(folder, chance, files, seen))
+        failures += [names_failure(folder, names) for names in WRONG_NAMES]
+        failures += [several_failure(folder, *case) for case in several()]
+    failures += [f"only {seen.get(number, 0)} files were refused {number}" for number in range(7) if seen.get(number, 0) < 10]
+    finish("unpacked files", len(failures), [one for one in failures if one])
+
+
+if __name__ == "__main__":
+    main()
