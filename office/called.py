@@ -15,11 +15,11 @@ class Called:
         """The one called so; None where wrong lines leave open whether there is one."""
         if is_number(word):
             most = self.count if self.complete else self.most
-            return number(word, 0, most - 1, f"a {self.noun}'s name or number")
+            return number(word, 0, most - 1, f"the name or number of a {self.noun} that the text has")
         if word.text in self.names:
             return self.names[word.text]
         if self.complete:
-            raise WrongLine(word, f"a {self.noun}'s name or number{suggestion(word, self.names)}")
+            raise WrongLine(word, f"the name or number of a {self.noun} that the text has{suggestion(word, self.names)}")
         return None
 
     def two(self, words):

@@ -10,7 +10,6 @@ from words import Word, WrongLine
 
 SAIL_OPTIONS = {"trip": "a trip's number or name", "class": "a class's name or number", "days": "days such as 1-5"}
 QUERY_OPTIONS = {"bound": "a bound code, 0 or 4 to 16", "name": "a query's name"}
-IN_QUOTES = "the line's end (a name of several words stands in double quotes)"
 
 
 @dataclass(frozen=True)
@@ -70,7 +69,7 @@ def options(words, known):
         if value is None or is_own(value, *OWN_WORDS):
             raise WrongLine(f"{word} without a value", known[word.text])
         if word.text in values:
-            raise WrongLine(f"a second {word}", f"one {word} on a line")
+            raise WrongLine(f"a second {word}", f"{word} once on a line")
         values[word.text] = value
     return values, Left(besides)
 
@@ -85,7 +84,7 @@ def stops(words):
 def stop(words):
     left = Left(words)
     called = name(left.take("a stop's name"), "a stop's name")
-    left.end(IN_QUOTES)
+    left.end("the line's end; a name of several words stands in double quotes")
     return called
 
 
@@ -100,10 +99,9 @@ def house_shares(left):
 
 
 def own_shares(left):
-    asked = "the share of landings so many minutes late"
-    shares = [number(left.take(asked), 0, SHARE_TOTAL, asked)]
+    shares = [number(left.take("shares, or house and a pair"), 0, SHARE_TOTAL, "a share")]
     while left.words:
-        shares.append(number(left.take(asked), 0, SHARE_TOTAL, asked))
+        shares.append(number(left.take("a share"), 0, SHARE_TOTAL, "a share"))
     if len(shares) > LONGEST_DELAY + 1:
         raise WrongLine(f"{len(shares)} shares", f"at most {LONGEST_DELAY + 1}, for 0 to {LONGEST_DELAY} minutes late")
     if sum(shares) != SHARE_TOTAL:
@@ -114,15 +112,11 @@ def own_shares(left):
 
 
 def delay_class(words):
-    left = Left(words)
-    if not words:
-        raise WrongLine("class alone", "shares, or a house pair")
-    called = None
-    if not is_number(words[0]) and not is_own(words[0], "shares", "house"):
-        called = name(left.take("a class's name"), "a class's name, shares or house")
-    if left.words and is_own(left.words[0], "house", "shares"):
-        if left.take("").text == "house":
-            return DelayClass(called, house_shares(left))
+    left, called = Left(words), None
+    if words and not is_number(words[0]) and not is_own(words[0], "shares", "house"):
+        called = name(left.words.pop(0), "a class's name")
+    if left.words and is_own(left.words[0], "shares", "house") and left.words.pop(0).text == "house":
+        return DelayClass(called, house_shares(left))
     return DelayClass(called, own_shares(left))
 
 
@@ -130,12 +124,12 @@ def sail(words):
     values, left = options(words, SAIL_OPTIONS)
     for needed in ("trip", "class"):
         if needed not in values:
-            raise WrongLine(f"no {needed}", f"{needed} and {SAIL_OPTIONS[needed]}")
+            raise WrongLine(f"no {needed}", f"the word {needed} and {SAIL_OPTIONS[needed]}")
     days = times.days(values["days"]) if "days" in values else None
     goes = trip(values["trip"])
     board, land = left.take("the boarding stop"), left.take("the landing stop")
     spans = times.spans(left, days)
-    left.end()
+    left.end("the line's end; days are written without blanks" if days else "the line's end")
     return Sailing(board, land, spans, days, goes, values["class"])
 
 
@@ -151,7 +145,7 @@ def query(words):
     called = query_name(values["name"]) if "name" in values else None
     code = bound(values["bound"]) if "bound" in values else 0
     source, target = left.take("the source stop"), left.take("the target stop")
-    minute = times.moment(left, "the day behind two stops (a name of several words stands in double quotes)")
+    minute = times.moment(left, "the day behind two stops")
     left.end()
     return Asked(source, target, minute, code, called)
 

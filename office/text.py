@@ -23,7 +23,8 @@ class Text:
             if isinstance(words, WrongLine):
                 raise words
             if not is_own(words[0], *FORMS):
-                raise WrongLine(words[0], f"one of {', '.join(FORMS)} at the line's start{suggestion(words[0], FORMS)}")
+                hint = ", without quotes" if words[0].text in FORMS else suggestion(words[0], FORMS)
+                raise WrongLine(words[0], f"one of {', '.join(FORMS)} at the line's start{hint}")
             kind, rest = words[0].text, words[1:]
             self.said[kind][line] = FORMS[kind](rest)
         except WrongLine as wrong:
@@ -50,14 +51,14 @@ class Text:
         for line in others:
             self.tell(line, f"a second line with {kind}", f"one; line {first} has it")
 
-    def tell_equal(self, kind, names, key=str):
+    def tell_equal(self, kind, names, key=str, aside=""):
         """Tells the names that are given again; `names` has the name, if any, of each line."""
         first = {}
         for line, name in names.items():
             if name is not None and first.setdefault(key(name), line) != line:
-                self.tell(line, f"{kind} {name} a second time", f"another name than line {first[key(name)]} has")
+                self.tell(line, f"{kind} {name}", f"another name than that of line {first[key(name)]}{aside}")
 
     def tell_past(self, kind, most, asked):
         """Tells the first line that passes a limit."""
         if len(found := self.lines_of(kind)) > most:
-            self.tell(found[most], f"{kind} number {most + 1}", asked)
+            self.tell(found[most], f"more than {most} lines with {kind}", asked)

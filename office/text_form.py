@@ -25,14 +25,14 @@ def all_legs(text, stops, classes):
         except WrongLine as wrong:
             text.tell_wrong(line, wrong)
         if count <= MOST_ROWS < count + len(sailing.spans):
-            text.tell(line, f"row number {MOST_ROWS + 1}", f"at most {MOST_ROWS} rows")
+            text.tell(line, f"more than {MOST_ROWS} rows so far", f"at most {MOST_ROWS} rows")
         count += len(sailing.spans)
     return legs
 
 
 def all_queries(text, stops):
     asked = text.said["query"]
-    text.tell_equal("query", {line: one.name for line, one in asked.items()}, str.lower)
+    text.tell_equal("query", {line: one.name for line, one in asked.items()}, str.lower, ", capitals aside")
     several = len(text.lines_of("query")) > 1
     queries = []
     for line, one in asked.items():

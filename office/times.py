@@ -22,7 +22,8 @@ def day(word, asked):
     """A day's first minute."""
     found = None if word.quoted else NAMED_DAY.fullmatch(word.text)
     if not found:
-        raise WrongLine(word, f"{asked}, d1 to d{LAST_DAY}")
+        hint = "" if any(one.isdigit() for one in word.text) else "; a name of several words stands in double quotes"
+        raise WrongLine(word, f"{asked}, d1 to d{LAST_DAY}{hint}")
     return (int(found[1]) - 1) * DAY
 
 
@@ -50,7 +51,7 @@ def moment(words, asked):
 def departure(words, repeated):
     """Minutes into the week, or into each day where the sailing is repeated."""
     if not repeated:
-        return moment(words, "the departure's day behind two stops (a name of several words stands in double quotes)")
+        return moment(words, "the departure's day behind two stops")
     word = words.take("the departure's time")
     if ":" not in word.text:
         raise WrongLine(word, "a departure such as 07:00 behind two stops, without a day since the line has days")
@@ -79,5 +80,5 @@ def spans(words, repeated):
         raise WrongLine(read, f"one after the departure at {time_text(departs)[3 * bool(repeated):]}{hint}")
     found = [(first + departs, first + arrives) for first in ((number - 1) * DAY for number in repeated or [1])]
     if found[-1][1] > LAST_MINUTE:
-        raise WrongLine(f"an arrival at {time_text(found[-1][1])}", f"one by {time_text(LAST_MINUTE)}, where the file's week ends")
+        raise WrongLine(f"an arrival at {time_text(found[-1][1])}", f"one by {time_text(LAST_MINUTE)}, when the week ends")
     return found

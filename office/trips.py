@@ -94,10 +94,10 @@ def tell_broken(text, legs, stops):
         if leg.trip.called in unjudged:
             continue
         there = "this line" if before.line == leg.line else f"line {before.line}"
-        landing = f"{there} lands it at {time_text(before.arrival)}"
-        asked = f"its departure no earlier than {landing}"
+        asked = f"a departure no earlier than {time_text(before.arrival)}, when {there} lands it"
         if before.land != leg.board:
-            asked = f"it to go on from {names.get(before.land, f'stop {before.land}')}, where {landing}"
+            stop = names.get(before.land, f"stop {before.land}")
+            asked = f"it to go on from {stop}, where {there} lands it at {time_text(before.arrival)}"
         if isinstance(leg.trip.called, int) and text.said["sail"][leg.line].days:
             asked += "; a number is one boat in the whole week, a name on lines with days is one boat a day"
         read = f"{leg.trip} from {names.get(leg.board, f'stop {leg.board}')} at {time_text(leg.departure)}"

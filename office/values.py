@@ -25,7 +25,7 @@ def number(word, least, most, asked):
         digits = word.text.lstrip("0") or "0"
         if len(digits) <= len(str(most)) and least <= int(digits) <= most:
             return int(digits)
-    span = f"{least} to {most}" if least < most else f"only {most} here"
+    span = f"{least} to {most}" if least < most else f"{most} is the only one"
     raise WrongLine(word, f"{asked} ({span}, in plain digits)")
 
 
@@ -70,7 +70,6 @@ def one_edit_apart(some, other):
 
 def suggestion(word, known):
     """A question for the one who may have meant a known name."""
-    for meant in known:
-        if meant.casefold() == word.text.casefold() or one_edit_apart(meant, word.text):
-            return f" (is {Word(meant, word.quoted)} meant?)"
-    return ""
+    alike = [name for name in known if name.casefold() == word.text.casefold()]
+    alike += [name for name in known if one_edit_apart(name, word.text)]
+    return f" (is {Word(alike[0], word.quoted)} meant?)" if alike else ""

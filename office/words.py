@@ -38,7 +38,7 @@ def decoded(line):
     try:
         text = line.decode()
     except UnicodeDecodeError as error:
-        raise WrongLine(f"the byte {line[error.start]:#04x} behind {error.start} others", "text saved as UTF-8") from None
+        raise WrongLine(f"{line[error.start]:#04x} as the line's byte {error.start + 1}", "text saved as UTF-8") from None
     if control := CONTROL.search(text):
         raise unwanted(control[0], "no control characters but tabs")
     return unicodedata.normalize("NFC", text)

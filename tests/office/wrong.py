@@ -58,7 +58,7 @@ SAILS = [
     ("sail 0 1 10:00 10:30 trip 8 class 1", "read 10:00, asked for the departure's day"),
     ("sail 0 1 d1 10:00 10:30 trip x class 1 days 1-5", "read d1, asked for a departure such as"),
     ("sail 0 1 10:00 d1 10:30 trip x class 1 days 1-5", "read d1, asked for an arrival such as"),
-    ("sail 0 1 10:00 10:30 trip x class 1 days 1 - 5", "read -, asked for the line's end"),
+    ("sail 0 1 10:00 10:30 trip x class 1 days 1 - 5", "read -, asked for the line's end; days are written without blanks"),
     ("sail 0 1 10:00 10:30 trip x class 1 days 1,", "read days 1,"),
     ("sail 0 1 10:00 10:30 trip x class 1 days 5-1", "lower to a higher"),
     ("sail 0 1 10:00 10:30 trip x class 1 days 1-5,3", "each day once"),
@@ -77,16 +77,16 @@ SAILS = [
     ("sail 0 1 d1 10:00 d1 10:30 trip -1 class 1", "with a letter in it"),
     ("sail 0 1 d1 10:00 d1 10:30 trip ٣ class 1", "with a letter in it"),
     ("sail 0 1 d1 10:00 d1 10:30 trip \"8\" class 1", "with a letter in it"),
-    ("sail 0 1 d1 10:00 d1 10:30 trip 8 class 2", "read 2, asked for a class's name or number (0 to 1"),
+    ("sail 0 1 d1 10:00 d1 10:30 trip 8 class 2", "read 2, asked for the name or number of a class that the text has (0 to 1"),
     ("sail 0 1 d1 10:00 d1 10:30 trip 8 class Ferry", "is ferry meant?"),
-    ("sail 0 1 d1 10:00 d1 10:30 trip 8 class fast", "read fast, asked for a class's name or number"),
-    ("sail 0 3 d1 10:00 d1 10:30 trip 8 class 1", "read 3, asked for a stop's name or number (0 to 2"),
-    ("sail 0 99999999999999999999 d1 10:00 d1 10:30 trip 8 class 1", "a stop's name or number (0 to 2"),
+    ("sail 0 1 d1 10:00 d1 10:30 trip 8 class fast", "read fast, asked for the name or number of a class"),
+    ("sail 0 3 d1 10:00 d1 10:30 trip 8 class 1", "read 3, asked for the name or number of a stop that the text has (0 to 2"),
+    ("sail 0 99999999999999999999 d1 10:00 d1 10:30 trip 8 class 1", "of a stop that the text has (0 to 2"),
     ("sail harbour 1 d1 10:00 d1 10:30 trip 8 class 1", "is Harbour meant?"),
     ("sail Lighthuose 1 d1 10:00 d1 10:30 trip 8 class 1", "is Lighthouse meant?"),
-    ("sail Nowhere 1 d1 10:00 d1 10:30 trip 8 class 1", "read Nowhere, asked for a stop's name or number"),
-    ("sail \"0\" 1 d1 10:00 d1 10:30 trip 8 class 1", "read \"0\", asked for a stop's name or number"),
-    ("sail North Island Harbour d1 10:00 d1 10:30 trip 8 class 1", "several words stands in double quotes"),
+    ("sail Nowhere 1 d1 10:00 d1 10:30 trip 8 class 1", "read Nowhere, asked for the name or number of a stop"),
+    ("sail \"0\" 1 d1 10:00 d1 10:30 trip 8 class 1", "read \"0\", asked for the name or number of a stop"),
+    ("sail North Island Harbour d1 10:00 d1 10:30 trip 8 class 1", "read Harbour, asked for the departure's day behind two stops, d1 to d7; a name of several words"),
     ("sail 0 0 d1 10:00 d1 10:30 trip 8 class 1", "two different stops"),
     ("sail 0 Harbour d1 10:00 d1 10:30 trip 8 class 1", "two different stops"),
     ("sail 0 1 d1 10:00 d1 10:30 trip 8 class 1 2", "read 2, asked for the line's end"),
@@ -95,7 +95,7 @@ SAILS = [
     ("sail", "read no trip"),
 ]
 OTHERS = [
-    ("stop Harbour", "another name than line 1 has"),
+    ("stop Harbour", "another name than that of line 1"),
     ("stop", "read the line's end, asked for a stop's name"),
     ("stop South Island", "several words stands in double quotes"),
     ("stop 7", "with a letter in it"),
@@ -110,14 +110,14 @@ OTHERS = [
     ("stop A\x00B", "U+0000"),
     ("stop A\rstop B", "U+000D"),
     ('stop "A\tB"', "U+0009"),
-    ("stop A\udce9", "the byte 0xe9 behind 6 others, asked for text saved as UTF-8"),
+    ("stop A\udce9", "read 0xe9 as the line's byte 7, asked for text saved as UTF-8"),
     ("stops 2 3", "read 3, asked for the line's end"),
     ("stops 1", "(2 to 200"),
     ("stops 201", "(2 to 200"),
     ("stops x", "read x"),
     ("stops", "read the line's end"),
-    ("class bus shares 4096", "another name than line 4 has"),
-    ("class", "read class alone"),
+    ("class bus shares 4096", "another name than that of line 4"),
+    ("class", "read the line's end, asked for shares, or house and a pair"),
     ("class fast", "read the line's end"),
     ("class shares", "read the line's end"),
     ("class fast shares 4095", "shares that sum to 4095"),
@@ -137,12 +137,12 @@ OTHERS = [
     ("tables first first", "asked for tables first"),
     ("sial 0 1 d1 10:00 d1 10:30 trip 8 class 1", "(is sail meant?)"),
     ("STOP A", "(is stop meant?)"),
-    ('"stop" A', 'read "stop"'),
+    ('"stop" A', 'at the line\'s start, without quotes'),
     ("trip 8", "read trip, asked for one of"),
 ]
 QUERIES = [
     ("query Harbour Harbour d1 06:45", "two different stops"),
-    ("query Harbour 3 d1 06:45", "a stop's name or number (0 to 2"),
+    ("query Harbour 3 d1 06:45", "of a stop that the text has (0 to 2"),
     ("query Harbour d1 06:45", "read 06:45, asked for the day behind two stops"),
     ("query Harbour", "read the line's end, asked for the target stop"),
     ("query 0 2 06:45", "read 06:45, asked for the day"),
@@ -179,12 +179,12 @@ def of_texts():
     yield "more stop lines than stops", ["stop A", "stop B", "stop C", "stop D", *SHORT], {4: "3 stops, as line 5 says"}
     yield "a second query", [*SHORT, "query 1 2 d1 09:50"], {3: "a query without a name", 4: "a query without a name"}
     yield "one of three without a name", [*SHORT[:2], "query name a 0 1 d1 00:00", SHORT[2], "query 0 1 d1 00:00 name b"], {4: "without a name"}
-    yield "names alike but for case", [*SHORT[:2], "query name a 0 1 d1 00:00", "query name A 0 1 d1 00:00"], {4: "another name than line 3"}
+    yield "names alike but for case", [*SHORT[:2], "query name a 0 1 d1 00:00", "query name A 0 1 d1 00:00"], {4: "another name than that of line 3, capitals aside"}
     yield "tables first twice", ["tables first", *SHORT, "tables first"], {5: "a second line with tables"}
-    yield "201 stops", [f"stop s{place}" for place in range(202)] + SHORT[1:], {201: "stop number 201"}
-    yield "17 classes", [*SHORT, *["class 4096"] * 17], {19: "class number 17"}
-    yield "2,001 rows", [*SHORT, *[f"sail 0 1 10:00 10:30 trip t{place} class 0 days 1-7" for place in range(287)]], {289: "row number 2001"}
-    yield "class and trip swapped", [*SHORT, "sail 0 1 d1 10:00 d1 10:30 class 1 trip 0"], {4: "read 1, asked for a class's name or number (only 0"}
+    yield "201 stops", [f"stop s{place}" for place in range(202)] + SHORT[1:], {201: "more than 200 lines with stop"}
+    yield "17 classes", [*SHORT, *["class 4096"] * 17], {19: "more than 16 lines with class"}
+    yield "2,001 rows", [*SHORT, *[f"sail 0 1 10:00 10:30 trip t{place} class 0 days 1-7" for place in range(287)]], {289: "more than 2000 rows so far"}
+    yield "class and trip swapped", [*SHORT, "sail 0 1 d1 10:00 d1 10:30 class 1 trip 0"], {4: "read 1, asked for the name or number of a class that the text has (0 is the only one"}
     yield "all wrong lines at once", ["stops", "class", "sail", "query", "what"], dict.fromkeys(range(1, 6), "read")
     yield "a wrong stop line, names left alone", changed(line2="stop North Island"), {2: "in double quotes"}
     yield "a wrong class line, names left alone", changed(line5="class ferry house 6 30"), {5: "house pairs"}
@@ -195,7 +195,7 @@ def of_texts():
 
 def of_trips():
     early = "sail Lighthouse Harbour d1 08:20 d1 09:00 trip early class bus"
-    yield "leaves before it landed", changed(line9=early, line10=BASE[8]), {9: "no earlier than line 7 lands it at d1 08:30"}
+    yield "leaves before it landed", changed(line9=early, line10=BASE[8]), {9: "no earlier than d1 08:30, when line 7 lands it"}
     away = "sail Harbour Lighthouse d1 10:00 d1 11:00 trip early class bus"
     yield "goes on elsewhere", changed(line9=away, line10=BASE[8]), {9: "from Lighthouse, where line 7 lands it at d1 08:30"}
     number = "sail 0 1 10:00 10:30 trip 5 class bus days 1-5"
