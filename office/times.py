@@ -49,22 +49,25 @@ def moment(words, asked):
 
 
 def departure(words, repeated):
-    """Minutes into the week, or into each day where the sailing is repeated."""
+    """Minutes into the week, or, where the sailing is repeated, behind the midnight that opens each day named."""
     if not repeated:
         return moment(words, "the departure's day behind two stops")
     word = words.take("the departure's time")
+    if word == Word(NEXT_DAY):
+        return DAY + clock(words.take("a time of day"))
     if ":" not in word.text:
-        raise WrongLine(word, "a departure such as 07:00 behind two stops, without a day since the line has days")
+        raise WrongLine(word, "a departure such as 07:00 or +1 00:20 behind two stops, without a day since the line has days")
     return clock(word)
 
 
 def arrival(words, departs, repeated):
     """The arrival, counted as the departure is; and whether its day was left to the departure's."""
     word = words.take("the arrival")
+    midnight = departs - departs % DAY
     if ":" in word.text:
-        return departs - departs % DAY + clock(word), True
+        return midnight + clock(word), True
     if word == Word(NEXT_DAY):
-        return departs - departs % DAY + DAY + clock(words.take("a time of day")), False
+        return (0 if repeated else midnight) + DAY + clock(words.take("a time of day")), False
     if repeated:
         raise WrongLine(word, "an arrival such as 07:40 or +1 00:20, without a day since the line has days")
     return day(word, "an arrival such as 07:40 or +1 00:20, or its day") + clock(words.take("a time of day")), False
@@ -75,7 +78,8 @@ def spans(words, repeated):
     departs = departure(words, repeated)
     arrives, day_left_out = arrival(words, departs, repeated)
     if arrives <= departs:
-        hint = f"; on the next day it is {NEXT_DAY} {time_text(arrives)[3:]}" if day_left_out else ""
+        spared = day_left_out and not (repeated and departs >= DAY)
+        hint = f"; on the next day it is {NEXT_DAY} {time_text(arrives)[3:]}" if spared else ""
         read = f"an arrival at {time_text(arrives)[3 * bool(repeated):]}"
         raise WrongLine(read, f"one after the departure at {time_text(departs)[3 * bool(repeated):]}{hint}")
     found = [(first + departs, first + arrives) for first in ((number - 1) * DAY for number in repeated or [1])]

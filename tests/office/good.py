@@ -53,18 +53,22 @@ NAMED_FILES = files([(0, 1, 420, 460, 0, 2), (1, 2, 460, 510, 0, 0)], [[4096], [
 
 
 def days_case():
-    """Repeated sailings, of which a name is one boat a day; the nights end on the next day."""
+    """Repeated sailings, of which a name is one boat a day; the nights end on the next day, and go on there."""
     text = """stops 4
 stop A
 stop B
 class 4096
 sail A days 6,1,3 B 23:50 class 0 +1 00:20 trip night
+sail B 2 trip night +1 00:30 00:40 class 0 days 1,3,6
+sail 2 A trip night +1 00:40 +1 01:00 class 0 days 1,3,6
 sail 2 3 08:00 08:30 trip shuttle class 0 days 6-7
 sail 3 2 08:30 09:00 trip shuttle class 0 days 6-7
 sail 2 3 d1 08:00 d1 08:30 trip 0 class 0
 query A B d7 23:59
 """
     rows = [(0, 1, minute(day, 23, 50), minute(day + 1, 0, 20), trip, 0) for day, trip in ((1, 1), (3, 2), (6, 3))]
+    rows += [(1, 2, minute(day, 0, 30), minute(day, 0, 40), trip, 0) for day, trip in ((2, 1), (4, 2), (7, 3))]
+    rows += [(2, 0, minute(day, 0, 40), minute(day, 1, 0), trip, 0) for day, trip in ((2, 1), (4, 2), (7, 3))]
     rows += [(2, 3, minute(day, 8, 0), minute(day, 8, 30), trip, 0) for day, trip in ((6, 4), (7, 5), (1, 0))]
     rows += [(3, 2, minute(day, 8, 30), minute(day, 9, 0), trip, 0) for day, trip in ((6, 4), (7, 5))]
     rows.sort(key=lambda row: row[2])
