@@ -5,7 +5,7 @@ from typing import Optional, Union
 import house
 import times
 from timetable import BOUND_CODES, FEWEST_STOPS, LONGEST_DELAY, MOST_STOPS, SHARE_TOTAL
-from values import OWN_WORDS, is_number, is_own, name, number, query_name, trip
+from values import OWN_WORDS, is_number, is_own, name, number, query_name, trip, whole
 from words import Word, WrongLine
 
 SAIL_OPTIONS = {"trip": "a trip's number or name", "class": "a class's name or number", "days": "days such as 1-5"}
@@ -91,7 +91,7 @@ def stop(words):
 def house_shares(left):
     pair = tuple(left.take("a house pair such as 5 30") for _ in range(2))
     left.end()
-    found = tuple(int(word.text) if is_number(word) and len(word.text) < 4 else None for word in pair)
+    found = tuple(whole(word) for word in pair)
     if found not in house.PAIRS:
         known = ", ".join(f"{change} {parameter}" for change, parameter in house.PAIRS)
         raise WrongLine(f"house {pair[0]} {pair[1]}", f"one of the house pairs {known}")
@@ -134,10 +134,9 @@ def sail(words):
 
 
 def bound(word):
-    code = int(word.text) if is_number(word) and len(word.text) < 4 else None
-    if code not in BOUND_CODES:
+    if whole(word) not in BOUND_CODES:
         raise WrongLine(f"bound {word}", QUERY_OPTIONS["bound"])
-    return code
+    return whole(word)
 
 
 def query(words):

@@ -84,6 +84,17 @@ def broken(legs):
         last[leg.trip] = leg
 
 
+def fault(leg, before, stop_name, repeated):
+    """What is read and what is asked for where a trip doesn't go on."""
+    there = "this line" if before.line == leg.line else f"line {before.line}"
+    asked = f"a departure no earlier than {time_text(before.arrival)}, when {there} lands it"
+    if before.land != leg.board:
+        asked = f"it to go on from {stop_name(before.land)}, where {there} lands it at {time_text(before.arrival)}"
+    if repeated and isinstance(leg.trip.called, int):
+        asked += "; a number is one boat in the whole week, a name on lines with days is one boat a day"
+    return f"{leg.trip} from {stop_name(leg.board)} at {time_text(leg.departure)}", asked
+
+
 def tell_broken(text, legs, stops):
     """Tells the rows that break the rule of their trips, of trips that no wrong line can belong to."""
     unjudged = left_open(text, legs)
@@ -91,14 +102,6 @@ def tell_broken(text, legs, stops):
         return
     names = {place: name for name, place in stops.names.items()}
     for leg, before in broken(legs):
-        if leg.trip.called in unjudged:
-            continue
-        there = "this line" if before.line == leg.line else f"line {before.line}"
-        asked = f"a departure no earlier than {time_text(before.arrival)}, when {there} lands it"
-        if before.land != leg.board:
-            stop = names.get(before.land, f"stop {before.land}")
-            asked = f"it to go on from {stop}, where {there} lands it at {time_text(before.arrival)}"
-        if isinstance(leg.trip.called, int) and text.said["sail"][leg.line].days:
-            asked += "; a number is one boat in the whole week, a name on lines with days is one boat a day"
-        read = f"{leg.trip} from {names.get(leg.board, f'stop {leg.board}')} at {time_text(leg.departure)}"
-        text.tell(leg.line, read, asked)
+        if leg.trip.called not in unjudged:
+            repeated = text.said["sail"][leg.line].days
+            text.tell(leg.line, *fault(leg, before, lambda stop: names.get(stop, f"stop {stop}"), repeated))

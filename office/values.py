@@ -20,11 +20,16 @@ def is_number(word):
     return not word.quoted and DIGITS.fullmatch(word.text) is not None
 
 
+def whole(word):
+    """The number that a word is, if it is one of a few digits: no range has a longer one."""
+    digits = word.text.lstrip("0") or "0"
+    return int(digits) if is_number(word) and len(digits) < 10 else None
+
+
 def number(word, least, most, asked):
-    if is_number(word):
-        digits = word.text.lstrip("0") or "0"
-        if len(digits) <= len(str(most)) and least <= int(digits) <= most:
-            return int(digits)
+    found = whole(word)
+    if found is not None and least <= found <= most:
+        return found
     span = f"{least} to {most}" if least < most else f"{most} is the only one"
     raise WrongLine(word, f"{asked} ({span}, in plain digits)")
 

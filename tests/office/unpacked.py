@@ -122,6 +122,17 @@ def refusal_failure(folder, chance, files, seen):
     return None if status == 1 and told and out == "" else f"refused {wanted} by document 01; ended with {status}: {out}{err}"
 
 
+EDGES = ((0, {}), (0, {"trip": 0, "departure": 630}), (5, {"trip": 0, "departure": 629}), (5, {"departure": 599}), (5, {"trip": 0, "board": 2, "land": 1}))
+
+
+def edge_failure(folder, number, changed):
+    """W with its second row changed to one side of a line of document 01."""
+    lay(f"{folder}/old", {"sailings": writer.sailing_file(writer.w_rows_with(1, **changed)), "query": writer.query_bytes()})
+    status, out, err = called("unpack", f"{folder}/old")
+    fine = status == 0 and not err if number == 0 else status == 1 and f"refused {number}: row 1 " in err
+    return None if fine else f"W with {changed}: ended with {status}: {err}"
+
+
 WRONG_NAMES = (b"stop A\nstop B\nstop C\nstop D\n", b"stop A\nstop A\n", b"class 2 x\n", b"class 0 x\nclass 0 y\n", b"class 0 x\nclass 1 x\n",
                b"query a\nquery b\n", b"query a/b\n", b"stop\n", b"stop 5\n", b"stop A B\n", b"\xff\n", b'stop "A\n', b"what A\n", b"class x 0\n")
 
@@ -164,6 +175,7 @@ def main():
             assert sound.refusal(files["sailings"], files["query"]) == 0
             failures.append(round_failure(folder, files))
             failures.append(refusal_failure(folder, chance, files, seen))
+        failures += [edge_failure(folder, *edge) for edge in EDGES]
         failures += [names_failure(folder, names) for names in WRONG_NAMES]
         failures += [several_failure(folder, *case) for case in several()]
     failures += [f"only {seen.get(number, 0)} files were refused {number}" for number in range(7) if seen.get(number, 0) < 10]

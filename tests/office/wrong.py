@@ -35,6 +35,7 @@ def of_lines(cases):
 
 SAILS = [
     ("sail 0 1 d1 10:00 d1 10:75 trip 8 class 1", "read 10:75, asked for a time of day"),
+    ("sail 0 1 d1 10:00 d1 10:60 trip 8 class 1", "read 10:60"),
     ("sail 0 1 d1 10:-5 d1 10:30 trip 8 class 1", "read 10:-5"),
     ("sail 0 1 x1 10:00 d1 10:30 trip 8 class 1", "read x1, asked for the departure's day"),
     ("sail 0 1 d1 10:00 x1 10:30 trip 8 class 1", "read x1"),
@@ -64,6 +65,7 @@ SAILS = [
     ("sail 0 1 10:00 10:30 trip x class 1 days 1 - 5", "read -, asked for the line's end; days are written without blanks"),
     ("sail 0 1 10:00 10:30 trip x class 1 days 1,", "read days 1,"),
     ("sail 0 1 10:00 10:30 trip x class 1 days 5-1", "lower to a higher"),
+    ("sail 0 1 10:00 10:30 trip x class 1 days 5-5", "lower to a higher"),
     ("sail 0 1 10:00 10:30 trip x class 1 days 1-5,3", "each day once"),
     ("sail 0 1 10:00 10:30 trip x class 1 days 0-5", "read 0, asked for a day's number (1 to 7"),
     ("sail 0 1 10:00 10:30 trip x class 1 days 1-8", "read 8, asked for a day's number (1 to 7"),
@@ -112,6 +114,7 @@ OTHERS = [
     ("stop South\u00a0Island", "U+00A0 (NO-BREAK SPACE)"),
     ("stop A\x00B", "U+0000"),
     ("stop A\rstop B", "U+000D"),
+    ("# a bell\x07", "U+0007"),
     ('stop "A\tB"', "U+0009"),
     ("stop A\udce9", "read 0xe9 as the line's byte 7, asked for text saved as UTF-8"),
     ("stops 2 3", "read 3, asked for the line's end"),
@@ -192,6 +195,7 @@ def of_texts():
     yield "a wrong stop line, names left alone", changed(line2="stop North Island"), {2: "in double quotes"}
     yield "a wrong class line, names left alone", changed(line5="class ferry house 6 30"), {5: "house pairs"}
     yield "a misspelt query, none missing", changed(line9="qeury Harbour Lighthouse d1 06:45"), {9: "is query meant"}
+    yield "the same, further up", [BASE[8].replace("query", "qeury"), *BASE[:8]], {1: "is query meant"}
     yield "CR LF, a fault behind it", [line + "\r" for line in added("stops 1")], {LAST: "read 1"}
     yield "UTF-16", "\ufeffstops 3\n".encode("utf-16").decode("utf-8", "surrogateescape").split("\n"), {1: "UTF-8", 2: "U+0000"}
 
