@@ -11,12 +11,17 @@ from words import Word, WrongLine
 SAILINGS, QUERY, NAMES = "sailings", "query", "names"
 
 
+def folder_of(timetable, query, folder):
+    """Where a query's files go: one query's in the folder itself, those of several in a folder each."""
+    return folder / query.name if len(timetable.queries) > 1 else folder
+
+
 def files(timetable, folder):
-    """The bytes of each file that a timetable becomes: one query in the folder itself, several in a folder each."""
+    """The bytes of each file that a timetable becomes."""
     sailings = sailings_bytes(timetable)
     found = {}
     for query in timetable.queries:
-        place = folder / query.name if len(timetable.queries) > 1 else folder
+        place = folder_of(timetable, query, folder)
         found |= {place / SAILINGS: sailings, place / QUERY: query_bytes(query), place / NAMES: names_bytes(timetable, query)}
     return found
 

@@ -1,0 +1,243 @@
+"""Draws a plan: stops down, time across, each ride a line, and at every landing the minutes in which one may land.
+
+A bar runs from a landing's first minute to its last. It is cut at the departures of the rides to choose from, and a dashed line leads from
+each part to the ride that one takes who lands in it. A plan that does not fit one sheet of A4 gets several drawings, each ride in one.
+"""
+from axis import Axis, hours_of
+from landings import landings
+from markup import element
+from timetable import time_text
+
+WIDTH, MARGIN = 1040, 62  # A4 landscape has 1,047 pixels between margins of 10 mm; the margin is to the right, for names of later rides
+TOP, TALL, LOW = 64, 520, 74  # the axis, all stops together, the least that a stop takes
+HIGHEST = 120
+MOST_STOPS = TALL // LOW
+MOST_HOURS = 12
+MOST_RIDES = 60
+BAR, LANE = 14, 26  # a bar's height, and how far below it rides depart
+LETTER = 9.2  # an average letter at 17 pixels
+NAME_WIDTH, NAME_LINES = 20, 3
+DIGITS, HIGH = 46, 20  # the width of a time, and the height of words
+KEY = (
+    "The thick line is the first boat, the thin lines are the others, each named by its time of departure where there is room. A bar shows "
+    "when you may land, on time or late; it is cut where a boat leaves, and a dashed line leads from each part to the boat that you then take."
+)
+
+
+def drawings(plan, query, timetable):
+    """The drawings of a plan as sections of a page."""
+    portions = portions_of(plan)
+    for number, portion in enumerate(portions, 1):
+        title = "The plan as a drawing" + (f", {number} of {len(portions)}" if len(portions) > 1 else "")
+        picture = Drawing(portion, plan, query, timetable).picture(number)
+        hint = element("p", {"class": "hint"}, "Move the drawing sideways to see all of it.")
+        key = element("p", {"class": "key"}, KEY)
+        yield element("section", {"class": "drawing"}, element("h2", {}, title), hint, element("div", {"class": "scroll"}, picture), key)
+
+
+def portions_of(plan):
+    """The plan's rides by departure, in portions that a drawing has room for."""
+    portions, stops, hours = [], set(), set()
+    for ride in plan:
+        stops |= {ride.board, ride.land}
+        hours |= hours_of(ride.departure, ride.last)
+        if not portions or len(stops) > MOST_STOPS or len(hours) > MOST_HOURS or len(portions[-1]) == MOST_RIDES:
+            portions.append([])
+            stops, hours = {ride.board, ride.land}, hours_of(ride.departure, ride.last)
+        portions[-1].append(ride)
+    return portions
+
+
+class Drawing:
+    """Some rides of a plan on one drawing."""
+
+    def __init__(self, rides, plan, query, timetable):
+        self.rides, self.plan, self.timetable = rides, plan, timetable
+        self.drawn, self.landings, self.room = set(rides), landings(rides, plan), Room()
+        here = {stop for ride in rides for stop in (ride.board, ride.land)}
+        self.stops = [stop for stop in in_order(plan, query.target) if stop in here]
+        self.names = {stop: name_lines(timetable.stop_name(stop)) for stop in self.stops}
+        left = DIGITS + 24 + LETTER * max(len(line) for lines in self.names.values() for line in lines)
+        self.axis = Axis(set().union(*(hours_of(ride.departure, ride.last) for ride in rides)), round(left), WIDTH - MARGIN)
+        self.pitch = min(HIGHEST, TALL // len(self.stops))
+        self.height = self.lands(self.stops[-1]) + LANE + 28
+
+    def lands(self, stop):
+        """How far down rides land at a stop; they depart a little lower."""
+        return TOP + self.pitch * self.stops.index(stop) + 24
+
+    def departs(self, stop):
+        return self.lands(stop) + LANE
+
+    def picture(self, number):
+        source, target = (self.timetable.stop_name(stop) for stop in (self.plan[0].board, self.stops[-1]))
+        content = [element("title", {}, f"Rides from {source} on, up to {target}"), stripes(number)]
+        content += [*self.scale(), *self.stop_rows()]
+        content += [self.line(ride) for ride in self.rides]
+        departures = list(self.departures())  # these are the first to take room for words, and the last to be drawn
+        for landing in self.landings:
+            content += self.bar(landing, number)
+        content += departures
+        box = {"viewBox": f"0 0 {WIDTH} {self.height}", "width": WIDTH, "height": self.height}
+        return element("svg", {"xmlns": "http://www.w3.org/2000/svg", "role": "img", **box}, *content)
+
+    def scale(self):
+        """The time across: marks, names of hours and days, and what is left out."""
+        x = self.axis.x
+        for minute in self.axis.minutes_between():
+            yield line(x(minute), TOP - 6, x(minute), TOP, "#000", 1)
+        for hour in self.axis.hours():
+            yield line(x(hour), TOP - 12, x(hour), self.height, "#bbb", 1, {"class": "tick", "data-minute": hour})
+        for hour in self.axis.named_hours():
+            yield text(x(hour), TOP - 18, f"{hour % 1440 // 60:02}:00", "middle")
+        for minute in self.axis.days():
+            yield text(x(minute), TOP - 40, f"day {minute // 1440 + 1}", "middle", bold=True)
+            if minute % 1440 == 0:
+                yield line(x(minute), TOP - 34, x(minute), self.height, "#000", 2, {"class": "midnight"})
+        for before, after in self.axis.gaps():
+            middle = (x(before) + x(after)) / 2
+            yield text(middle, TOP + 4, f"{(after - before) // 60} h", "middle")
+
+    def stop_rows(self):
+        """The names of the stops, and a line for each, dotted where hours are left out."""
+        for stop in self.stops:
+            y = self.lands(stop)
+            for start, end in self.axis.stretches:
+                yield line(self.axis.x(start), y, self.axis.x(end), y, "#888", 1)
+            for before, after in self.axis.gaps():
+                yield line(self.axis.x(before), y, self.axis.x(after), y, "#888", 1, {"stroke-dasharray": "1 5"})
+            for at, words in enumerate(self.names[stop]):
+                yield text(0, y + 6 + 20 * at, words, "start", bold=True)
+
+    def line(self, ride):
+        first = ride is self.plan[0]
+        about = {
+            "class": "ride",
+            "data-from": ride.board,
+            "data-to": ride.land,
+            "data-departure": ride.departure,
+            "data-arrival": ride.arrival,
+        }
+        ends = self.axis.x(ride.departure), self.departs(ride.board), self.axis.x(ride.arrival), self.lands(ride.land)
+        return line(*ends, "#000", 6 if first else 2, about)
+
+    def bar(self, landing, number):
+        """The minutes of a landing, cut into parts, each with a dashed line to the ride that is then taken."""
+        x, top = self.axis.x, self.lands(landing.stop) - BAR / 2
+        yield from self.window(landing)
+        parts = list(landing.parts()) or [(landing.first, landing.last, None)]
+        start = x(landing.first)
+        for at, (first, last, choice) in enumerate(parts):
+            end = x(last)
+            yield part(start, end, top, f"url(#late-{number})" if at % 2 == 0 else "#ddd", (landing.stop, first, last))
+            if choice in self.drawn:
+                yield self.connector((start + end) / 2, choice, x(choice.departure))
+            start = end
+        yield from self.later(parts)
+
+    def connector(self, start, choice, end):
+        """From a part of a bar to the ride that is then taken."""
+        about = {"class": "taken", "data-from": choice.board, "data-departure": choice.departure, "stroke-dasharray": "4 3"}
+        return line(start, self.lands(choice.board) + BAR / 2, end, self.departs(choice.board), "#000", 1.2, about)
+
+    def later(self, parts):
+        """For the first part whose ride is on a later drawing: a line to the edge, and that ride's time."""
+        for _, last, choice in parts:
+            if choice and choice not in self.drawn:
+                yield self.connector(self.axis.x(last), choice, self.axis.right + 12)
+                x, y = self.axis.right + 14, self.departs(choice.board) + 5
+                if self.room.take(x, y, DIGITS):
+                    yield text(x, y, clock(choice.departure), "start")
+                return
+
+    def window(self, landing):
+        """The first and the last minute of a landing, above its bar."""
+        words = "–".join(clock(minute) for minute in sorted({landing.first, landing.last}))
+        x, y = self.axis.x(landing.first) + 2, self.lands(landing.stop) - BAR / 2 - 5
+        if self.room.take(x, y, len(words) * LETTER):
+            yield text(x, y, words, "start")
+
+    def departures(self):
+        """A dot where each ride departs, and its time where there is room: below to the left, else to the right."""
+        for ride in self.rides:
+            x, y, bold = self.axis.x(ride.departure), self.departs(ride.board), ride is self.plan[0]
+            yield element("circle", {"cx": place(x), "cy": place(y), "r": 6 if bold else 4})
+            if self.room.take(x - 2 - DIGITS, y + 22, DIGITS):
+                yield text(x - 2, y + 22, clock(ride.departure), "end", bold)
+            elif self.room.take(x + 7, y, DIGITS):
+                yield text(x + 7, y, clock(ride.departure), "start", bold)
+
+
+class Room:
+    """Where words stand already."""
+
+    def __init__(self):
+        self.taken = []
+
+    def take(self, x, y, width):
+        """Takes a place for words, and says whether it was free."""
+        if any(x < end and start < x + width and abs(y - other) < HIGH for start, end, other in self.taken):
+            return False
+        self.taken.append((x, x + width, y))
+        return True
+
+
+def in_order(rides, target):
+    """The stops of rides by their first use, the target last."""
+    first = {}
+    for ride in rides:
+        first[ride.board] = min(first.get(ride.board, ride.departure), ride.departure)
+        first[ride.land] = min(first.get(ride.land, ride.arrival), ride.arrival)
+    return sorted(first, key=lambda stop: (stop == target, first[stop], stop))
+
+
+def name_lines(name):
+    """A name on a few short lines."""
+    lines = [""]
+    for word in name.split():
+        pieces = [word[at : at + NAME_WIDTH] for at in range(0, len(word), NAME_WIDTH)]
+        for piece in pieces:
+            if len(lines[-1]) + 1 + len(piece) <= NAME_WIDTH:
+                lines[-1] = f"{lines[-1]} {piece}".strip()
+            else:
+                lines.append(piece)
+    lines = [words for words in lines if words]
+    if len(lines) > NAME_LINES:
+        lines = [*lines[: NAME_LINES - 1], lines[NAME_LINES - 1][: NAME_WIDTH - 1] + "…"]
+    return lines
+
+
+def clock(minute):
+    """The time of day; the day is on the scale."""
+    return time_text(minute)[-5:]
+
+
+def place(number):
+    return f"{number:.2f}".rstrip("0").rstrip(".")
+
+
+def line(x1, y1, x2, y2, colour, width, more=None):
+    ends = {"x1": place(x1), "y1": place(y1), "x2": place(x2), "y2": place(y2)}
+    return element("line", {**ends, "stroke": colour, "stroke-width": width, **(more or {})})
+
+
+def text(x, y, words, anchor, bold=False):
+    """Words with a white rim, so that they stay legible across lines."""
+    about = {"x": place(x), "y": place(y), "text-anchor": anchor, "font-size": 17, "stroke": "#fff", "stroke-width": 5}
+    weight = {"font-weight": "bold"} if bold else {}
+    return element("text", {**about, **weight, "paint-order": "stroke"}, words)
+
+
+def part(start, end, top, fill, landing):
+    """A part of a bar; one of a single minute is a stroke."""
+    about = {"class": "landing-part", "data-stop": landing[0], "data-first": landing[1], "data-last": landing[2]}
+    box = {"x": place(start), "y": place(top), "width": place(max(end - start, 2)), "height": BAR}
+    return element("rect", {**box, "fill": fill, "stroke": "#000", "stroke-width": 1.5, **about})
+
+
+def stripes(number):
+    """The stripes of bars: drawings of one page need names of their own for it."""
+    ground = element("rect", {"width": 6, "height": 6, "fill": "#fff"})
+    stroke = line(0, 0, 0, 6, "#000", 4)
+    size = {"width": 6, "height": 6, "patternUnits": "userSpaceOnUse", "patternTransform": "rotate(45)"}
+    return element("defs", {}, element("pattern", {"id": f"late-{number}", **size}, ground, stroke))

@@ -1,0 +1,61 @@
+"""office sheets: a text becomes the planner's files and a sheet for each query, printed with the names of its stops."""
+import sys
+import unicodedata
+
+from answers import add_arguments, answers
+from asked import named
+from folder import write_files
+from messages import Trouble, reason
+from reasons import reason_lines
+from timetable import time_text
+
+TITLES = ("Board at", "departs", "Land at", "due", "expected")
+
+
+def add(commands):
+    parser = commands.add_parser(
+        "sheets", help="make the planner's files and the sheets of a text, and print the sheets",
+        description="Packs a text as pack does, has the planner answer each query, writes its sheet beside the query's files, and prints "
+        "it with the names of the stops. The exit status is 1 if a query is refused.")
+    add_arguments(parser).set_defaults(run=run)
+
+
+def run(arguments):
+    found = answers(arguments)
+    write_files(found.files)
+    try:
+        sys.stdout.write("\n".join(printed(found.timetable, answer) for answer in found.queries))
+        sys.stdout.flush()
+    except OSError as error:
+        raise Trouble(f"{reason(error)}; the files in {arguments.folder} are written") from None
+    return found.status
+
+
+def printed(timetable, answer):
+    """A query and its sheet, or the reason why it is refused."""
+    lines = [named(timetable, answer.query)]
+    if answer.sheet.refusal:
+        lines += [f"refused {answer.sheet.refusal}", *reason_lines(timetable, answer)]
+    else:
+        count = len(answer.rides)
+        rides = f"{count} ride{'s' if count > 1 else ''}"
+        lines.append(f"expected {time_text(answer.sheet.expected)}, latest {time_text(answer.sheet.latest)}, {rides}")
+        lines += columns([TITLES, *(cells(timetable, line) for line in answer.sheet.lines)])
+    return "".join(f"{line}\n" for line in lines)
+
+
+def cells(timetable, line):
+    board, land = timetable.stop_name(line.board), timetable.stop_name(line.land)
+    return board, time_text(line.departure), land, time_text(line.arrival), time_text(line.expected)
+
+
+def columns(rows):
+    """Rows of words as lines, each column as wide as its widest word."""
+    widths = [max(width(row[place]) for row in rows) for place in range(len(rows[0]))]
+    for row in rows:
+        yield "  ".join(word + " " * (wide - width(word)) for word, wide in zip(row, widths)).rstrip()
+
+
+def width(word):
+    """The columns that a word takes on a terminal: accents none of their own, wide letters two."""
+    return sum(0 if unicodedata.combining(one) else 2 if unicodedata.east_asian_width(one) in "WF" else 1 for one in word)

@@ -1,0 +1,54 @@
+"""Seeded texts with plans worth a page: piers along a coast, boats in both directions, several classes, nights and queries."""
+import random
+
+NAMES = ["Harbour Town", "North & South", "Outer <Isle>", "Straße", "Pier 'A'", "島の港", "Lighthouse", "a ]]> b", "A Long Name of a Pier, Longer than Any Line"]
+
+
+def table(chance):
+    """Shares of a class that is never, a little or very late."""
+    longest = chance.choice((0, 10, 25, 60, 90, 120))
+    weights = [chance.choice((0, 1, 5)) for _ in range(longest)]
+    shares = [4095 * weight // (sum(weights) or 1) for weight in weights]
+    return [*shares, 4096 - sum(shares)]
+
+
+def clock(minute):
+    return f"d{minute // 1440 + 1} {minute % 1440 // 60:02}:{minute % 60:02}"
+
+
+def boats(chance, stops, start, end):
+    """Rows (from, to, departure, arrival, trip), no two from one stop in one minute."""
+    rows, taken = [], set()
+    for trip in range(chance.choice((40, 90, 400))):
+        at, minute = chance.randrange(stops), chance.randrange(start, end)
+        for _ in range(chance.choice((1, 1, 1, 2, 3))):
+            to = at + chance.choice((1, 1, 1, 1, 1, -1))
+            arrives = minute + chance.randrange(5, 70)
+            if not 0 <= to < stops or arrives > 10079 or (at, minute) in taken:
+                break
+            taken.add((at, minute))
+            rows.append((at, to, minute, arrives, trip))
+            at, minute = to, arrives + chance.randrange(0, 12)
+    return sorted(rows, key=lambda row: row[2])
+
+
+def text(seed):
+    chance = random.Random(seed)
+    stops = chance.randrange(3, 9)
+    named = chance.sample(NAMES, chance.randrange(0, stops + 1))
+    called = [f'"{name}"' for name in named] + [str(stop) for stop in range(len(named), stops)]
+    start = chance.randrange(0, 6 * 1440)
+    end = min(start + chance.choice((240, 600, 2000)), 10000)
+    classes = [table(chance) for _ in range(chance.randrange(1, 5))]
+    lines = [f"stops {stops}", *(f"stop {name}" for name in called[:len(named)])]
+    lines += ["class " + " ".join(map(str, shares)) for shares in classes]
+    for board, land, departs, arrives, trip in boats(chance, stops, start, end):
+        kind = chance.randrange(len(classes))
+        lines.append(f"sail {called[board]} {called[land]} {clock(departs)} {clock(arrives)} trip {trip} class {kind}")
+    queries = chance.randrange(1, 4)
+    for number in range(queries):
+        source, target = sorted(chance.sample(range(stops), 2)) if number == 2 else (chance.randrange(2), stops - 1)
+        name = f" name q{number}" if queries > 1 or chance.random() < 0.5 else ""
+        begin = chance.choice((max(start - 30, 0), chance.randrange(start, end)))
+        lines.append(f"query{name} {called[source]} {called[target]} {clock(begin)} bound {chance.choice((0, 0, 4, 6, 16))}")
+    return "\n".join(lines) + "\n"

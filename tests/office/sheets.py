@@ -1,0 +1,146 @@
+"""`office sheets`: what it writes and prints, and programs that are missing or say what is no whole sheet."""
+import pathlib
+import re
+import subprocess
+
+import generated
+from running import ROOT, called, files_in, finish, room, started
+
+BIN = ROOT / "target" / "bin"
+W = (ROOT / "examples" / "w.txt").read_text()
+W_PRINTED = """stop 0 to stop 2, from d1 09:50
+expected d1 11:15, latest d1 11:30, 3 rides
+Board at  departs   Land at  due       expected
+stop 0    d1 10:00  stop 1   d1 10:30  d1 11:15
+stop 1    d1 10:32  stop 2   d1 11:00  d1 11:00
+stop 1    d1 10:50  stop 2   d1 11:30  d1 11:30
+"""
+TWO = W.replace("stops 3", 'stop "Harbour & Town"\nstop Isle\nstop 灯台').replace(
+    "query 0 2 d1 09:50 bound 0", "query name late 0 2 d1 10:01\nquery name early 0 2 d1 09:50 bound 5")
+TWO_PRINTED = """late: Harbour & Town to 灯台, from d1 10:01
+refused 8
+The file is sound. Stops: 3. Rows: 4. Classes: 2.
+There is no safe journey from stop 0 to stop 2 from d1 10:01 on.
+stop 0 is Harbour & Town
+stop 2 is 灯台
+
+early: Harbour & Town to 灯台, from d1 09:50, bound 5
+expected d1 11:15, latest d1 11:30, 3 rides
+Board at        departs   Land at  due       expected
+Harbour & Town  d1 10:00  Isle     d1 10:30  d1 11:15
+Isle            d1 10:32  灯台     d1 11:00  d1 11:00
+Isle            d1 10:50  灯台     d1 11:30  d1 11:30
+"""
+SHEET = (ROOT / "examples" / "w" / "sheet").read_text()
+LINES = SHEET.splitlines(keepends=True)
+
+
+def lay(folder, text):
+    path = pathlib.Path(folder, "text")
+    path.write_text(text, encoding="utf-8")
+    return path
+
+
+def printed_failure(what, text, wanted, status):
+    """A text's sheets as printed."""
+    with room() as folder:
+        found = called("sheets", lay(folder, text), f"{folder}/sheets", "--programs", BIN)
+        again = started("sheets", f"{folder}/text", f"{folder}/sheets", "--programs", BIN)
+    return None if found == again == (status, wanted, "") else f"{what}: {found}, then {again}"
+
+
+def program_words(program, folder):
+    return subprocess.run([BIN / program], cwd=folder, capture_output=True, check=True).stdout
+
+
+def written_failure(what, text):
+    """The files are those of `pack`, and beside each query is what the program prints of them, to the letter; `page` writes the same."""
+    with room() as folder:
+        path, made, packed, pages = lay(folder, text), *(pathlib.Path(folder, name) for name in ("sheets", "packed", "pages"))
+        called("pack", "--quiet", path, packed)
+        status, out, err = called("sheets", path, made, "--programs", BIN)
+        called("page", path, pages, "--programs", BIN)
+        wanted = files_in(packed)
+        for query in packed.rglob("query"):
+            wanted[str((query.parent / "sheet").relative_to(packed))] = program_words("sheet", query.parent)
+        found = files_in(made)
+        in_pages = {name: data for name, data in files_in(pages).items() if not name.endswith(".html")}
+    refused = sum(data.startswith(b"refused") for name, data in wanted.items() if name.endswith("sheet"))
+    times = sum(len(re.findall(rb"d\d ..:..", data)) for name, data in wanted.items() if name.endswith("sheet"))
+    if err or found != wanted or in_pages != wanted or status != (refused > 0):
+        return f"{what}: status {status}, {sorted(found)} written: {err}"
+    shown = len(re.findall(r"d\d \d\d:\d\d", "".join(part for part in out.split("\n\n") if "refused" not in part)))
+    queries = text.count("\nquery")
+    return None if shown == times + queries - refused else f"{what}: {shown} times are printed, not {times} and those of {queries} queries"
+
+
+def program(path, words, more=""):
+    """A stand-in that prints words."""
+    path.write_text(f"#!/bin/sh\ncat <<'END'\n{words}END\n{more}\n" if words.endswith("\n") else f"#!/bin/sh\nprintf %s '{words}'\n{more}\n")
+    path.chmod(0o755)
+
+
+def wrong_programs():
+    """What the case is, the words of `sheet` and `explain`, what a stand-in does besides, and a word of the message."""
+    told = subprocess.run([BIN / "explain"], cwd=ROOT / "examples" / "w", capture_output=True, check=True).stdout.decode()
+    yield "half a line", SHEET[:-20], told, "", "cut short"
+    yield "half a sheet", "".join(LINES[:3]), told, "", "no whole sheet"
+    yield "no line end", SHEET[:-1], told, "", "cut short"
+    yield "a line too many", SHEET + LINES[-1], told, "", "no whole sheet"
+    yield "the first line alone", LINES[0], told, "", "no whole sheet"
+    yield "no first line", "".join(LINES[1:]), told, "", "no whole sheet"
+    yield "no ride", "plan 0 d1 11:15 d1 11:30\n", told, "", "no whole sheet"
+    yield "a line of other words", SHEET.replace("1 d1 10:32", "1 d1 10:62"), told, "", "no whole sheet"
+    yield "nothing", "", told, "", "cut short"
+    yield "an empty line", "\n", told, "", "no whole sheet"
+    yield "a refusal that is none", "refused 9\n", told, "", "no whole sheet"
+    yield "a refusal and more", "refused 8\n" + SHEET, told, "", "no whole sheet"
+    yield "standard error", SHEET, told, "echo oops >&2", "oops"
+    yield "a status", SHEET, told, "exit 3", "status 3"
+    yield "a signal", SHEET, told, "kill -9 $$", "status -9"
+    yield "another expected arrival", SHEET.replace("plan 3 d1 11:15", "plan 3 d1 11:16"), told, "", "first line"
+    yield "another latest arrival", SHEET.replace("d1 11:30\n0", "d1 11:31\n0"), told, "", "latest"
+    yield "another stop", SHEET.replace("1 d1 10:32 2", "1 d1 10:32 0"), told, "", "no trip"
+    yield "another plan's words", SHEET, told.replace("trip 3", "trip 2"), "", "not in the timetable"
+    yield "words without a ride", SHEET, told.split(";")[0] + "\n", "", "explain tells of 2"
+    yield "a ride twice", SHEET, told.replace("trip 3", "trip 1").replace("10:50", "10:32").replace("11:30;", "11:00;"), "", "explain tells"
+    yield "no words", SHEET, "", "", "cut short"
+    yield "words for a refusal", SHEET, "refused 8\n", "", "explain tells of 0"
+
+
+def refusing_failure(command, what, place, word):
+    """With these programs a command ends with one message, and leaves nothing."""
+    with room() as folder:
+        status, out, err = called(command, lay(folder, W), f"{folder}/made", "--programs", place)
+        left = sorted(path.name for path in pathlib.Path(folder).iterdir())
+    if (status, out, left) == (1, "", ["text"]) and err.count("\n") == 1 and word in err:
+        return None
+    return f"{command}, {what}: status {status}, {left} left, printed {out}, {err}"
+
+
+def programs_failures():
+    for what, sheet, words, more, message in wrong_programs():
+        with room() as place:
+            program(pathlib.Path(place, "sheet"), sheet, more)
+            program(pathlib.Path(place, "explain"), words)
+            yield from (refusing_failure(command, what, place, message) for command in ("sheets", "page"))
+    with room() as place:
+        yield refusing_failure("page", "no programs", place, "bash tools/programs")
+        yield refusing_failure("page", "no programs", place, place)
+        program(pathlib.Path(place, "sheet"), SHEET)
+        yield refusing_failure("page", "no explain", place, "the program explain is not in")
+        program(pathlib.Path(place, "explain"), "refused 1\n")
+        pathlib.Path(place, "sheet").chmod(0o644)
+        yield refusing_failure("sheets", "no program that starts", place, "cannot be run")
+        yield refusing_failure("sheets", "no folder", f"{place}/none", "is not in")
+
+
+def main():
+    failures = [printed_failure("W", W, W_PRINTED, 0), printed_failure("two queries", TWO, TWO_PRINTED, 1)]
+    failures += [written_failure(name, (ROOT / "examples" / f"{name}.txt").read_text()) for name in ("w", "islands", "week")]
+    failures += [written_failure(f"text {seed}", generated.text(seed)) for seed in range(40)]
+    failures += programs_failures()
+    finish("sheets", len(failures), [failure for failure in failures if failure])
+
+
+main()
