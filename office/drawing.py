@@ -5,19 +5,20 @@ each part to the ride that one takes who lands in it. A plan that does not fit o
 """
 from axis import Axis, hours_of
 from landings import landings
+from lettering import DIGITS, Room, clock, name_lines, pixels
 from markup import element
-from timetable import time_text
+from page_head import time_mark
+from strokes import BAR, line, part, place, stripes, text
+from timetable import DAY, time_text
 
-WIDTH, MARGIN = 1040, 62  # A4 landscape has 1,047 pixels between margins of 10 mm; the margin is to the right, for names of later rides
-TOP, TALL, LOW = 64, 520, 74  # the axis, all stops together, the least that a stop takes
-HIGHEST = 120
-MOST_STOPS = TALL // LOW
+WIDTH = 1040  # A4 landscape has 1,047 pixels between margins of 10 mm
+MARGIN = 62  # to the right, for the times of rides that are on a later drawing
+TOP = 64  # the height of the scale
+TALL, LOWEST, HIGHEST = 520, 74, 120  # the height of all stops together, and of one at least and at most
+MOST_STOPS = TALL // LOWEST
 MOST_HOURS = 12
 MOST_RIDES = 60
-BAR, LANE = 14, 26  # a bar's height, and how far below it rides depart
-LETTER = 9.2  # an average letter at 17 pixels
-NAME_WIDTH, NAME_LINES = 20, 3
-DIGITS, HIGH = 46, 20  # the width of a time, and the height of words
+LANE = 26  # how far below their landings rides depart
 KEY = (
     "The thick line is the first boat, the thin lines are the others, each named by its time of departure where there is room. A bar shows "
     "when you may land, on time or late; it is cut where a boat leaves, and a dashed line leads from each part to the boat that you then take."
@@ -28,11 +29,17 @@ def drawings(plan, query, timetable):
     """The drawings of a plan as sections of a page."""
     portions = portions_of(plan)
     for number, portion in enumerate(portions, 1):
-        title = "The plan as a drawing" + (f", {number} of {len(portions)}" if len(portions) > 1 else "")
+        title = f"Drawing: {timetable.stop_name(query.source)} to {timetable.stop_name(query.target)}, from "
+        place_among = f" ({number} of {len(portions)})" if len(portions) > 1 else ""
         picture = Drawing(portion, plan, query, timetable).picture(number)
-        hint = element("p", {"class": "hint"}, "Move the drawing sideways to see all of it.")
-        key = element("p", {"class": "key"}, KEY)
-        yield element("section", {"class": "drawing"}, element("h2", {}, title), hint, element("div", {"class": "scroll"}, picture), key)
+        yield element(
+            "section",
+            {"class": "drawing"},
+            element("h2", {}, title, time_mark(time_text(query.minute)), place_among),
+            element("p", {"class": "hint"}, "Move the drawing sideways to see all of it."),
+            element("div", {"class": "scroll"}, picture),
+            element("p", {"class": "key"}, KEY),
+        )
 
 
 def portions_of(plan):
@@ -57,8 +64,8 @@ class Drawing:
         here = {stop for ride in rides for stop in (ride.board, ride.land)}
         self.stops = [stop for stop in in_order(plan, query.target) if stop in here]
         self.names = {stop: name_lines(timetable.stop_name(stop)) for stop in self.stops}
-        left = DIGITS + 24 + LETTER * max(len(line) for lines in self.names.values() for line in lines)
-        self.axis = Axis(set().union(*(hours_of(ride.departure, ride.last) for ride in rides)), round(left), WIDTH - MARGIN)
+        left = DIGITS + 24 + max(pixels(words) for lines in self.names.values() for words in lines)
+        self.axis = Axis(set().union(*(hours_of(ride.departure, ride.last) for ride in rides)), left, WIDTH - MARGIN)
         self.pitch = min(HIGHEST, TALL // len(self.stops))
         self.height = self.lands(self.stops[-1]) + LANE + 28
 
@@ -89,10 +96,10 @@ class Drawing:
         for hour in self.axis.hours():
             yield line(x(hour), TOP - 12, x(hour), self.height, "#bbb", 1, {"class": "tick", "data-minute": hour})
         for hour in self.axis.named_hours():
-            yield text(x(hour), TOP - 18, f"{hour % 1440 // 60:02}:00", "middle")
+            yield text(x(hour), TOP - 18, clock(hour), "middle")
         for minute in self.axis.days():
-            yield text(x(minute), TOP - 40, f"day {minute // 1440 + 1}", "middle", bold=True)
-            if minute % 1440 == 0:
+            yield text(x(minute), TOP - 40, f"day {minute // DAY + 1}", "middle", bold=True)
+            if minute % DAY == 0:
                 yield line(x(minute), TOP - 34, x(minute), self.height, "#000", 2, {"class": "midnight"})
         for before, after in self.axis.gaps():
             middle = (x(before) + x(after)) / 2
@@ -152,13 +159,16 @@ class Drawing:
 
     def window(self, landing):
         """The first and the last minute of a landing, above its bar."""
-        words = "–".join(clock(minute) for minute in sorted({landing.first, landing.last}))
-        x, y = self.axis.x(landing.first) + 2, self.lands(landing.stop) - BAR / 2 - 5
-        if self.room.take(x, y, len(words) * LETTER):
-            yield text(x, y, words, "start")
+        minutes = sorted({landing.first, landing.last})
+        width = DIGITS if len(minutes) == 1 else 2 * DIGITS + 8
+        x, y = min(self.axis.x(landing.first) + 2, WIDTH - width), self.lands(landing.stop) - BAR / 2 - 5
+        if self.room.take(x, y, width):
+            yield text(x, y, "–".join(clock(minute) for minute in minutes), "start")
 
     def departures(self):
         """A dot where each ride departs, and its time where there is room: below to the left, else to the right."""
+        for ride in self.rides:
+            self.room.fill(self.axis.x(ride.departure) - 5, self.departs(ride.board) - 2, 10)
         for ride in self.rides:
             x, y, bold = self.axis.x(ride.departure), self.departs(ride.board), ride is self.plan[0]
             yield element("circle", {"cx": place(x), "cy": place(y), "r": 6 if bold else 4})
@@ -168,20 +178,6 @@ class Drawing:
                 yield text(x + 7, y, clock(ride.departure), "start", bold)
 
 
-class Room:
-    """Where words stand already."""
-
-    def __init__(self):
-        self.taken = []
-
-    def take(self, x, y, width):
-        """Takes a place for words, and says whether it was free."""
-        if any(x < end and start < x + width and abs(y - other) < HIGH for start, end, other in self.taken):
-            return False
-        self.taken.append((x, x + width, y))
-        return True
-
-
 def in_order(rides, target):
     """The stops of rides by their first use, the target last."""
     first = {}
@@ -189,55 +185,3 @@ def in_order(rides, target):
         first[ride.board] = min(first.get(ride.board, ride.departure), ride.departure)
         first[ride.land] = min(first.get(ride.land, ride.arrival), ride.arrival)
     return sorted(first, key=lambda stop: (stop == target, first[stop], stop))
-
-
-def name_lines(name):
-    """A name on a few short lines."""
-    lines = [""]
-    for word in name.split():
-        pieces = [word[at : at + NAME_WIDTH] for at in range(0, len(word), NAME_WIDTH)]
-        for piece in pieces:
-            if len(lines[-1]) + 1 + len(piece) <= NAME_WIDTH:
-                lines[-1] = f"{lines[-1]} {piece}".strip()
-            else:
-                lines.append(piece)
-    lines = [words for words in lines if words]
-    if len(lines) > NAME_LINES:
-        lines = [*lines[: NAME_LINES - 1], lines[NAME_LINES - 1][: NAME_WIDTH - 1] + "…"]
-    return lines
-
-
-def clock(minute):
-    """The time of day; the day is on the scale."""
-    return time_text(minute)[-5:]
-
-
-def place(number):
-    return f"{number:.2f}".rstrip("0").rstrip(".")
-
-
-def line(x1, y1, x2, y2, colour, width, more=None):
-    ends = {"x1": place(x1), "y1": place(y1), "x2": place(x2), "y2": place(y2)}
-    return element("line", {**ends, "stroke": colour, "stroke-width": width, **(more or {})})
-
-
-def text(x, y, words, anchor, bold=False):
-    """Words with a white rim, so that they stay legible across lines."""
-    about = {"x": place(x), "y": place(y), "text-anchor": anchor, "font-size": 17, "stroke": "#fff", "stroke-width": 5}
-    weight = {"font-weight": "bold"} if bold else {}
-    return element("text", {**about, **weight, "paint-order": "stroke"}, words)
-
-
-def part(start, end, top, fill, landing):
-    """A part of a bar; one of a single minute is a stroke."""
-    about = {"class": "landing-part", "data-stop": landing[0], "data-first": landing[1], "data-last": landing[2]}
-    box = {"x": place(start), "y": place(top), "width": place(max(end - start, 2)), "height": BAR}
-    return element("rect", {**box, "fill": fill, "stroke": "#000", "stroke-width": 1.5, **about})
-
-
-def stripes(number):
-    """The stripes of bars: drawings of one page need names of their own for it."""
-    ground = element("rect", {"width": 6, "height": 6, "fill": "#fff"})
-    stroke = line(0, 0, 0, 6, "#000", 4)
-    size = {"width": 6, "height": 6, "patternUnits": "userSpaceOnUse", "patternTransform": "rotate(45)"}
-    return element("defs", {}, element("pattern", {"id": f"late-{number}", **size}, ground, stroke))

@@ -109,17 +109,21 @@ class PlanPage:
         return ["between ", self.times.mark(landing.first), " and ", self.times.mark(landing.last)]
 
     def off(self, rides):
-        """The rides that one lands off, by name or, if they are many, by their number."""
-        rides = sorted(rides, key=lambda ride: (ride.departure, ride.board))
+        """The rides that one lands off, stop by stop, or, if they are many, how many."""
+        rides = sorted(rides, key=lambda ride: ride.departure)
         if len(rides) > MANY:
-            return [f"any of {len(rides)} boats, the first the ", *self.named(rides[0]), ", the last the ", *self.named(rides[-1])]
+            return [f"any of {len(rides)} boats, the first the ", *self.named(rides[:1]), ", the last the ", *self.named(rides[-1:])]
         named = []
-        for ride in rides:
-            named += [", or the " if named else "the ", *self.named(ride)]
+        for stop in dict.fromkeys(ride.board for ride in rides):
+            named += [", or the " if named else "the ", *self.named([ride for ride in rides if ride.board == stop])]
         return named
 
-    def named(self, ride):
-        return [self.times.mark(ride.departure), f" from {self.timetable.stop_name(ride.board)}"]
+    def named(self, rides):
+        """Rides from one stop by their departures."""
+        times = [self.times.mark(rides[0].departure)]
+        for ride in rides[1:]:
+            times += [" or the ", self.times.mark(ride.departure)]
+        return [*times, f" from {self.timetable.stop_name(rides[0].board)}"]
 
     def choice(self, landing, ride):
         """A ride to take, and for whom: those who land by its departure, or all others."""

@@ -1,9 +1,9 @@
 """office sheets: a text becomes the planner's files and a sheet for each query, printed with the names of its stops."""
 import sys
-import unicodedata
 
 from answers import add_arguments, answers
 from asked import named
+from columns import columns
 from folder import write_files
 from messages import Trouble, reason
 from reasons import reason_lines
@@ -47,15 +47,3 @@ def printed(timetable, answer):
 def cells(timetable, line):
     board, land = timetable.stop_name(line.board), timetable.stop_name(line.land)
     return board, time_text(line.departure), land, time_text(line.arrival), time_text(line.expected)
-
-
-def columns(rows):
-    """Rows of words as lines, each column as wide as its widest word."""
-    widths = [max(width(row[place]) for row in rows) for place in range(len(rows[0]))]
-    for row in rows:
-        yield "  ".join(word + " " * (wide - width(word)) for word, wide in zip(row, widths)).rstrip()
-
-
-def width(word):
-    """The columns that a word takes on a terminal: accents none of their own, wide letters two."""
-    return sum(0 if unicodedata.combining(one) else 2 if unicodedata.east_asian_width(one) in "WF" else 1 for one in word)

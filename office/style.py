@@ -54,7 +54,7 @@ svg { display: block; font-family: Arial, Helvetica, "Liberation Sans", sans-ser
   .choices li { grid-template-columns: 7.5rem 1fr 10.5rem; }
   .first { font-size: 17pt; } .take, .then .time { font-size: 15pt; }
   .drawing { page: drawing; break-inside: avoid; }
-  .drawing h2 { margin: 0 0 .2rem; }
+  .drawing h2 { margin: 0 0 .2rem; font-size: 16pt; }
   .key { font-size: 11pt; margin: 0; }
   .scroll { overflow: visible; }
   svg { width: 100%; height: auto; }

@@ -52,3 +52,15 @@ def text(seed):
         begin = chance.choice((max(start - 30, 0), chance.randrange(start, end)))
         lines.append(f"query{name} {called[source]} {called[target]} {clock(begin)} bound {chance.choice((0, 0, 4, 6, 16))}")
     return "\n".join(lines) + "\n"
+
+
+def long_text():
+    """A plan of 1,806 rides: every boat may be 120 minutes late, so that behind each stop there is one in every minute of its landings."""
+    rows, first, last = [(0, 0)], 1, 121
+    for stop in range(1, 6):
+        rows += [(stop, minute) for minute in range(first, last + 1)]
+        first, last = first + 1, last + 121
+    rows.sort(key=lambda row: row[1])
+    lines = ["stops 7", "class 3976" + 120 * " 1"]
+    lines += [f"sail {stop} {stop + 1} {clock(minute)} {clock(minute + 1)} trip {trip} class 0" for trip, (stop, minute) in enumerate(rows)]
+    return "\n".join([*lines, "query 0 6 d1 00:00"]) + "\n"

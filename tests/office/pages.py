@@ -78,6 +78,7 @@ class Plan:
         self.source, self.target, self.asked, _ = struct.unpack("<4H", (folder / "query").read_bytes())
         self.head = (folder / "sheet").read_text().splitlines()[0]
         self.rides = list(sheet_rides((folder / "sheet").read_text(), rows, delays))
+        self.rides_from = {stop: sorted(ride for ride in self.rides if ride.board == stop) for stop in {ride.board for ride in self.rides}}
         names = re.findall(r'^stop (?:"(.*)"|(.*))$', (folder / "names").read_text(), re.MULTILINE)
         self.names = dict(enumerate(quoted or plain for quoted, plain in names))
         text = (folder / "page.html").read_text()
@@ -94,7 +95,7 @@ class Plan:
 
     def taken(self, stop, landed):
         """Document 01: the first ride that leaves the stop no earlier."""
-        return min((ride for ride in self.rides if ride.board == stop and ride.departure >= landed), key=lambda ride: ride.departure)
+        return next(ride for ride in self.rides_from[stop] if ride.departure >= landed)
 
 
 class Landing:
@@ -239,12 +240,14 @@ def inside(drawing):
         for across, down in (("x1", "y1"), ("x2", "y2"), ("x", "y"), ("cx", "cy")):
             if element.get(across) is not None and not element.tag.endswith("pattern"):
                 demand(0 <= float(element.get(across)) <= width and 0 <= float(element.get(down)) <= height, f"the place of {element.attrib}")
+    for words in (element for element in drawing.iter() if element.tag.endswith("text") and element.get("text-anchor") == "start"):
+        demand(float(words.get("x")) + 8.5 * len(words.text) <= width, f"room for {words.text}")
 
 
 def check_self_contained(text):
     demand('<html lang="en">' in text and '<meta charset="utf-8"' in text and 'name="viewport"' in text, "language, letters, viewport")
     demand("<script" not in text and "src=" not in text and "@import" not in text and "<link" not in text, "no script, no outside file")
-    demand(set(re.findall(r"url\((.*?)\)", text)) <= {f"#late-{number}" for number in range(1, 99)}, "no outside picture")
+    demand(set(re.findall(r"url\((.*?)\)", text)) <= {f"#late-{number}" for number in range(1, 999)}, "no outside picture")
     demand(set(re.findall(r"https?:[^\"]*", text)) <= {"http://www.w3.org/2000/svg"}, "no address")
     demand("@page" in text and "break-inside: avoid" in text, "rules for paper")
 
@@ -289,6 +292,18 @@ def check_text(path, folder):
     return plans, len(queries) - plans
 
 
+def check_long(path, folder):
+    """A page of some thousand rides is whole: each ride is on a drawing and among the choices."""
+    called("page", path, folder, "--programs", ROOT / "target" / "bin")
+    plan = Plan(folder)
+    check_times(plan)
+    check_drawings(plan)
+    choices = {tuple(plan.minute(CHOICE.fullmatch(words_of(choice))[name]) for name in ("departure", "arrival"))
+               for section in with_class(plan.page, "landing", "section") for choice in section.iter("li")}
+    demand(len(plan.rides) == 1806 and choices == {(ride.departure, ride.arrival) for ride in plan.rides[1:]}, "1,806 rides")
+    return 1, 0
+
+
 def texts():
     for example in ("w", "islands", "week"):
         yield example, (ROOT / "examples" / f"{example}.txt").read_text()
@@ -299,19 +314,19 @@ def texts():
 def main():
     plans = refusals = 0
     failures = []
-    for what, text in texts():
+    for what, text, check in [*((*text, check_text) for text in texts()), ("a long plan", generated.long_text(), check_long)]:
         with room() as folder:
             path = pathlib.Path(folder, "text")
             path.write_text(text, encoding="utf-8")
             try:
-                some, none = check_text(path, pathlib.Path(folder, "pages"))
+                some, none = check(path, pathlib.Path(folder, "pages"))
                 plans, refusals = plans + some, refusals + none
             except Wrong as wrong:
                 failures.append(f"{what}: {wrong}")
     if plans < 200 or refusals < 10:
         failures.append(f"only {plans} plans and {refusals} refusals were tried")
     print(f"pages of {plans} plans and {refusals} refusals")
-    finish("pages", TEXTS + 3, failures)
+    finish("pages", TEXTS + 4, failures)
 
 
 main()

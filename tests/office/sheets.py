@@ -1,7 +1,9 @@
 """`office sheets`: what it writes and prints, and programs that are missing or say what is no whole sheet."""
 import pathlib
 import re
+import shutil
 import subprocess
+import unittest.mock
 
 import generated
 from running import ROOT, called, files_in, finish, room, started
@@ -19,9 +21,7 @@ TWO = W.replace("stops 3", 'stop "Harbour & Town"\nstop Isle\nstop 灯台').repl
     "query 0 2 d1 09:50 bound 0", "query name late 0 2 d1 10:01\nquery name early 0 2 d1 09:50 bound 5")
 TWO_PRINTED = """late: Harbour & Town to 灯台, from d1 10:01
 refused 8
-The file is sound. Stops: 3. Rows: 4. Classes: 2.
-There is no safe journey from stop 0 to stop 2 from d1 10:01 on.
-stop 0 is Harbour & Town
+{reason}stop 0 is Harbour & Town
 stop 2 is 灯台
 
 early: Harbour & Town to 灯台, from d1 09:50, bound 5
@@ -42,11 +42,12 @@ def lay(folder, text):
 
 
 def printed_failure(what, text, wanted, status):
-    """A text's sheets as printed."""
+    """A text's sheets as printed, a reason in the words of `explain` itself."""
     with room() as folder:
         found = called("sheets", lay(folder, text), f"{folder}/sheets", "--programs", BIN)
         again = started("sheets", f"{folder}/text", f"{folder}/sheets", "--programs", BIN)
-    return None if found == again == (status, wanted, "") else f"{what}: {found}, then {again}"
+        reason = program_words("explain", f"{folder}/sheets/late").decode().replace("refused 8\n", "") if status else ""
+    return None if found == again == (status, wanted.format(reason=reason), "") else f"{what}: {found}, then {again}"
 
 
 def program_words(program, folder):
@@ -135,11 +136,31 @@ def programs_failures():
         yield refusing_failure("sheets", "no folder", f"{place}/none", "is not in")
 
 
+def placed_failures():
+    """Programs in bin beside the office, before those of target/bin; on a machine of another kind they're run by tools/x86_64."""
+    with room() as folder:
+        root = pathlib.Path(folder)
+        shutil.copytree(ROOT / "office", root / "office")
+        words = [root / "office" / "office", "sheets", ROOT / "examples" / "w.txt", root / "made"]
+        for place in ("target/bin", "bin"):
+            none = subprocess.run(words, capture_output=True, text=True)
+            yield None if none.returncode == 1 else f"before {place}: {none}"
+            shutil.copytree(BIN, root / place)
+            found = subprocess.run(words, capture_output=True, text=True)
+            yield None if (found.returncode, found.stdout) == (0, W_PRINTED) else f"in {place}: {found}"
+            program(root / "target/bin/sheet", "from target/bin\n")
+        (root / "tools").mkdir()
+        program(root / "tools/x86_64", "refused 8\n", f'[ "$*" = "run {root}/bin/sheet" ] || echo "$*" >&2')
+        with unittest.mock.patch("programs.ROOT", root), unittest.mock.patch("platform.machine", lambda: "aarch64"):
+            status, out, err = called("sheets", ROOT / "examples" / "w.txt", root / "made")
+        yield None if status == 1 and not out and f"run {root}/bin/explain" in err else f"by tools/x86_64: {out}{err}"
+
+
 def main():
     failures = [printed_failure("W", W, W_PRINTED, 0), printed_failure("two queries", TWO, TWO_PRINTED, 1)]
     failures += [written_failure(name, (ROOT / "examples" / f"{name}.txt").read_text()) for name in ("w", "islands", "week")]
     failures += [written_failure(f"text {seed}", generated.text(seed)) for seed in range(40)]
-    failures += programs_failures()
+    failures += [*programs_failures(), *placed_failures()]
     finish("sheets", len(failures), [failure for failure in failures if failure])
 
 
