@@ -166,9 +166,12 @@ class Drawing:
             yield text(x, y, "–".join(clock(minute) for minute in minutes), "start")
 
     def departures(self):
-        """A dot where each ride departs, and its time where there is room: below to the left, else to the right."""
+        """A dot where each ride departs, and its time where there is room: below to the left, else to the right.
+
+        A dot keeps the place around it free of other rides' times, which could be read as its own.
+        """
         for ride in self.rides:
-            self.room.fill(self.axis.x(ride.departure) - 5, self.departs(ride.board) - 2, 10)
+            self.room.fill(self.axis.x(ride.departure) - 1, self.departs(ride.board) + 10, 6)
         for ride in self.rides:
             x, y, bold = self.axis.x(ride.departure), self.departs(ride.board), ride is self.plan[0]
             yield element("circle", {"cx": place(x), "cy": place(y), "r": 6 if bold else 4})

@@ -1,4 +1,7 @@
-"""Finds the programs `sheet` and `explain` and runs them. They have no exit status of their own, so their words are all that can be judged."""
+"""Finds the programs `sheet` and `explain` and runs them.
+
+They have no exit status of their own, so their words are all that can be judged.
+"""
 import pathlib
 import platform
 import subprocess

@@ -41,11 +41,9 @@ class Sheet:
 
 @dataclass(frozen=True)
 class Ride:
-    """A line of the sheet with its trip, its class, and the last minute of its landing."""
+    """A line of the sheet with the last minute of its landing."""
 
     line: Line
-    trip: int
-    kind: int
     last: int
 
     @property
@@ -88,7 +86,7 @@ def line_of(match):
 
 
 def joined(sheet, words, timetable, query):
-    """The rides of a plan's sheet, each with its trip, class and last landing, out of the words of `explain`."""
+    """The rides of a plan's sheet, each with its last landing, by the trips that `explain` tells."""
     trips = trips_told(words)
     if sum(trips.values()) != len(sheet.lines) or len(trips) != len(sheet.lines):
         raise Trouble(f"sheet has {len(sheet.lines)} rides, but explain tells of {sum(trips.values())}")
@@ -113,12 +111,12 @@ def trips_told(words):
 
 
 def ride_of(line, told, leaves, timetable):
-    """A line of the sheet with the trip that is told of it."""
+    """A line of the sheet, its last landing found by the trip that is told of it."""
     trip = told.get((line.board, line.departure, line.land, line.arrival))
     leave = leaves.get((trip, line.arrival, line.land))
-    if trip is None or leave is None:
+    if trip is None or leave is None or line.arrival <= line.departure:
         raise Trouble(f"the ride from stop {line.board} at {time_text(line.departure)} is on the sheet, but explain tells no trip for it")
-    return Ride(line, trip, leave.kind, line.arrival + len(timetable.tables[leave.kind]) - 1)
+    return Ride(line, line.arrival + len(timetable.tables[leave.kind]) - 1)
 
 
 def check(sheet, rides, query):

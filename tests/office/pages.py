@@ -196,6 +196,7 @@ def check_drawings(plan):
             demand(len({(line.get(f"data-{end}"), line.get(y)) for line in lines}) == len({line.get(f"data-{end}") for line in lines}), "a row a stop")
         covered |= check_bars(plan, scale, drawing, here)
         inside(drawing)
+        check_names(drawing)
         drawn += here
     demand(sorted(drawn) == sorted(plan.rides), "one line a ride")
     demand(covered == {(ride.land, landed) for ride in plan.rides for landed in range(ride.arrival, ride.last + 1)}, "the minutes of the bars")
@@ -230,6 +231,15 @@ def check_bars(plan, scale, drawing, here):
             demand(leads and all(scale.holds(onward.departure, end) for end in leads), f"the way from {stop}, {last} to {onward}")
     demand(len(minutes) == len(set(minutes)), "each minute in one part of a bar")
     return set(minutes)
+
+
+def check_names(drawing):
+    """No ride's time of departure stands at another ride's dot."""
+    dots = [(float(dot.get("cx")), float(dot.get("cy"))) for dot in drawing.iter() if dot.tag.endswith("circle")]
+    for words in (element for element in drawing.iter() if element.tag.endswith("text") and re.fullmatch(r"\d\d:\d\d", element.text)):
+        start = float(words.get("x")) - (46 if words.get("text-anchor") == "end" else 0)
+        near = [x for x, y in dots if float(words.get("y")) - y in (0, 22) and start < x < start + 46]
+        demand(not near, f"the place of {words.text}")
 
 
 def inside(drawing):
