@@ -8,7 +8,7 @@ import unittest.mock
 import generated
 from running import ROOT, called, files_in, finish, room, started
 
-BIN = ROOT / "target" / "bin"
+BIN, RUNNER = ROOT / "target" / "bin", ROOT / "tools" / "x86_64"
 W = (ROOT / "examples" / "w.txt").read_text()
 W_PRINTED = """stop 0 to stop 2, from d1 09:50
 expected d1 11:15, latest d1 11:30, 3 rides
@@ -51,7 +51,7 @@ def printed_failure(what, text, wanted, status):
 
 
 def program_words(program, folder):
-    return subprocess.run([BIN / program], cwd=folder, capture_output=True, check=True).stdout
+    return subprocess.run([RUNNER, "run", BIN / program], cwd=folder, capture_output=True, check=True).stdout
 
 
 def written_failure(what, text):
@@ -83,7 +83,7 @@ def program(path, words, more=""):
 
 def wrong_programs():
     """What the case is, the words of `sheet` and `explain`, what a stand-in does besides, and a word of the message."""
-    told = subprocess.run([BIN / "explain"], cwd=ROOT / "examples" / "w", capture_output=True, check=True).stdout.decode()
+    told = program_words("explain", ROOT / "examples" / "w").decode()
     yield "half a line", SHEET[:-20], told, "", "cut short"
     yield "half a sheet", "".join(LINES[:3]), told, "", "no whole sheet"
     yield "no line end", SHEET[:-1], told, "", "cut short"
@@ -111,7 +111,7 @@ def wrong_programs():
 
 def refusing_failure(command, what, place, word):
     """With these programs a command ends with one message, and leaves nothing."""
-    with room() as folder:
+    with room() as folder, unittest.mock.patch("platform.machine", lambda: "x86_64"):  # stand-ins run everywhere
         status, out, err = called(command, lay(folder, W), f"{folder}/made", "--programs", place)
         left = sorted(path.name for path in pathlib.Path(folder).iterdir())
     if (status, out, left) == (1, "", ["text"]) and err.count("\n") == 1 and word in err:
@@ -141,6 +141,8 @@ def placed_failures():
     with room() as folder:
         root = pathlib.Path(folder)
         shutil.copytree(ROOT / "office", root / "office")
+        (root / "tools").mkdir()
+        shutil.copy(RUNNER, root / "tools")
         words = [root / "office" / "office", "sheets", ROOT / "examples" / "w.txt", root / "made"]
         for place in ("target/bin", "bin"):
             none = subprocess.run(words, capture_output=True, text=True)
@@ -149,7 +151,6 @@ def placed_failures():
             found = subprocess.run(words, capture_output=True, text=True)
             yield None if (found.returncode, found.stdout) == (0, W_PRINTED) else f"in {place}: {found}"
             program(root / "target/bin/sheet", "from target/bin\n")
-        (root / "tools").mkdir()
         program(root / "tools/x86_64", "refused 8\n", f'[ "$*" = "run {root}/bin/sheet" ] || echo "$*" >&2')
         with unittest.mock.patch("programs.ROOT", root), unittest.mock.patch("platform.machine", lambda: "aarch64"):
             status, out, err = called("sheets", ROOT / "examples" / "w.txt", root / "made")
