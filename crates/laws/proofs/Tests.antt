@@ -1,7 +1,8 @@
 -- Laws on tests: a Bool is split with its equation, and what a conjunction or a choice by a test says. Assumes nothing.
 use mathlib.Core.Bool.{Bool, true, false, cond, not, _&&_, _||_, false≢true}
 use mathlib.Core.Logic.{_⊎_, inl, inr}
-use mathlib.Core.Path.{_≡_, refl, sym, subst, ap}
+use mathlib.Core.Path.{_≡_, refl, sym, subst, ap, _∙_}
+use borrow.Author.Tests.{not-true, not-false}
 use lib.Dec.{T}
 
 -- a test is true or it is false, and each way its equation is at hand
@@ -19,6 +20,22 @@ both-left false b e = e
 pub both-right : (a b : Bool) → (a && b) ≡ true → b ≡ true
 both-right true b e = e
 both-right false b e = absurd (false≢true e)
+
+-- a conjunction with a false part is false
+pub false-right : (a : Bool) → (a && false) ≡ false
+false-right true = refl
+false-right false = refl
+
+pub both-both : (a b c : Bool) → (a && b && c) ≡ (a && (b && c))
+both-both true b c = refl
+both-both false b c = refl
+
+-- what a rule's answer says of the rule, once the answer is tested
+pub rule-breaks : {answer rule : Bool} → answer ≡ rule → not answer ≡ true → rule ≡ false
+rule-breaks told test = sym told ∙ not-true _ test
+
+pub rule-keeps : {answer rule : Bool} → answer ≡ rule → not answer ≡ false → rule ≡ true
+rule-keeps told test = sym told ∙ not-false _ test
 
 pub either : (a b : Bool) → (a || b) ≡ true → (a ≡ true) ⊎ (b ≡ true)
 either true b e = inl refl

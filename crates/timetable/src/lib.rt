@@ -1,6 +1,9 @@
 // Document 01, "The sailing file": a row, and what its numbers are held to.
+ghost use mathlib.Core.Bool.{not};
 ghost use mathlib.Core.Path.{_≡_};
 ghost use mathlib.Core.Option.{some};
+ghost use lib.Dec.{ltb, leb, eqb};
+ghost use Rattle.timetable.specs.Limits.{mostTrips};
 ghost use Rattle.timetable.specs.Rows.{ownRule, follows as followsRow};
 
 // One sailing or bus hop: the six numbers of a row, in the file's order.
@@ -40,36 +43,92 @@ pub const SHARE_TOTAL: usize = 4096;
 pub fn own_rule(row: Row, g: Ranges) -> bool
     ensures { λ r. ⌜ r ≡ ownRule g row ⌝ }
 {
-    if row.board >= g.stops {
+    if !stop_rule(row.board, g) {
         return false;
     }
-    if row.land >= g.stops {
+    if !stop_rule(row.land, g) {
         return false;
     }
-    if row.board == row.land {
+    if !stops_differ(row) {
         return false;
     }
-    if row.departure >= row.arrival {
+    if !onward(row) {
         return false;
     }
-    if row.departure > g.lastminute {
+    if !minute_rule(row.departure, g) {
         return false;
     }
-    if row.arrival > g.lastminute {
+    if !minute_rule(row.arrival, g) {
         return false;
     }
-    if row.trip >= MOST_TRIPS {
+    if !trip_rule(row) {
         return false;
     }
+    class_rule(row, g)
+}
+
+// Boarding and landing stop: each is below S.
+pub fn stop_rule(stop: usize, g: Ranges) -> bool
+    ensures { λ r. ⌜ r ≡ ltb stop (g .stops) ⌝ }
+{
+    stop < g.stops
+}
+
+// The two stops differ.
+pub fn stops_differ(row: Row) -> bool
+    ensures { λ r. ⌜ r ≡ not (eqb (row .board) (row .land)) ⌝ }
+{
+    row.board != row.land
+}
+
+// Departure is less than arrival.
+pub fn onward(row: Row) -> bool
+    ensures { λ r. ⌜ r ≡ ltb (row .departure) (row .arrival) ⌝ }
+{
+    row.departure < row.arrival
+}
+
+// Departure and arrival: neither is past the last minute.
+pub fn minute_rule(minute: usize, g: Ranges) -> bool
+    ensures { λ r. ⌜ r ≡ leb minute (g .lastminute) ⌝ }
+{
+    minute <= g.lastminute
+}
+
+// The trip is below 2,000.
+pub fn trip_rule(row: Row) -> bool
+    ensures { λ r. ⌜ r ≡ ltb (row .trip) mostTrips ⌝ }
+{
+    row.trip < MOST_TRIPS
+}
+
+// The class is below K.
+pub fn class_rule(row: Row, g: Ranges) -> bool
+    ensures { λ r. ⌜ r ≡ ltb (row .class) (g .classes) ⌝ }
+{
     row.class < g.classes
+}
+
+// A row departs no earlier than the row ahead of it, which departs at `departure`.
+pub fn departure_rule(departure: usize, row: Row) -> bool
+    ensures { λ r. ⌜ r ≡ leb departure (row .departure) ⌝ }
+{
+    departure <= row.departure
 }
 
 // Whether a row may come behind `previous`, the nearest earlier row of its trip.
 pub fn follows(previous: Row, row: Row) -> bool
     ensures { λ r. ⌜ r ≡ followsRow (some previous) row ⌝ }
 {
-    if previous.land != row.board {
+    if !lands_there(previous, row) {
         return false;
     }
     previous.arrival <= row.departure
+}
+
+// `previous` lands at the row's boarding stop.
+pub fn lands_there(previous: Row, row: Row) -> bool
+    ensures { λ r. ⌜ r ≡ eqb (previous .land) (row .board) ⌝ }
+{
+    previous.land == row.board
 }

@@ -1,63 +1,107 @@
--- `timetable::own_rule` meets its contract: a test that fails breaks the rule, and the last decides once the others hold. Assumes nothing.
-use Prim.Native.Nat.{_≤_, _<_}
-use mathlib.Core.Bool.{Bool, true, false, _&&_}
-use mathlib.Core.Path.{_≡_, refl}
-use native.Mathlib.Omega.{arith}
-use borrow.Author.Tests.{lt-ltb, le-ltb, le-leb, lt-leb, eq-eqb, ne-eqb}
-use lib.Dec.{ltb}
-use Rattle.timetable.specs.declared.Row.{Row}
-use Rattle.timetable.specs.declared.Ranges.{Ranges}
+-- `timetable::own_rule` meets its contract: a rule that is broken breaks the whole, and the last decides once the others are kept. Assumes nothing.
+use mathlib.Core.Bool.{Bool, true, _&&_}
+use mathlib.Core.Path.{_≡_, sym, _∙_}
+use borrow.Author.Needs.{needs}
+use Rattle.laws.proofs.Tests.{false-right, rule-breaks, rule-keeps}
 use Rattle.timetable.specs.Rows.{ownRule}
-use Rattle.timetable.specs.Limits.{mostTrips}
 use Rattle.timetable.proofs.own_rule.Statement.{statement}
 use Rattle.timetable.proofs.own_rule.Tie as tie
 
--- a conjunction with a false part is false
-broken : (b : Bool) → (b && false) ≡ false
-broken true = refl
-broken false = refl
+-- where the others are kept, the last decides
+last-decides :
+    (a b c d e f g last : Bool) → a ≡ true → b ≡ true → c ≡ true → d ≡ true → e ≡ true → f ≡ true → g ≡ true
+    → last ≡ (a && b && c && d && e && f && g && last)
+last-decides a b c d e f g last a' b' c' d' e' f' g' = rw (a', b', c', d', e', f', g')
 
--- where the other tests hold, the rule is the last one
-last-test :
-    (g : Ranges) (r : Row) → r .board < g .stops → r .land < g .stops → (r .board ≡ r .land → ⊥) → r .departure < r .arrival
-    → r .departure ≤ g .lastminute → r .arrival ≤ g .lastminute → r .trip < mostTrips → ltb (r .class) (g .classes) ≡ ownRule g r
-unfolding ownRule
-last-test g r board land differ onward departs arrives trip =
-    simp (lt-ltb _ _ board, lt-ltb _ _ land, ne-eqb _ _ differ, lt-ltb _ _ onward, le-leb _ _ departs, le-leb _ _ arrives, lt-ltb _ _ trip)
+stop-rule-requires : tie.Need-stop-rule-requires
+stop-rule-requires c κs = search needs
 
 returns : tie.Need-returns
 unfolding ownRule
-returns c = simp (le-ltb _ _ (c .if1 .taken))
+returns c = sym (simp (rule-breaks (c .before .stop-rule .ensures) (c .if1 .taken)))
+
+stop-rule-requires-2 : tie.Need-stop-rule-requires-2
+stop-rule-requires-2 c κs = search needs
 
 returns-2 : tie.Need-returns-2
 unfolding ownRule
-returns-2 c = simp (le-ltb _ _ (c .if2 .taken), broken)
+returns-2 c = sym (simp (rule-breaks (c .before .stop-rule2 .ensures) (c .if2 .taken), false-right))
+
+stops-differ-requires : tie.Need-stops-differ-requires
+stops-differ-requires c κs = search needs
 
 returns-3 : tie.Need-returns-3
 unfolding ownRule
-returns-3 c = simp (eq-eqb _ _ (c .if3 .taken), broken)
+returns-3 c = sym (simp (rule-breaks (c .before .stops-differ .ensures) (c .if3 .taken), false-right))
+
+onward-requires : tie.Need-onward-requires
+onward-requires c κs = search needs
 
 returns-4 : tie.Need-returns-4
 unfolding ownRule
-returns-4 c = simp (le-ltb _ _ (c .if4 .taken), broken)
+returns-4 c = sym (simp (rule-breaks (c .before .onward .ensures) (c .if4 .taken), false-right))
+
+minute-rule-requires : tie.Need-minute-rule-requires
+minute-rule-requires c κs = search needs
 
 returns-5 : tie.Need-returns-5
 unfolding ownRule
-returns-5 c = simp (lt-leb _ _ (c .if5 .taken), broken)
+returns-5 c = sym (simp (rule-breaks (c .before .minute-rule .ensures) (c .if5 .taken), false-right))
+
+minute-rule-requires-2 : tie.Need-minute-rule-requires-2
+minute-rule-requires-2 c κs = search needs
 
 returns-6 : tie.Need-returns-6
 unfolding ownRule
-returns-6 c = simp (lt-leb _ _ (c .if6 .taken), broken)
+returns-6 c = sym (simp (rule-breaks (c .before .minute-rule2 .ensures) (c .if6 .taken), false-right))
+
+trip-rule-requires : tie.Need-trip-rule-requires
+trip-rule-requires c κs = search needs
 
 returns-7 : tie.Need-returns-7
 unfolding ownRule
-returns-7 c = simp (le-ltb _ _ (c .if7 .taken), broken)
+returns-7 c = sym (simp (rule-breaks (c .before .trip-rule .ensures) (c .if7 .taken), false-right))
+
+class-rule-requires : tie.Need-class-rule-requires
+class-rule-requires c κs = search needs
 
 returns-8 : tie.Need-returns-8
+unfolding ownRule
 returns-8 c =
-    last-test _ _ (omega arith) (omega arith) (λ e. omega arith) (omega arith) (omega arith) (omega arith) (omega arith)
+    let trip = c .before in
+    let arrives = trip .before .before in
+    let departs = arrives .before .before in
+    let onward = departs .before .before in
+    let differ = onward .before .before in
+    let land = differ .before .before in
+    let board = land .before .before in
+    c .class-rule .ensures
+    ∙ last-decides _ _ _ _ _ _ _ _
+    (rule-keeps (board .before .stop-rule .ensures) (board .if1 .left))
+    (rule-keeps (land .before .stop-rule2 .ensures) (land .if2 .left))
+    (rule-keeps (differ .before .stops-differ .ensures) (differ .if3 .left))
+    (rule-keeps (onward .before .onward .ensures) (onward .if4 .left))
+    (rule-keeps (departs .before .minute-rule .ensures) (departs .if5 .left))
+    (rule-keeps (arrives .before .minute-rule2 .ensures) (arrives .if6 .left))
+    (rule-keeps (trip .before .trip-rule .ensures) (trip .if7 .left))
 
 pub own-rule-spec : {M : Type 1} → statement M
 own-rule-spec =
     tie.close
-    (tie.spec returns returns-2 returns-3 returns-4 returns-5 returns-6 returns-7 returns-8)
+    (tie.spec
+    stop-rule-requires
+    returns
+    stop-rule-requires-2
+    returns-2
+    stops-differ-requires
+    returns-3
+    onward-requires
+    returns-4
+    minute-rule-requires
+    returns-5
+    minute-rule-requires-2
+    returns-6
+    trip-rule-requires
+    returns-7
+    class-rule-requires
+    returns-8)
