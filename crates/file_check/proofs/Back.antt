@@ -1,16 +1,20 @@
 -- Looking back over the rows behind a row, one row at a time. Assumes nothing.
-use Prim.Native.Nat.{ℕ, suc, _+_, _*_}
-use mathlib.Core.Bool.{true}
+use Prim.Native.Nat.{ℕ, zero, suc, _+_, _*_}
+use mathlib.Core.Bool.{Bool, true, false, cond}
 use mathlib.Core.List.{List, _∷_}
 use mathlib.Core.Option.{Option, none, some}
-use mathlib.Core.Path.{_≡_, refl, ap, sym, subst, _∙_}
+use mathlib.Core.Path.{_≡_, refl, ap, sym, subst, subst⁻¹, _∙_}
 use native.Mathlib.Omega.{arith}
+use borrow.Author.Tests.{eq-eqb, ne-eqb}
+use lib.Dec.{eqb}
+use Rattle.laws.proofs.Tests.{cond-true, cond-false}
 use Rattle.timetable.specs.declared.Row.{Row}
-use Rattle.timetable.specs.Rows.{lastOfTrip, follows}
-use Rattle.timetable.proofs.Behind.{last-here, last-further}
+use Rattle.timetable.specs.Rows.{lastOfTrip}
+use Rattle.timetable.proofs.Behind.{last-further}
 use Rattle.file_layout.specs.Decode.{rowAt}
+use Rattle.file_check.specs.declared.Found.{Found}
 use Rattle.file_check.specs.declared.Found.the-variants.{At, Nothing}
-use Rattle.file_check.specs.Behind.{rowsBehind, found}
+use Rattle.file_check.specs.Behind.{rowsBehind, foundBehind, rowFound}
 
 -- one row more is its bytes more
 pub one-more : (width fewer count : ℕ) → suc fewer ≡ count → width * fewer + width ≡ width * count
@@ -26,25 +30,48 @@ module _ (width : ℕ) (s : List ℕ) (start : ℕ) where
         (ap (λ n. rowAt s n ∷ rowsBehind width s start fewer) (sym place))
 
     -- the search stops at a row of the trip
-    pub found-here : (trip : ℕ) → rowAt s at .trip ≡ trip → lastOfTrip trip (rowsBehind width s start count) ≡ some (rowAt s at)
-    found-here trip same = ap (lastOfTrip trip) nearest ∙ last-here trip (rowAt s at) (rowsBehind width s start fewer) same
+    pub found-here : (trip : ℕ) → rowAt s at .trip ≡ trip → foundBehind trip width s start count ≡ At (rowAt s at) fewer
+    unfolding foundBehind
+    found-here trip same =
+        subst (λ n. foundBehind trip width s start n ≡ At (rowAt s at) fewer) one
+        (subst⁻¹ (λ a. foundBehind trip width s start (suc fewer) ≡ At (rowAt s a) fewer) place
+        (cond-true (At (rowAt s (start + width * fewer)) fewer) (foundBehind trip width s start fewer)
+        (eq-eqb _ trip (ap (λ a. rowAt s a .trip) (sym place) ∙ same))))
 
     -- else it goes on behind that row
-    pub found-further : (trip : ℕ) → (rowAt s at .trip ≡ trip → ⊥)
+    pub found-further : (trip : ℕ) → (rowAt s at .trip ≡ trip → ⊥) → foundBehind trip width s start count ≡ foundBehind trip width s start fewer
+    unfolding foundBehind
+    found-further trip other =
+        subst (λ n. foundBehind trip width s start n ≡ foundBehind trip width s start fewer) one
+        (cond-false (At (rowAt s (start + width * fewer)) fewer) (foundBehind trip width s start fewer)
+        (ne-eqb _ trip (λ same. other (ap (λ a. rowAt s a .trip) place ∙ same))))
+
+    -- and so does looking back over the rows themselves
+    pub last-behind : (trip : ℕ) → (rowAt s at .trip ≡ trip → ⊥)
         → lastOfTrip trip (rowsBehind width s start count) ≡ lastOfTrip trip (rowsBehind width s start fewer)
-    found-further trip other = ap (lastOfTrip trip) nearest ∙ last-further trip (rowAt s at) (rowsBehind width s start fewer) other
+    last-behind trip other = ap (lastOfTrip trip) nearest ∙ last-further trip (rowAt s at) (rowsBehind width s start fewer) other
 
   -- and ends where no row is left
-  pub found-none : (trip count : ℕ) → count ≡ 0 → lastOfTrip trip (rowsBehind width s start count) ≡ none
-  unfolding rowsBehind lastOfTrip
-  found-none trip count e = ap (λ n. lastOfTrip trip (rowsBehind width s start n)) e
+  pub found-none : (trip count : ℕ) → count ≡ 0 → foundBehind trip width s start count ≡ Nothing
+  unfolding foundBehind
+  found-none trip count e = ap (foundBehind trip width s start) e
 
--- what the search answers decides the rule of the trip
-pub none-follows : (o : Option Row) (r : Row) → found o ≡ Nothing → follows o r ≡ true
-unfolding follows
-none-follows none r e = refl
-none-follows (some p) r e = absurd (let z : _≡_ {A = ℕ} 0 1 = cc in let y : ⊥ = omega arith in y)
+  -- the row that is found is the nearest earlier row of the trip
+  pub row-found : (trip count : ℕ) → rowFound (foundBehind trip width s start count) ≡ lastOfTrip trip (rowsBehind width s start count)
+  unfolding foundBehind rowsBehind lastOfTrip
+  row-found trip zero = refl
+  row-found trip (suc count) =
+      by-test (eqb (rowAt s (start + width * count) .trip) trip) (rowAt s (start + width * count)) count
+      (foundBehind trip width s start count) (lastOfTrip trip (rowsBehind width s start count)) (row-found trip count)
+    where
+      by-test : (b : Bool) (row : Row) (place : ℕ) (further : Found) (last : Option Row) → rowFound further ≡ last
+          → rowFound (cond b (At row place) further) ≡ cond b (some row) last
+      by-test true row place further last e = refl
+      by-test false row place further last e = e
 
-pub found-follows : (o : Option Row) (p r : Row) → found o ≡ At p → follows o r ≡ follows (some p) r
-found-follows none p r e = absurd (let z : _≡_ {A = ℕ} 0 1 = cc in let y : ⊥ = omega arith in y)
-found-follows (some q) p r e = ap (λ x. follows (some x) r) (cc)
+  pub nothing-found : (trip count : ℕ) → foundBehind trip width s start count ≡ Nothing → lastOfTrip trip (rowsBehind width s start count) ≡ none
+  nothing-found trip count e = sym (row-found trip count) ∙ ap rowFound e
+
+  pub last-found : (trip count : ℕ) (row : Row) (place : ℕ) → foundBehind trip width s start count ≡ At row place
+      → lastOfTrip trip (rowsBehind width s start count) ≡ some row
+  last-found trip count row place e = sym (row-found trip count) ∙ ap rowFound e

@@ -12,7 +12,7 @@ use Rattle.timetable.specs.Rows.{lastOfTrip}
 use Rattle.timetable.specs.Limits.{mostTrips}
 use Rattle.file_layout.specs.Decode.{rowAt}
 use Rattle.file_check.specs.Behind.{rowsBehind}
-use Rattle.file_check.proofs.Back.{found-further}
+use Rattle.file_check.proofs.Back.{last-behind}
 
 -- looking back for the trip over the first `hint` rows finds the same row as over the first `count`
 pub record Hint (width : ℕ) (s : List ℕ) (start count trip hint : ℕ) : Type 0 where
@@ -45,7 +45,7 @@ module _ (width : ℕ) (s : List ℕ) (start : ℕ) where
         let hint = known .hints trip h in
         record {
           within = omega arith;
-          same-found = hint .same-found ∙ sym (found-further width s start count next at one place trip other);
+          same-found = hint .same-found ∙ sym (last-behind width s start count next at one place trip other);
         }
 
     next-hint : (trip : ℕ) → trip < mostTrips → Hint width s start next trip (getD (set seen (rowAt s at .trip) next) trip 0)

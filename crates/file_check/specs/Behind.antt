@@ -1,7 +1,9 @@
 -- Document 01, "The sailing file": the rows of a file behind a row, nearest first, and the row found among them.
 use Prim.Native.Nat.{ℕ, zero, suc, _+_, _*_, _≤_}
+use mathlib.Core.Bool.{cond}
 use mathlib.Core.List.{List, [], _∷_}
 use mathlib.Core.Option.{Option, none, some}
+use lib.Dec.{eqb}
 use Rattle.timetable.specs.declared.Row.{Row}
 use Rattle.file_layout.specs.declared.Trailer.{Trailer}
 use Rattle.timetable.specs.Limits.{mostRows}
@@ -14,10 +16,18 @@ unfoldable pub rowsBehind : ℕ → List ℕ → ℕ → ℕ → List Row
 rowsBehind width s start zero = []
 rowsBehind width s start (suc count) = rowAt s (start + width * count) ∷ rowsBehind width s start count
 
--- a row that was looked for and may be missing
-abbrev pub found : Option Row → Found
-found none = Nothing
-found (some r) = At r
+-- the nearest of them that is of the trip, with its number, found by looking back and stopping at the first
+unfoldable pub foundBehind : ℕ → ℕ → List ℕ → ℕ → ℕ → Found
+foundBehind trip width s start zero = Nothing
+foundBehind trip width s start (suc count) =
+    let row = rowAt s (start + width * count) in
+    let further = foundBehind trip width s start count in
+    cond (eqb (row .trip) trip) (At row count) further
+
+-- the row alone
+abbrev pub rowFound : Found → Option Row
+rowFound Nothing = none
+rowFound (At row place) = some row
 
 -- what reading the rows needs: they are few, each holds its numbers, and all lie within the file
 pub record RowsInside (width : ℕ) (h : Trailer) (end : ℕ) : Type 0 where

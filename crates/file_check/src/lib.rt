@@ -9,7 +9,7 @@ ghost use Rattle.timetable.specs.Rows.{lastOfTrip, follows as followsRow, rowsV
 ghost use Rattle.file_layout.specs.Format.{Readable};
 ghost use Rattle.file_layout.specs.Decode.{rowsFrom};
 ghost use Rattle.file_layout.specs.Check.{answered, checkedAs, checked};
-ghost use Rattle.file_check.specs.Behind.{rowsBehind, found, RowsInside};
+ghost use Rattle.file_check.specs.Behind.{rowsBehind, foundBehind, RowsInside};
 use file_layout::Checked;
 use file_layout::Format;
 use file_layout::Trailer;
@@ -18,9 +18,9 @@ use timetable::MOST_TRIPS;
 use timetable::Ranges;
 use timetable::Row;
 
-// The nearest earlier row of a trip, if there is one.
-enum Found {
-    At(Row),
+// The nearest earlier row of a trip and its number, if there is one.
+pub enum Found {
+    At { row: Row, place: usize },
     Nothing,
 }
 
@@ -96,20 +96,24 @@ fn in_order(
     requires { ⌜ (12 ≤ width) × (start + width * count ≤ length (now file)) ⌝ }
     ensures { λ r. ⌜ r ≡ (leb departure (row .departure) && followsRow (lastOfTrip (row .trip) (rowsBehind width (now (file .entry)) start count)) row) ⌝ }
 {
-    if row.departure < departure {
+    if !timetable::departure_rule(departure, row) {
         return false;
     }
     let found = look_back(file, start, width, count, row.trip);
-    let Found::At(previous) = found else {
+    let Found::At {
+        row: previous,
+        place: _,
+    } = found
+    else {
         return true;
     };
     timetable::follows(previous, row)
 }
 
 // The nearest row of `trip` among the first `count`, found by looking back and stopping at the first.
-fn look_back(file: &[u8], start: usize, width: usize, count: usize, trip: usize) -> Found
+pub fn look_back(file: &[u8], start: usize, width: usize, count: usize, trip: usize) -> Found
     requires { ⌜ (12 ≤ width) × (start + width * count ≤ length (now file)) ⌝ }
-    ensures { λ r. ⌜ r ≡ found (lastOfTrip trip (rowsBehind width (now (file .entry)) start count)) ⌝ }
+    ensures { λ r. ⌜ r ≡ foundBehind trip width (now (file .entry)) start count ⌝ }
 {
     let mut left = count;
     let mut at = start + width * count;
@@ -118,7 +122,7 @@ fn look_back(file: &[u8], start: usize, width: usize, count: usize, trip: usize)
         at -= width;
         let row = file_layout::row_at(file, at);
         if row.trip == trip {
-            return Found::At(row);
+            return Found::At { row, place: left };
         }
     }
     Found::Nothing

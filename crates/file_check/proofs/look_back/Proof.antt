@@ -1,14 +1,12 @@
 -- `file_check::look_back` meets its contract: what is found among all the rows is what is found among those still left. Assumes nothing.
 use Prim.Native.Nat.{_+_, _-_, _*_, _≤_}
-use mathlib.Core.Option.{some}
 use mathlib.Core.Path.{_≡_, refl, ap, sym, _∙_}
 use native.Mathlib.Omega.{arith}
 use borrow.Author.Needs.{needs}
 use lib.ListN.{length}
-use Rattle.timetable.specs.Rows.{lastOfTrip}
 use Rattle.file_layout.specs.Decode.{rowAt}
 use Rattle.file_check.specs.declared.Found.the-variants.{At}
-use Rattle.file_check.specs.Behind.{rowsBehind, found}
+use Rattle.file_check.specs.Behind.{foundBehind}
 use Rattle.file_check.proofs.Back.{one-more, found-here, found-further, found-none}
 use Rattle.file_check.proofs.look_back.Statement.{statement}
 use Rattle.file_check.proofs.look_back.Tie as tie
@@ -16,7 +14,7 @@ use Rattle.file_check.proofs.look_back.Tie as tie
 abbrev Inv-loop : tie.InvT-loop
 Inv-loop file start width count trip left₀ at₀ left at =
     (at ≡ start + width * left) × (at ≤ length file)
-    × (lastOfTrip trip (rowsBehind width file start count) ≡ lastOfTrip trip (rowsBehind width file start left))
+    × (foundBehind trip width file start count ≡ foundBehind trip width file start left)
 
 abbrev μ-loop : tie.MeasureT-loop
 μ-loop file start width count trip left₀ at₀ left at = left
@@ -52,11 +50,11 @@ returns c =
     let at = c .before .before .before .before .loop .at - a .width in
     let e : c .before .before .row-at .result ≡ rowAt (a .file .now) at = c .before .before .row-at .ensures .0 in
     let place : at ≡ a .start + a .width * (left - 1) = omega (arith, row-before (c .before .before .before)) in
-    let here : lastOfTrip (a .trip) (rowsBehind (a .width) (a .file .now) (a .start) left) ≡ some (rowAt (a .file .now) at) =
+    let here : foundBehind (a .trip) (a .width) (a .file .now) (a .start) left ≡ At (rowAt (a .file .now) at) (left - 1) =
     found-here (a .width) (a .file .now) (a .start) (left - 1) left at (omega arith) place (a .trip)
     (ap (λ r. r .trip) (sym e) ∙ c .if1 .taken)
     in
-    ap At e ∙ ap found (sym (c .before .before .before .before .loop .inv .2 ∙ here))
+    ap (λ r. At r (left - 1)) e ∙ sym (c .before .before .before .before .loop .inv .2 ∙ here)
 
 loop-less : tie.Need-loop-less Inv-loop μ-loop
 loop-less c = omega arith
@@ -79,7 +77,7 @@ returns-2 : tie.Need-returns-2 Inv-loop μ-loop
 returns-2 c =
     let a = c .before .before .before .args in
     let none-left = found-none (a .width) (a .file .now) (a .start) (a .trip) (c .before .loop .left) (omega arith) in
-    ap found (sym (c .before .loop .inv .2 ∙ none-left))
+    sym (c .before .loop .inv .2 ∙ none-left)
 
 pub look-back-spec : {M : Type 1} → statement M
 look-back-spec =
