@@ -4,6 +4,7 @@ ghost use mathlib.Core.Bool.{_&&_};
 ghost use Prim.Native.Nat.{_+_, _-_, _*_, _≤_, _<_};
 ghost use lib.Dec.{leb, eqb};
 ghost use lib.ListN.{length};
+ghost use Rattle.timetable.specs.Limits.{fewestStops, mostStops, mostRows, fewestClasses, mostClasses};
 ghost use Rattle.timetable.specs.Classes.{sum, sharesRule};
 ghost use Rattle.file_layout.specs.Format.{Readable};
 ghost use Rattle.numbers.specs.Numbers.{u16At};
@@ -30,7 +31,7 @@ pub enum Sections {
 }
 
 // Class blocks that keep their rules, with the byte where they end, or the refusal with its place.
-enum Blocks {
+pub enum Blocks {
     End { at: usize },
     Fault { number: usize, place: usize },
 }
@@ -78,7 +79,7 @@ pub fn read_sections(file: &[u8], f: Format) -> Sections
 }
 
 // The file length is in its range.
-fn length_in_range(f: Format, size: usize) -> bool
+pub fn length_in_range(f: Format, size: usize) -> bool
     ensures { λ r. ⌜ r ≡ (leb (f .fewestbytes) size && leb size (f .mostbytes)) ⌝ }
 {
     if size < f.fewestbytes {
@@ -91,29 +92,54 @@ fn length_in_range(f: Format, size: usize) -> bool
 fn in_ranges(f: Format, trailer: Trailer) -> bool
     ensures { λ r. ⌜ r ≡ trailerRule f trailer ⌝ }
 {
-    if trailer.version != f.version {
+    if !version_rule(f, trailer) {
         return false;
     }
+    if !stops_rule(trailer) {
+        return false;
+    }
+    if !rows_rule(trailer) {
+        return false;
+    }
+    classes_rule(trailer)
+}
+
+// The trailer is of the version.
+pub fn version_rule(f: Format, trailer: Trailer) -> bool
+    ensures { λ r. ⌜ r ≡ eqb (trailer .version) (f .version) ⌝ }
+{
+    trailer.version == f.version
+}
+
+// S is 2 to 200.
+pub fn stops_rule(trailer: Trailer) -> bool
+    ensures { λ r. ⌜ r ≡ (leb fewestStops (trailer .stops) && leb (trailer .stops) mostStops) ⌝ }
+{
     if trailer.stops < FEWEST_STOPS {
         return false;
     }
-    if MOST_STOPS < trailer.stops {
-        return false;
-    }
-    if MOST_ROWS < trailer.rows {
-        return false;
-    }
+    trailer.stops <= MOST_STOPS
+}
+
+// n is 0 to 2,000.
+pub fn rows_rule(trailer: Trailer) -> bool
+    ensures { λ r. ⌜ r ≡ leb (trailer .rows) mostRows ⌝ }
+{
+    trailer.rows <= MOST_ROWS
+}
+
+// K is 1 to 16.
+fn classes_rule(trailer: Trailer) -> bool
+    ensures { λ r. ⌜ r ≡ (leb fewestClasses (trailer .classes) && leb (trailer .classes) mostClasses) ⌝ }
+{
     if trailer.classes < FEWEST_CLASSES {
         return false;
     }
-    if MOST_CLASSES < trailer.classes {
-        return false;
-    }
-    true
+    trailer.classes <= MOST_CLASSES
 }
 
 // Class by class: `count` blocks from `start` on, none of which may run past `end`.
-fn class_blocks(file: &[u8], f: Format, end: usize, start: usize, count: usize) -> Blocks
+pub fn class_blocks(file: &[u8], f: Format, end: usize, start: usize, count: usize) -> Blocks
     requires { ⌜ end ≤ length (now file) ⌝ }
     ensures { λ r. ⌜ r ≡ blocksRead f (now (file .entry)) end 0 start count ⌝ }
 {
@@ -147,7 +173,7 @@ fn class_block(file: &[u8], f: Format, end: usize, class: usize, at: usize) -> B
         };
     }
     let delay = u16_at(file, at);
-    if f.delay < delay {
+    if !delay_rule(f, delay) {
         return Blocks::Fault {
             number: 3,
             place: class,
@@ -168,6 +194,13 @@ fn class_block(file: &[u8], f: Format, end: usize, class: usize, at: usize) -> B
     Blocks::End {
         at: at + 4 + 2 * delay,
     }
+}
+
+// M is not above the version's longest delay.
+pub fn delay_rule(f: Format, delay: usize) -> bool
+    ensures { λ r. ⌜ r ≡ leb delay (f .delay) ⌝ }
+{
+    delay <= f.delay
 }
 
 // The bytes from `at` up to `end`, none where `end` is not past `at`.
@@ -192,7 +225,7 @@ fn shares_keep(file: &[u8], at: usize, delay: usize) -> bool
 }
 
 // The sum of the `count` shares from `first` on.
-fn shares_sum(file: &[u8], first: usize, count: usize) -> usize
+pub fn shares_sum(file: &[u8], first: usize, count: usize) -> usize
     requires { ⌜ (first + 2 * count ≤ length (now file)) × (count ≤ 65536) ⌝ }
     ensures { λ r. ⌜ r ≡ sum (sharesFrom (now (file .entry)) first count) ⌝ }
 {
@@ -214,7 +247,7 @@ fn joined(f: Format, trailer: Trailer, at: usize, end: usize) -> bool
 {
     let rows = Section {
         start: trailer.rowstart,
-        end: trailer.rowstart + f.width * trailer.rows,
+        end: rows_end(f, trailer),
     };
     let tables = Section {
         start: trailer.tablestart,
@@ -224,6 +257,14 @@ fn joined(f: Format, trailer: Trailer, at: usize, end: usize) -> bool
         return true;
     }
     in_order(tables, rows, end)
+}
+
+// The byte where the rows end.
+pub fn rows_end(f: Format, trailer: Trailer) -> usize
+    requires { ⌜ (f .width < 65536) × SmallTrailer trailer ⌝ }
+    ensures { λ r. ⌜ r ≡ trailer .rowstart + f .width * trailer .rows ⌝ }
+{
+    trailer.rowstart + f.width * trailer.rows
 }
 
 // The first section starts at 0, the second where that one ends, and the second ends at `end`.

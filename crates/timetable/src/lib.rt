@@ -103,7 +103,7 @@ pub fn trip_rule(row: Row) -> bool
 }
 
 // The class is below K.
-pub fn class_rule(row: Row, g: Ranges) -> bool
+fn class_rule(row: Row, g: Ranges) -> bool
     ensures { λ r. ⌜ r ≡ ltb (row .class) (g .classes) ⌝ }
 {
     row.class < g.classes
