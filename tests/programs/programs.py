@@ -29,6 +29,11 @@ Landing at stop 1 by d1 10:32, take the d1 10:32 (trip 1) to stop 2, due at d1 1
 
 MISSING, FOLDER, LOOP, FAILS = None, "a folder", "a link to itself", "a file whose reading fails, for root too"
 REASONS = {FOLDER: "Is a directory", LOOP: "Too many levels of symbolic links", FAILS: "Input/output error"}
+SHARES_REFUSED = """refused 3
+Class 0, read from byte 48 on: the shares sum to 0, not 4096.
+Correct the class; if it was written otherwise, bytes were lost or added on the way: ask for the file again.
+"""
+NO_TRAILER = "refused 1\nThe last 16 bytes are no trailer of version 1: cut off, lengthened or no sailing file.\n"
 LATE = 120
 SHARES = [3976] + [1] * LATE
 MEAN_TICKS = -(-sum(late * share for late, share in enumerate(SHARES)) // 16)
@@ -99,8 +104,8 @@ def longest():
     return file, query_bytes(SOURCE, TARGET, 0, 0), sheet, words
 
 
-def length_refused(length):
-    return f"refused 1\nThe file length is {length}, but it must be 20 to 27920.\n"
+def length_refused(length, found):
+    return f"refused 1\nThe file sailings has {length} bytes, but a sailing file has 20 to 27920: it is {found}, or no sailing file.\n"
 
 
 def query_refused(reason):
@@ -130,22 +135,22 @@ def cases():
     yield "query a link to itself", W, LOOP, "refused 6\n", no_query
     yield "query a file whose reading fails", W, FAILS, "refused 6\n", no_query
     # one byte ahead moves the sections away from their offsets: class 0 then has a share of 0; one behind moves the trailer
-    yield "a byte ahead of W", b"\0" + W, ASK, "refused 3\n", "refused 3\nClass 0: the shares sum to 0, not 4096.\n"
-    yield "a byte behind W", W + b"\0", ASK, "refused 1\n", None
+    yield "a byte ahead of W", b"\0" + W, ASK, "refused 3\n", SHARES_REFUSED
+    yield "a byte behind W", W + b"\0", ASK, "refused 1\n", NO_TRAILER
     yield "query of 7 bytes", W, ASK[:7], "refused 6\n", query_length(7)
     yield "query of 9 bytes", W, ASK + b"\0", "refused 6\n", query_length(9)
     yield "query of 16 bytes", W, ASK + ASK, "refused 6\n", query_length(16)
     yield "query of 17 bytes", W, ASK + ASK + b"\0", "refused 6\n", query_length("at least 17")
     yield "query of 1,000 bytes", W, ASK * 125, "refused 6\n", query_length("at least 17")
     # a wrong file before a wrong query
-    yield "both too short", W[-19:], ASK[:7], "refused 1\n", length_refused(19)
+    yield "both too short", W[-19:], ASK[:7], "refused 1\n", length_refused(19, "cut off")
     file, ask, sheet, words = longest()
     yield "27,920 bytes, 2,000 rides", file, ask, sheet, words
-    yield "27,921 bytes, the first 27,920 sound", file + b"\0", ask, "refused 1\n", length_refused(27921)
-    yield "27,921 bytes, the last 27,920 sound", b"\0" + file, ask, "refused 1\n", length_refused(27921)
-    yield "28,000 bytes, the first 27,920 sound", file + bytes(80), ask, "refused 1\n", length_refused(28000)
-    yield "28,001 bytes, the first 27,920 sound", file + bytes(81), ask, "refused 1\n", None
-    yield "5,000,000 bytes, the first 27,920 sound", file + bytes(4972080), ask, "refused 1\n", None
+    yield "27,921 bytes, the first 27,920 sound", file + b"\0", ask, "refused 1\n", length_refused(27921, "lengthened")
+    yield "27,921 bytes, the last 27,920 sound", b"\0" + file, ask, "refused 1\n", length_refused(27921, "lengthened")
+    yield "28,000 bytes, the first 27,920 sound", file + bytes(80), ask, "refused 1\n", length_refused(28000, "lengthened")
+    yield "28,001 bytes, the first 27,920 sound", file + bytes(81), ask, "refused 1\n", length_refused("at least 28000", "lengthened")
+    yield "5,000,000 bytes, the first 27,920 sound", file + bytes(4972080), ask, "refused 1\n", length_refused("at least 28000", "lengthened")
     yield "27,920 bytes, a query of 9", file, ask + b"\0", "refused 6\n", None
 
 

@@ -9,69 +9,102 @@ WORDS gets for each pair its place and the words, which are written beside it by
 import struct
 import sys
 
-from sailing_file import ON_TIME, UP_TO_TEN, W_ROWS, query_bytes, rows_bytes, sailing_file, tables_bytes, trailer, w_rows_with
+from sailing_file import ON_TIME, UP_TO_TEN, W_ROWS, query_bytes, rows_bytes, sailing_file, tables_bytes, time, trailer, w_rows_with
 
 W_QUERY = query_bytes()
 SOUND_W = "The file is sound. Stops: 3. Rows: 4. Classes: 2.\n"
-JOIN = "One of the two must start at byte 0, the other where that one ends, and end where the trailer starts.\n"
+AGAIN = "Bytes were lost or added on the way, or the export is wrong: ask for the file again.\n"
+JOIN = "One of the two must start at byte 0, the other where that one ends, and end where the trailer starts.\n" + AGAIN
+CORRECT = "Correct the class; if it was written otherwise, bytes were lost or added on the way: ask for the file again.\n"
+NO_TRAILER = "refused 1\nThe last 16 bytes are no trailer of version 1: cut off, lengthened or no sailing file.\n"
 
 
-def with_row(place, **changed):
-    """W with numbers of one row changed."""
-    return sailing_file(w_rows_with(place, **changed))
+def length_refused(length, found):
+    return f"refused 1\nThe file sailings has {length}, but a sailing file has 20 to 27920: it is {found}, or no sailing file.\n"
+
+
+def trailer_refused(words):
+    return f"refused 1\nThe trailer says {words}.\n"
 
 
 def sizes():
     yield b"", "refused 1\nThe file sailings is empty.\n"
-    yield b"\0" * 19, "refused 1\nThe file length is 19, but it must be 20 to 27920.\n"
-    yield b"\0" * 27921, "refused 1\nThe file length is 27921, but it must be 20 to 27920.\n"
-    yield sailing_file(version=2), "refused 1\nThe version is 2, but only version 1 is known.\n"
-    yield sailing_file(stops=1), "refused 1\nThe number of stops is 1, but it must be 2 to 200.\n"
-    yield sailing_file(stops=201), "refused 1\nThe number of stops is 201, but it must be 2 to 200.\n"
-    yield sailing_file(count=2001), "refused 1\nThe number of rows is 2001, but it must be 0 to 2000.\n"
-    yield sailing_file(classes=0), "refused 1\nThe number of classes is 0, but it must be 1 to 16.\n"
-    yield sailing_file(classes=17), "refused 1\nThe number of classes is 17, but it must be 1 to 16.\n"
+    yield b"\0", length_refused("1 byte", "cut off")
+    yield b"\0" * 19, length_refused("19 bytes", "cut off")
+    yield b"\0" * 27921, length_refused("27921 bytes", "lengthened")
+    yield sailing_file(version=2), NO_TRAILER
+    yield sailing_file()[:-1], NO_TRAILER
+    yield sailing_file(stops=1), trailer_refused("1 stop, but a file has 2 to 200")
+    yield sailing_file(stops=201), trailer_refused("201 stops, but a file has 2 to 200")
+    yield sailing_file(count=2218), trailer_refused("2218 rows, but a file has 0 to 2000: plan fewer days at a time, or leave sailings out")
+    yield sailing_file(classes=0), trailer_refused("0 classes, but a file has 1 to 16")
+    yield sailing_file(classes=17), trailer_refused("17 classes, but a file has 1 to 16: let sailings share a class")
+
+
+def block_refused(place, at, end):
+    return f"refused 2\nClass {place}: its block, from byte {at} on, does not fit before the trailer at byte {end}.\n" + AGAIN
+
+
+def join_refused(rows_end, tables, tables_end, end):
+    return (
+        f"refused 2\nThe rows take bytes 0 up to {rows_end}, the class blocks bytes {tables} up to {tables_end},"
+        f" and the trailer starts at byte {end}.\n" + JOIN
+    )
+
+
+def class_refused(place, at, words):
+    return f"refused 3\nClass {place}, read from byte {at} on: {words}.\n" + CORRECT
 
 
 def classes():
     body = rows_bytes(W_ROWS) + tables_bytes((ON_TIME, UP_TO_TEN))
     # the class blocks of W stand at bytes 48 and 52, and end at 76
-    yield sailing_file(classes=3), "refused 2\nClass 2: its block, from byte 76 on, does not fit before the trailer at byte 76.\n"
-    yield body[:-2] + trailer(3, 4, 2, 0, 48), "refused 2\nClass 1: its block, from byte 52 on, does not fit before the trailer at byte 74.\n"
-    yield body + trailer(3, 4, 2, 0, 2**32 - 1), "refused 2\nClass 0: its block, from byte 4294967295 on, does not fit before the trailer at byte 76.\n"
-    yield body + b"\0\0" + trailer(3, 4, 2, 0, 48), (
-        "refused 2\nThe rows take bytes 0 up to 48, the class blocks bytes 48 up to 76, and the trailer starts at byte 78.\n" + JOIN
+    yield sailing_file(classes=3), block_refused(2, 76, 76)
+    yield body[:-2] + trailer(3, 4, 2, 0, 48), block_refused(1, 52, 74)
+    yield body + trailer(3, 4, 2, 0, 2**32 - 1), block_refused(0, 2**32 - 1, 76)
+    yield body + b"\0\0" + trailer(3, 4, 2, 0, 48), join_refused(48, 48, 76, 78)
+    yield sailing_file(count=3), join_refused(36, 48, 76, 76)
+    yield sailing_file([], [ON_TIME, [0] * 121 + [4096]]), class_refused(1, 4, "the maximum delay is 121 minutes, above 120")
+    # a byte is lost in the rows, so the blocks' bytes 0, 0, 0, 16, 10 are read from the second on: a delay of 0 and a share of 16 + 256 * 10
+    yield body[:20] + body[21:] + trailer(3, 4, 2, 0, 48), class_refused(0, 48, "the shares sum to 2576, not 4096")
+    yield sailing_file([], [[1, 4094]]), class_refused(0, 0, "the shares sum to 4095, not 4096")
+    yield sailing_file([], [ON_TIME, [65535, 4097]]), class_refused(1, 4, "the shares sum to 69632, not 4096")
+    yield sailing_file([], [ON_TIME, ON_TIME, [4096, 0]]), class_refused(2, 8, "the last share, that of the maximum delay 1, is 0")
+
+
+def reads(place, row):
+    board, land, departure, arrival, trip, kind = row
+    return (
+        f"Row {place} reads: from stop {board} to stop {land}, departs {time(departure)}, arrives {time(arrival)},"
+        f" trip {trip}, class {kind}.\n"
     )
-    yield sailing_file(count=3), (
-        "refused 2\nThe rows take bytes 0 up to 36, the class blocks bytes 48 up to 76, and the trailer starts at byte 76.\n" + JOIN
-    )
-    yield sailing_file([], [ON_TIME, [0] * 121 + [4096]]), "refused 3\nClass 1: the maximum delay is 121 minutes, above 120.\n"
-    yield sailing_file([], [[1, 4094]]), "refused 3\nClass 0: the shares sum to 4095, not 4096.\n"
-    yield sailing_file([], [ON_TIME, [65535, 4097]]), "refused 3\nClass 1: the shares sum to 69632, not 4096.\n"
-    yield sailing_file([], [ON_TIME, ON_TIME, [4096, 0]]), "refused 3\nClass 2: the last share, that of 1 minutes, is 0.\n"
+
+
+def row_refused(place, words, **changed):
+    """W with numbers of one row changed, and what is said of it: the words, and that row."""
+    rows = w_rows_with(place, **changed)
+    return sailing_file(rows), f"refused 4\nRow {place}{words}.\n" + reads(place, rows[place])
+
+
+def order_refused(rows, place, words, earlier):
+    return sailing_file(rows), f"refused 5\nRow {place}{words}.\n" + reads(place, rows[place]) + reads(earlier, rows[earlier])
 
 
 def rows():
-    yield with_row(0, board=9), "refused 4\nRow 0: boarding stop 9, but there are 3 stops, numbered from 0.\n"
-    yield with_row(3, land=3), "refused 4\nRow 3: landing stop 3, but there are 3 stops, numbered from 0.\n"
-    yield with_row(1, land=1), "refused 4\nRow 1: boards and lands at the same stop, 1.\n"
-    yield with_row(1, arrival=632), "refused 4\nRow 1 departs at d1 10:32, but arrives at d1 10:32, not later.\n"
-    yield with_row(3, departure=10078, arrival=10080), (
-        "refused 4\nRow 3 arrives at d8 00:00, past the last minute of the week, d7 23:59.\n"
-    )
-    yield with_row(3, departure=10081, arrival=10082), (
-        "refused 4\nRow 3 departs at d8 00:01, past the last minute of the week, d7 23:59.\n"
-    )
-    yield with_row(3, trip=2000), "refused 4\nRow 3: trip 2000, but there are 2000 trips, numbered from 0.\n"
-    yield with_row(3, kind=2), "refused 4\nRow 3: class 2, but there are 2 classes, numbered from 0.\n"
-    yield with_row(2, departure=631), "refused 5\nRow 2 departs at d1 10:31, before row 1 at d1 10:32.\n"
+    yield row_refused(0, ": boarding stop 9, but there are 3 stops, numbered from 0", board=9)
+    yield row_refused(3, ": landing stop 3, but there are 3 stops, numbered from 0", land=3)
+    yield row_refused(1, ": boards and lands at the same stop, 1", land=1)
+    yield row_refused(1, " departs at d1 10:32, but arrives at d1 10:32, not later", arrival=632)
+    yield row_refused(3, " arrives at d8 00:00, past the last minute of the week, d7 23:59", departure=10078, arrival=10080)
+    yield row_refused(3, " departs at d8 00:01, past the last minute of the week, d7 23:59", departure=10081, arrival=10082)
+    yield row_refused(3, ": trip 2000, but there are 2000 trips, numbered from 0", trip=2000)
+    yield row_refused(3, ": class 2, but there are 2 classes, numbered from 0", kind=2)
+    alone = (0, 1, 600, 630, 0, 1)
+    yield sailing_file([alone], [ON_TIME]), "refused 4\nRow 0: class 1, but there is only one, numbered 0.\n" + reads(0, alone)
+    yield order_refused(w_rows_with(2, departure=631), 2, " departs at d1 10:31, before row 1 at d1 10:32", 1)
     hop, other = (0, 1, 600, 610, 7, 0), (1, 2, 605, 606, 8, 0)
-    yield sailing_file([hop, other, (2, 0, 610, 620, 7, 0)]), (
-        "refused 5\nRow 2: trip 7 leaves from stop 2 but last landed at stop 1 (row 0).\n"
-    )
-    yield sailing_file([hop, other, (1, 0, 609, 620, 7, 0)]), (
-        "refused 5\nRow 2: trip 7 leaves at d1 10:09 but last lands at d1 10:10 (row 0).\n"
-    )
+    yield order_refused([hop, other, (2, 0, 610, 620, 7, 0)], 2, ": trip 7 leaves from stop 2 but last landed at stop 1 (row 0)", 0)
+    yield order_refused([hop, other, (1, 0, 609, 620, 7, 0)], 2, ": trip 7 leaves at d1 10:09 but last lands at d1 10:10 (row 0)", 0)
 
 
 def queries():

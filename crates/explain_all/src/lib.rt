@@ -43,7 +43,7 @@ fn explain_as(sailings: &[u8], sailings_end: Ending, f: Format, query: &[u8], qu
             place,
         } => {
             say_refused(refusal);
-            explain_file(sailings, sailings_end, refusal, place);
+            explain_file(sailings, f, sailings_end, refusal, place);
         }
         Checked::Sound { trailer } => {
             say_sound(trailer);
@@ -53,12 +53,14 @@ fn explain_as(sailings: &[u8], sailings_end: Ending, f: Format, query: &[u8], qu
 }
 
 // A file that the check refuses.
-fn explain_file(sailings: &[u8], ending: Ending, refusal: usize, place: usize) {
+fn explain_file(sailings: &[u8], f: Format, ending: Ending, refusal: usize, place: usize)
+    requires { ⌜ Plannable f ⌝ }
+{
     if sailings.len() == 0 {
         say_no_bytes(b"sailings", ending);
         return;
     }
-    print_file_fault(sailings, refusal, place);
+    print_file_fault(sailings, f, refusal, place, goes_on(ending));
 }
 
 // Why there are no bytes of the file of that name.
@@ -115,7 +117,7 @@ fn explain_query(sailings: &[u8], f: Format, trailer: Trailer, query: &[u8], end
             bound: _,
         } => {
             say_plan(number(count), expected, latest);
-            print_plan(sailings, trailer, &rides, number(count));
+            print_plan(sailings, f, trailer, &rides, number(count));
         }
     }
 }

@@ -1,3 +1,2 @@
--- What is told of a broken file.
-pub mod OwnFault
+-- What is read of a broken file.
 pub mod Broken

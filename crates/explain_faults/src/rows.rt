@@ -1,96 +1,74 @@
 // Refusals 4 and 5: a row about itself alone, and behind the rows before it.
 ghost use Prim.Native.Nat.{_<_};
+ghost use Rattle.file_layout.specs.Format.{Readable};
 ghost use Rattle.file_layout.specs.Small.{SmallRow};
-ghost use Rattle.explain_faults.specs.OwnFault.{Tells};
+use crate::broken::last_in;
 use crate::broken::row_in;
 use explain_words::say;
 use explain_words::say_number;
 use explain_words::say_time;
+use file_check::Found;
+use file_layout::Format;
 use file_layout::Trailer;
-use file_layout::VERSION_ONE;
 use timetable::MOST_TRIPS;
 use timetable::Ranges;
 use timetable::Row;
-
-// A rule of a row about itself alone that is broken, or that all are kept.
-enum OwnFault {
-    BoardTooHigh,
-    LandTooHigh,
-    SameStop,
-    NotOnward,
-    DepartsPastWeek,
-    ArrivesPastWeek,
-    TripTooHigh,
-    ClassTooHigh,
-    Kept,
-}
-
-// The first of those rules that the row breaks.
-fn own_fault(row: Row, g: Ranges) -> OwnFault
-    ensures { λ r. ⌜ Tells g row r ⌝ }
-{
-    if row.board >= g.stops {
-        return OwnFault::BoardTooHigh;
-    }
-    if row.land >= g.stops {
-        return OwnFault::LandTooHigh;
-    }
-    if row.board == row.land {
-        return OwnFault::SameStop;
-    }
-    if row.departure >= row.arrival {
-        return OwnFault::NotOnward;
-    }
-    if row.departure > g.lastminute {
-        return OwnFault::DepartsPastWeek;
-    }
-    if row.arrival > g.lastminute {
-        return OwnFault::ArrivesPastWeek;
-    }
-    if row.trip >= MOST_TRIPS {
-        return OwnFault::TripTooHigh;
-    }
-    if row.class >= g.classes {
-        return OwnFault::ClassTooHigh;
-    }
-    OwnFault::Kept
-}
+use timetable::departure_rule;
+use timetable::lands_there;
+use timetable::minute_rule;
+use timetable::onward;
+use timetable::stop_rule;
+use timetable::stops_differ;
+use timetable::trip_rule;
 
 // 4: the first rule about itself alone that the row breaks.
-pub fn print_own_fault(file: &[u8], trailer: Trailer, place: usize) {
-    let row = row_in(file, trailer.rowstart, place);
+pub fn print_own_fault(file: &[u8], f: Format, trailer: Trailer, place: usize)
+    requires { ⌜ Readable f × (f .lastminute < 65536) ⌝ }
+{
+    let row = row_in(file, f, trailer.rowstart, place);
     let ranges = Ranges {
         stops: trailer.stops,
         classes: trailer.classes,
-        lastminute: VERSION_ONE.lastminute,
+        lastminute: f.lastminute,
     };
     say_number(b"Row ", place);
-    match own_fault(row, ranges) {
-        OwnFault::BoardTooHigh => say_too_high(
-            b": boarding stop ",
-            row.board,
-            trailer.stops,
-            b" stops",
-        ),
-        OwnFault::LandTooHigh => say_too_high(
-            b": landing stop ",
-            row.land,
-            trailer.stops,
-            b" stops",
-        ),
-        OwnFault::SameStop => say_same_stop(row),
-        OwnFault::NotOnward => say_not_onward(row),
-        OwnFault::DepartsPastWeek => say_past_week(b" departs at ", row.departure),
-        OwnFault::ArrivesPastWeek => say_past_week(b" arrives at ", row.arrival),
-        OwnFault::TripTooHigh => say_too_high(b": trip ", row.trip, MOST_TRIPS, b" trips"),
-        OwnFault::ClassTooHigh => say_too_high(
-            b": class ",
-            row.class,
-            trailer.classes,
-            b" classes",
-        ),
-        OwnFault::Kept => say(b" keeps the rules about itself alone.\n"),
+    say_own_fault(row, ranges);
+    print_row(place, row);
+}
+
+// Where the rules of stops, minutes and trip are kept, that of the class is broken.
+fn say_own_fault(row: Row, g: Ranges)
+    requires { ⌜ SmallRow row × (g .lastminute < 65536) ⌝ }
+{
+    if !stop_rule(row.board, g) {
+        say_too_high(b": boarding stop ", row.board, g.stops, b" stops");
+    } else if !stop_rule(row.land, g) {
+        say_too_high(b": landing stop ", row.land, g.stops, b" stops");
+    } else if !stops_differ(row) {
+        say_same_stop(row);
+    } else if !onward(row) {
+        say_not_onward(row);
+    } else if !minute_rule(row.departure, g) {
+        say_past_last(b" departs at ", row.departure, g.lastminute);
+    } else if !minute_rule(row.arrival, g) {
+        say_past_last(b" arrives at ", row.arrival, g.lastminute);
+    } else if !trip_rule(row) {
+        say_too_high(b": trip ", row.trip, MOST_TRIPS, b" trips");
+    } else {
+        say_too_high(b": class ", row.class, g.classes, b" classes");
     }
+}
+
+// Numbers count from 0, so they stay below how many there are.
+fn say_too_high(name: &[u8], found: usize, count: usize, things: &[u8]) {
+    say_number(name, found);
+    if count == 1 {
+        say(b", but there is only one, numbered 0.\n");
+        return;
+    }
+    say_number(b", but there are ", count);
+    say(things);
+    say(b", numbered from 0.\n");
 }
 
 fn say_same_stop(row: Row) {
@@ -106,71 +84,80 @@ fn say_not_onward(row: Row)
     say(b", not later.\n");
 }
 
-// Numbers count from 0, so they stay below how many there are.
-fn say_too_high(name: &[u8], found: usize, count: usize, things: &[u8]) {
-    say_number(name, found);
-    say_number(b", but there are ", count);
-    say(things);
-    say(b", numbered from 0.\n");
-}
-
-fn say_past_week(words: &[u8], minute: usize)
-    requires { ⌜ minute < 65536 ⌝ }
+fn say_past_last(words: &[u8], minute: usize, last: usize)
+    requires { ⌜ (minute < 65536) × (last < 65536) ⌝ }
 {
     say_time(words, minute);
-    say_time(
-        b", past the last minute of the week, ",
-        VERSION_ONE.lastminute,
-    );
+    say_time(b", past the last minute of the week, ", last);
+    say(b".\n");
+}
+
+// The row's numbers, on a line of their own.
+fn print_row(place: usize, row: Row)
+    requires { ⌜ SmallRow row ⌝ }
+{
+    say_number(b"Row ", place);
+    say_number(b" reads: from stop ", row.board);
+    say_number(b" to stop ", row.land);
+    say_time(b", departs ", row.departure);
+    say_time(b", arrives ", row.arrival);
+    say_number(b", trip ", row.trip);
+    say_number(b", class ", row.class);
     say(b".\n");
 }
 
 // 5: the row departs before the one ahead of it, or its trip breaks off.
-pub fn print_order_fault(file: &[u8], trailer: Trailer, place: usize) {
-    let row = row_in(file, trailer.rowstart, place);
-    say_number(b"Row ", place);
+pub fn print_order_fault(file: &[u8], f: Format, trailer: Trailer, place: usize)
+    requires { ⌜ Readable f ⌝ }
+{
+    let row = row_in(file, f, trailer.rowstart, place);
     if 0 < place {
-        let ahead = row_in(file, trailer.rowstart, place - 1);
-        if row.departure < ahead.departure {
-            say_time(b" departs at ", row.departure);
-            say_number(b", before row ", place - 1);
-            say_time(b" at ", ahead.departure);
-            say(b".\n");
+        let ahead = row_in(file, f, trailer.rowstart, place - 1);
+        if !departure_rule(ahead.departure, row) {
+            print_departure_fault(place, row, ahead);
             return;
         }
     }
-    print_trip_fault(file, trailer.rowstart, place, row);
+    print_trip_fault(file, f, trailer.rowstart, place, row);
+}
+
+// The row departs before `ahead`, the one ahead of it.
+fn print_departure_fault(place: usize, row: Row, ahead: Row)
+    requires { ⌜ (0 < place) × SmallRow row × SmallRow ahead ⌝ }
+{
+    say_number(b"Row ", place);
+    say_time(b" departs at ", row.departure);
+    say_number(b", before row ", place - 1);
+    say_time(b" at ", ahead.departure);
+    say(b".\n");
+    print_row(place, row);
+    print_row(place - 1, ahead);
 }
 
 // The trip leaves from another stop than where it last landed, or before it lands.
-fn print_trip_fault(file: &[u8], start: usize, place: usize, row: Row)
-    requires { ⌜ SmallRow row ⌝ }
+fn print_trip_fault(file: &[u8], f: Format, start: usize, place: usize, row: Row)
+    requires { ⌜ Readable f × SmallRow row ⌝ }
 {
-    let last = last_of_trip(file, start, place, row.trip);
-    let earlier = row_in(file, start, last);
+    let found = last_in(file, f, start, place, row.trip);
+    let Found::At {
+        row: _,
+        place: last,
+    } = found
+    else {
+        return;
+    };
+    let earlier = row_in(file, f, start, last);
+    say_number(b"Row ", place);
     say_number(b": trip ", row.trip);
-    if earlier.land != row.board {
-        say_number(b" leaves from stop ", row.board);
-        say_number(b" but last landed at stop ", earlier.land);
-    } else if row.departure < earlier.arrival {
+    if lands_there(earlier, row) {
         say_time(b" leaves at ", row.departure);
         say_time(b" but last lands at ", earlier.arrival);
     } else {
-        say(b" keeps its rule");
+        say_number(b" leaves from stop ", row.board);
+        say_number(b" but last landed at stop ", earlier.land);
     }
     say_number(b" (row ", last);
     say(b").\n");
-}
-
-// The nearest row of `trip` ahead of row `place`, found by looking back; 0 where there is none.
-fn last_of_trip(file: &[u8], start: usize, place: usize, trip: usize) -> usize {
-    let mut left = place;
-    while 0 < left {
-        left -= 1;
-        let row = row_in(file, start, left);
-        if row.trip == trip {
-            return left;
-        }
-    }
-    0
+    print_row(place, row);
+    print_row(last, earlier);
 }

@@ -1,9 +1,11 @@
 // A plan in words that a clerk can follow.
+ghost use Rattle.file_layout.specs.Format.{Readable};
 ghost use Rattle.file_layout.specs.Small.{SmallRow};
 use explain_faults::row_in;
 use explain_words::say;
 use explain_words::say_number;
 use explain_words::say_time;
+use file_layout::Format;
 use file_layout::Trailer;
 use numbers::number;
 use plan_slice::board_of;
@@ -17,24 +19,27 @@ struct Ride {
 }
 
 // The first ride of a plan, then for each stop what to take there.
-pub fn print_plan(file: &[u8], trailer: Trailer, plan: &[u32], rides: usize) {
-    let first = ride_in(file, trailer.rowstart, plan, 0);
+pub fn print_plan(file: &[u8], f: Format, trailer: Trailer, plan: &[u32], rides: usize)
+    requires { ⌜ Readable f ⌝ }
+{
+    let first = ride_in(file, f, trailer.rowstart, plan, 0);
     say_number(b"From stop ", first.board.board);
     print_ride(first);
     say(b".\n");
-    print_landings(file, trailer.rowstart, plan, rides, trailer.stops);
+    print_landings(file, f, trailer.rowstart, plan, rides, trailer.stops);
 }
 
 // Ride number `place` of the plan.
-fn ride_in(file: &[u8], start: usize, plan: &[u32], place: usize) -> Ride
+fn ride_in(file: &[u8], f: Format, start: usize, plan: &[u32], place: usize) -> Ride
+    requires { ⌜ Readable f ⌝ }
     ensures { λ r. ⌜ SmallRow (r .board) × SmallRow (r .leave) ⌝ }
 {
     if place < plan.len() / 3 {
-        let board = row_in(file, start, number(board_of(plan, place)));
-        let leave = row_in(file, start, number(leave_of(plan, place)));
+        let board = row_in(file, f, start, number(board_of(plan, place)));
+        let leave = row_in(file, f, start, number(leave_of(plan, place)));
         return Ride { board, leave };
     }
-    let none = row_in(file, start, 0);
+    let none = row_in(file, f, start, 0);
     Ride {
         board: none,
         leave: none,
@@ -42,20 +47,24 @@ fn ride_in(file: &[u8], start: usize, plan: &[u32], place: usize) -> Ride
 }
 
 // Stop by stop, the rides that a passenger who lands there can take.
-fn print_landings(file: &[u8], start: usize, plan: &[u32], rides: usize, stops: usize) {
+fn print_landings(file: &[u8], f: Format, start: usize, plan: &[u32], rides: usize, stops: usize)
+    requires { ⌜ Readable f ⌝ }
+{
     let mut stop = 0;
     while stop < stops {
-        print_landing(file, start, plan, rides, stop);
+        print_landing(file, f, start, plan, rides, stop);
         stop += 1;
     }
 }
 
 // The rides behind the first that board at `stop`, each for those who land by its minute.
-fn print_landing(file: &[u8], start: usize, plan: &[u32], rides: usize, stop: usize) {
+fn print_landing(file: &[u8], f: Format, start: usize, plan: &[u32], rides: usize, stop: usize)
+    requires { ⌜ Readable f ⌝ }
+{
     let mut found = false;
     let mut place = 1;
     while place < rides {
-        let ride = ride_in(file, start, plan, place);
+        let ride = ride_in(file, f, start, plan, place);
         place += 1;
         if ride.board.board == stop {
             print_choice(stop, found, ride);
