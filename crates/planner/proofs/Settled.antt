@@ -15,6 +15,8 @@ use Rattle.planner.proofs.plan_checked.Kinds as checked-kinds
 use Rattle.planner.proofs.plan_checked.Reads as checked-reads
 use Rattle.planner.proofs.earliest_safe_arrival.Kinds as arrival-kinds
 use Rattle.planner.proofs.earliest_safe_arrival.Reads as arrival-reads
+use Rattle.planner.proofs.earliest_checked.Kinds as checked-arrival-kinds
+use Rattle.planner.proofs.earliest_checked.Reads as checked-arrival-reads
 
 pub admit-settled : SettlesResult 1 admit-kinds.ps admit-kinds.r admit-reads.Post
 admit-settled κs arguments one other ending another first second = first ∙ sym second
@@ -47,4 +49,12 @@ pub earliest-safe-arrival-settled :
     → arrival-reads.Post κs arguments other another
     → (one ≡ other) × (now (ending .1 .1 .1 .1 .0) ≡ now (another .1 .1 .1 .1 .0))
 earliest-safe-arrival-settled κs arguments one other ending another first second =
+    (first .0 ∙ sym (second .0), first .1 ∙ sym (second .1))
+
+pub earliest-checked-settled :
+    (κs : Lfts 2) (arguments : Dens κs checked-arrival-kinds.ps) (one other : resT checked-arrival-kinds.r κs .Denot)
+    (ending another : AtExit (endedOf 2 checked-arrival-kinds.ps checked-arrival-kinds.r) κs)
+    → checked-arrival-reads.Post κs arguments one ending → checked-arrival-reads.Post κs arguments other another
+    → (one ≡ other) × (now (ending .1 .1 .1 .1 .0) ≡ now (another .1 .1 .1 .1 .0))
+earliest-checked-settled κs arguments one other ending another first second =
     (first .0 ∙ sym (second .0), first .1 ∙ sym (second .1))

@@ -222,6 +222,25 @@ pub fn earliest_safe_arrival(
     }
 }
 
+// The earliest safe arrival in a file of a version that the check has answered as sound, or a refusal from 6 on.
+pub fn earliest_checked(
+    file: &[u8],
+    f: Format,
+    trailer: Trailer,
+    q: Query,
+    work: &mut [u32],
+) -> Earliest
+    requires { ⌜ Plannable f × (checkedAs f (now file) ≡ Sound trailer) ⌝ }
+    ensures { λ r. ⌜ (r ≡ earliestOutcome f (now (file .entry)) q (now (work .entry)) .answer)
+        × (now (work .exit) ≡ earliestOutcome f (now (file .entry)) q (now (work .entry)) .work) ⌝ }
+{
+    let number = admit_checked(f, trailer, q, work_needs(work.len()), NO_ROOM);
+    if number == 0 {
+        return earliest_admitted(file, f, trailer, q, work);
+    }
+    Earliest::Refused { number, place: 0 }
+}
+
 // E or 8 of an admitted call; then work is cleared.
 fn earliest_admitted(
     file: &[u8],
