@@ -148,7 +148,7 @@ refused-number f file q a b number place e =
     number-of fine true true placed e = absurd (fault-not-fine (sym e))
 
 -- what asks for no room always has enough
-enough-none : (h : Trailer) → enough noRoom h ≡ true
+pub enough-none : (h : Trailer) → enough noRoom h ≡ true
 unfolding enough
 enough-none h = le-leb (needs noRoom h) 0 (omega arith)
 

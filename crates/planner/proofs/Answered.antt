@@ -5,10 +5,14 @@ use mathlib.Core.List.{List, _++_}
 use mathlib.Core.Option.{Option, none, some}
 use mathlib.Core.Path.{_≡_, refl, sym, ap, _∙_}
 use lib.ListN.{length, drop, replicate}
-use Rattle.timetable.specs.Verdict.{fine, fault, byVerdict}
+use Rattle.timetable.specs.Verdict.{Verdict, fine, fault, byVerdict}
+use Rattle.file_layout.specs.declared.Checked.the-variants.{Sound}
 use Rattle.file_layout.specs.declared.Format.{Format}
+use Rattle.file_layout.specs.declared.Trailer.{Trailer}
+use Rattle.file_layout.specs.Check.{checkedAs}
 use Rattle.file_layout.specs.Decode.{decode}
 use Rattle.query.specs.declared.Query.{Query}
+use Rattle.query.specs.Query.{QueryFits}
 use Rattle.plans.specs.Plan.{planned, earliest}
 use Rattle.plan_cells.specs.Cells.{filled}
 use Rattle.plan_cells.proofs.Outside.{outside-drop}
@@ -31,6 +35,7 @@ use Rattle.planner.specs.Outcome.{
   earliestAnswered,
   earliestOutcome,
 }
+use Rattle.planner.proofs.Admitting.{behind-check, call-gives, refused-number}
 
 pub cleared-behind : (room : ℕ) (work after : List ℕ) → KeptBehind room work after → filled after 0 room 0 ≡ cleared room work
 unfolding cleared
@@ -74,6 +79,26 @@ module _ (f : Format) (file : List ℕ) (q : Query) (work plan : List ℕ) where
         answers .slice-left ∙ sym (ap (λ (x : PlanOutcome). x .plan) o),
       )
 
+-- a plan call that answers 8 was admitted, so its query keeps its rule
+module _ (f : Format) (file : List ℕ) (q : Query) (work plan : List ℕ) where
+  eight-admitted : (place : ℕ) → NoPlan 8 place ≡ planOutcome f file q work plan .answer
+      → admission f file q (workRoom (length work)) (planRoom (length plan)) ≡ fine
+  eight-admitted place told = by (admission f file q (workRoom (length work)) (planRoom (length plan))) refl
+    where
+      by : (v : Verdict) → admission f file q (workRoom (length work)) (planRoom (length plan)) ≡ v → v ≡ fine
+      by fine is = refl
+      by (fault number at) is =
+          let same : NoPlan 8 place ≡ NoPlan number at = told ∙ ap (λ (x : PlanOutcome). x .answer) (refused-outcome f file q work plan number at is) in
+          let eight : 8 ≡ number = cc in
+          absurd (let z : ⊥ = omega (arith, eight, refused-number f file q _ _ number at is .1) in z)
+
+  pub eight-fits : (h : Trailer) → checkedAs f file ≡ Sound h → (place : ℕ) → NoPlan 8 place ≡ planOutcome f file q work plan .answer
+      → QueryFits (h .stops) (f .lastminute) q
+  eight-fits h sound place told =
+      let work-room = workRoom (length work) in
+      let plan-room = planRoom (length plan) in
+      call-gives f h q work-room plan-room (sym (behind-check f file q work-room plan-room h sound) ∙ eight-admitted place told) .0
+
 -- an answer and the slice that it leaves, by the outcome that they are
 as-outcome : {one other : EarliestOutcome} {work′ : List ℕ} → one ≡ other → work′ ≡ one .work → (one .answer ≡ other .answer) × (work′ ≡ other .work)
 as-outcome same clear = (ap (λ (x : EarliestOutcome). x .answer) same, clear ∙ ap (λ (x : EarliestOutcome). x .work) same)
@@ -112,3 +137,27 @@ module _ (f : Format) (file : List ℕ) (q : Query) (work : List ℕ) where
     pub arrival-as : {work′ : List ℕ} (minute : ℕ) → earliest (decode f file) q ≡ some minute → work′ ≡ workAfter f file work
         → (Arrival minute ≡ earliestOutcome f file q work .answer) × (work′ ≡ earliestOutcome f file q work .work)
     arrival-as minute found clear = as-outcome (sym (arrival-outcome minute found)) clear
+
+-- a refusal is no arrival, and two equal arrivals are one minute
+refused-not-arrival : {number place minute : ℕ} → NoArrival number place ≡ Arrival minute → ⊥
+refused-not-arrival e = let z : _≡_ {A = ℕ} 0 1 = cc in let y : ⊥ = omega arith in y
+
+same-arrival : {one other : ℕ} → Arrival one ≡ Arrival other → one ≡ other
+same-arrival e = cc
+
+-- what the answer of an admitted call tells
+pub arrival-is : (o : Option ℕ) (work : List ℕ) (e : ℕ) → earliestAnswered o work .answer ≡ Arrival e → o ≡ some e
+unfolding earliestAnswered
+arrival-is none work e h = absurd (refused-not-arrival h)
+arrival-is (some x) work e h = ap some (same-arrival h)
+
+pub refused-is : (o : Option ℕ) (work : List ℕ) (number place : ℕ) → earliestAnswered o work .answer ≡ NoArrival number place → o ≡ none
+unfolding earliestAnswered
+refused-is none work number place h = refl
+refused-is (some x) work number place h = absurd (refused-not-arrival (sym h))
+
+-- and the slice that it leaves, whatever the answer
+pub work-is : (o : Option ℕ) (work : List ℕ) → earliestAnswered o work .work ≡ work
+unfolding earliestAnswered
+work-is none work = refl
+work-is (some x) work = refl

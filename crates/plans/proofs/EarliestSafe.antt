@@ -14,12 +14,13 @@ use Rattle.laws.proofs.Tests.{ifb, T-true, true-T, cond-true, cond-false}
 use Rattle.timetable.specs.Timetable.{Timetable, rowOf}
 use Rattle.plans.specs.Sound.{Timely}
 use Rattle.query.specs.declared.Query.{Query}
+use Rattle.query.specs.Query.{queryOf}
 use Rattle.plans.specs.Rides.{Ride, IsRide, landsBy, boards}
 use Rattle.plans.specs.Journeys.{Begins, Onward, leaves, changes, Journey, IsEarliest}
 use Rattle.plans.specs.Worth.{Valued, firstOpen}
 use Rattle.plans.specs.Chosen.{Aim, inMinutes, offInMinutes, worthOf, rowRide, boardedAt}
 use Rattle.plans.specs.Plan.{earliest}
-use Rattle.plans.proofs.Open.{boards-stop, boards-minute, found-member, found-boards}
+use Rattle.plans.proofs.Open.{boards-stop, boards-minute, boards-earlier, found-member, found-boards}
 use Rattle.plans.proofs.AtMost.{AtMost, raised, found-at-most, worth-at-most}
 use Rattle.plans.specs.FromRow.{chosenFrom, bestAt, offAt}
 use Rattle.plans.proofs.FromRow.{chosen-all}
@@ -184,3 +185,13 @@ journey-after t timely q end j =
     let a : q .minute ≤ j .first .departs = boards-minute (j .first) (q .source) (q .minute) (T-true (j .in-time)) in
     let b : j .first .departs < end = onward-after t (q .target) timely (j .onward) in
     omega arith
+
+-- who can start later can start earlier: a later start never helps
+pub journey-earlier : (t : Timetable) (source target code : ℕ) {minute later end : ℕ} → minute ≤ later
+    → Journey t (queryOf source target later code) end → Journey t (queryOf source target minute code) end
+journey-earlier t source target code {minute} {later} before j =
+    record {
+      first = j .first;
+      in-time = true-T (boards-earlier (j .first) source later minute before (T-true (j .in-time)));
+      onward = j .onward;
+    }

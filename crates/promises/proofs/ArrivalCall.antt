@@ -1,6 +1,5 @@
 -- What the earliest safe arrival call returns, for every list of bytes, stops, minute and slice, over its contract. Assumes nothing.
 use Prim.Native.Nat.{ℕ, _+_, _*_, _≤_}
-use native.Mathlib.Omega.{arith}
 use mathlib.Core.List.{List, []}
 use mathlib.Core.Logic.{_↔_}
 use mathlib.Core.Option.{Option, none, some}
@@ -24,33 +23,11 @@ use Rattle.planner.specs.declared.Earliest.the-variants.{Arrival, Refused as No
 use Rattle.planner.specs.Admission.{workRoom, noRoom, admission}
 use Rattle.planner.specs.Outcome.{workAfter, EarliestOutcome, earliestAnswered, earliestAnswer}
 use Rattle.planner.proofs.Admitting.{refused-number}
-use Rattle.planner.proofs.Answered.{refused-earliest, answered-earliest}
+use Rattle.planner.proofs.Answered.{refused-earliest, answered-earliest, arrival-is, refused-is, work-is}
 use Rattle.planner.proofs.ByNumber.{arrival-by-number}
 use Rattle.planner.proofs.earliest_safe_arrival.Kinds as kinds
 use Rattle.planner.proofs.earliest_safe_arrival.Reads as reads
 use Rattle.promises.proofs.Admitted.{is-timely, query-fits, work-cleared}
-
--- a refusal is no arrival, and two equal arrivals are one minute
-refused-not-arrival : {number place minute : ℕ} → NoArrival number place ≡ Arrival minute → ⊥
-refused-not-arrival e = let z : _≡_ {A = ℕ} 0 1 = cc in let y : ⊥ = omega arith in y
-
-same-arrival : {one other : ℕ} → Arrival one ≡ Arrival other → one ≡ other
-same-arrival e = cc
-
-arrival-is : (o : Option ℕ) (work : List ℕ) (e : ℕ) → earliestAnswered o work .answer ≡ Arrival e → o ≡ some e
-unfolding earliestAnswered
-arrival-is none work e h = absurd (refused-not-arrival h)
-arrival-is (some x) work e h = ap some (same-arrival h)
-
-eight-is : (o : Option ℕ) (work : List ℕ) → earliestAnswered o work .answer ≡ NoArrival 8 0 → o ≡ none
-unfolding earliestAnswered
-eight-is none work h = refl
-eight-is (some x) work h = absurd (refused-not-arrival (sym h))
-
-work-is : (o : Option ℕ) (work : List ℕ) → earliestAnswered o work .work ≡ work
-unfolding earliestAnswered
-work-is none work = refl
-work-is (some x) work = refl
 
 -- whatever answer and slice the contract permits
 module _ (κs : Lfts 2) (arguments : Dens κs kinds.ps) (answer : resT kinds.r κs .Denot) (ending : AtExit (endedOf 2 kinds.ps kinds.r) κs)
@@ -116,7 +93,7 @@ module _ (κs : Lfts 2) (arguments : Dens κs kinds.ps) (answer : resT kinds.r �
     eight-exactly = (
       λ told.
           demand2.no-earliest-safe t timely q (query-fits file q (workRoom (length work)) noRoom admitted .apart)
-          (eight-is (earliest t q) after (sym told-for ∙ told)),
+          (refused-is (earliest t q) after 8 0 (sym told-for ∙ told)),
       λ gone. told-for ∙ ap (λ (o : Option ℕ). earliestAnswered o after .answer) (nothing (earliest t q) refl gone),
     )
       where
