@@ -12,11 +12,15 @@ import sys
 from sailing_file import ON_TIME, UP_TO_TEN, W_ROWS, query_bytes, rows_bytes, sailing_file, tables_bytes, time, trailer, w_rows_with
 
 W_QUERY = query_bytes()
+# all on time, the last on the next day
+NIGHT = [(0, 1, 1380, 1430, 4, 0), (1, 2, 1430, 1445, 5, 0), (2, 3, 1450, 1500, 6, 0)]
 SOUND_W = "The file is sound. Stops: 3. Rows: 4. Classes: 2.\n"
 AGAIN = "Bytes were lost or added on the way, or the export is wrong: ask for the file again.\n"
 JOIN = "One of the two must start at byte 0, the other where that one ends, and end where the trailer starts.\n" + AGAIN
 CORRECT = "Correct the class; if it was written otherwise, bytes were lost or added on the way: ask for the file again.\n"
 NO_TRAILER = "refused 1\nThe last 16 bytes are no trailer of version 1: cut off, lengthened or no sailing file.\n"
+EARLIER = "A later start cannot help. An earlier one, another target, next week's file or a relief sailing can.\n"
+NO_MINUTE = "Another minute cannot help. Another target, next week's file or a relief sailing can.\n"
 
 
 def length_refused(length, found):
@@ -117,7 +121,72 @@ def queries():
     yield query_bytes(minute=10080), "refused 6\nThe query's minute is 10080, past the last minute of the week, 10079.\n"
     yield query_bytes(code=3), "refused 6\nThe query's bound code is 3, but it must be 0 or 4 to 16.\n"
     yield query_bytes(code=17), "refused 6\nThe query's bound code is 17, but it must be 0 or 4 to 16.\n"
-    yield query_bytes(minute=601), "refused 8\nThere is no safe journey from stop 0 to stop 2 from d1 10:01 on.\n"
+
+
+def no_journeys():
+    """8: from where, and until when, there is a safe journey."""
+    # a minute behind the one boat from the source
+    yield sailing_file(), query_bytes(minute=601), SOUND_W + (
+        "refused 8\n"
+        "There is no safe journey from stop 0 to stop 2 from d1 10:01 on.\n"
+        "From stop 0 there is one until d1 10:00.\n"
+        "From other stops: 1 until d1 10:50.\n" + EARLIER
+    )
+    # the boat from the source lands by 640, a minute behind the last one onward
+    yield sailing_file(w_rows_with(3, departure=639)), W_QUERY, SOUND_W + (
+        "refused 8\n"
+        "There is no safe journey from stop 0 to stop 2 from d1 09:50 on.\n"
+        "From stop 0 there is none in this file, at any minute.\n"
+        "From other stops: 1 until d1 10:39.\n" + NO_MINUTE
+    )
+    yield sailing_file([]), W_QUERY, "The file is sound. Stops: 3. Rows: 0. Classes: 2.\n" + (
+        "refused 8\n"
+        "There is no safe journey from stop 0 to stop 2 from d1 09:50 on.\n"
+        "From stop 0 there is none in this file, at any minute.\n"
+        "No other stop has one either.\n" + NO_MINUTE
+    )
+    # no boat leaves the source: the target is reached from another stop only
+    yield sailing_file(), query_bytes(source=2, target=1), SOUND_W + (
+        "refused 8\n"
+        "There is no safe journey from stop 2 to stop 1 from d1 09:50 on.\n"
+        "From stop 2 there is none in this file, at any minute.\n"
+        "From other stops: 0 until d1 10:00.\n" + NO_MINUTE
+    )
+    # the source's own boat at the very minute, and a minute later
+    yield sailing_file(), query_bytes(1, 2, 650), SOUND_W + (
+        "Rides in the plan: 1. Expected arrival: d1 11:30. Latest: d1 11:30.\n"
+        "From stop 1 take the d1 10:50 (trip 3) to stop 2, due at d1 11:30.\n"
+    )
+    yield sailing_file(), query_bytes(1, 2, 651), SOUND_W + (
+        "refused 8\n"
+        "There is no safe journey from stop 1 to stop 2 from d1 10:51 on.\n"
+        "From stop 1 there is one until d1 10:50.\n"
+        "From other stops: 0 until d1 10:00.\n" + EARLIER
+    )
+    # one boat alone: no other stop has one
+    yield sailing_file([(0, 1, 0, 1, 0, 0)], [ON_TIME], stops=2), query_bytes(0, 1, 1), (
+        "The file is sound. Stops: 2. Rows: 1. Classes: 1.\n"
+        "refused 8\n"
+        "There is no safe journey from stop 0 to stop 1 from d1 00:01 on.\n"
+        "From stop 0 there is one until d1 00:00.\n"
+        "No other stop has one.\n" + EARLIER
+    )
+    # overnight, asked at the last minute of the week
+    yield sailing_file(NIGHT, [ON_TIME], stops=4), query_bytes(0, 3, 10079, 4), (
+        "The file is sound. Stops: 4. Rows: 3. Classes: 1.\n"
+        "refused 8\n"
+        "There is no safe journey from stop 0 to stop 3 from d7 23:59 on.\n"
+        "From stop 0 there is one until d1 23:00.\n"
+        "From other stops: 1 until d1 23:50; 2 until d2 00:10.\n" + EARLIER
+    )
+    # the latest boat that a file can hold
+    yield sailing_file([(0, 1, 10078, 10079, 0, 0)], [ON_TIME], stops=3), query_bytes(2, 1, 0), (
+        "The file is sound. Stops: 3. Rows: 1. Classes: 1.\n"
+        "refused 8\n"
+        "There is no safe journey from stop 2 to stop 1 from d1 00:00 on.\n"
+        "From stop 2 there is none in this file, at any minute.\n"
+        "From other stops: 0 until d7 23:58.\n" + NO_MINUTE
+    )
 
 
 def plans():
@@ -133,9 +202,8 @@ def plans():
         "Rides in the plan: 1. Expected arrival: d1 11:04. Latest: d1 11:10.\n"
         "From stop 0 take the d1 10:00 (trip 0) to stop 2, due at d1 11:00.\n"
     )
-    # two landings one behind the other, the second on the next day; all on time
-    night = [(0, 1, 1380, 1430, 4, 0), (1, 2, 1430, 1445, 5, 0), (2, 3, 1450, 1500, 6, 0)]
-    yield sailing_file(night, [ON_TIME], stops=4), query_bytes(0, 3, 0, 4), (
+    # two landings one behind the other, the second on the next day
+    yield sailing_file(NIGHT, [ON_TIME], stops=4), query_bytes(0, 3, 0, 4), (
         "The file is sound. Stops: 4. Rows: 3. Classes: 1.\n"
         "Rides in the plan: 3. Expected arrival: d2 01:00. Latest: d2 01:00.\n"
         "From stop 0 take the d1 23:00 (trip 4) to stop 1, due at d1 23:50.\n"
@@ -150,6 +218,7 @@ def cases():
             yield sailings, W_QUERY, words
     for query, words in queries():
         yield sailing_file(), query, SOUND_W + words
+    yield from no_journeys()
     yield from plans()
 
 

@@ -2,11 +2,13 @@
 ghost use mathlib.Core.Path.{_≡_};
 ghost use Rattle.file_layout.specs.declared.Checked.the-variants.{Sound};
 ghost use Rattle.file_layout.specs.Check.{checkedAs};
+ghost use Rattle.query.specs.Query.{QueryFits};
 ghost use Rattle.plan_rows.specs.Sections.{Plannable};
 use explain_faults::print_file_fault;
 use explain_plan::print_no_journey;
 use explain_plan::print_plan;
 use explain_plan::print_query_fault;
+use explain_starts::print_starts;
 use explain_words::say;
 use explain_words::say_expected;
 use explain_words::say_number;
@@ -102,14 +104,7 @@ fn explain_query(sailings: &[u8], f: Format, trailer: Trailer, query: &[u8], end
         Planned::Refused {
             number: refusal,
             place: _,
-        } => explain_refusal(
-            query,
-            ending,
-            q,
-            trailer.stops,
-            f.lastminute,
-            number(refusal),
-        ),
+        } => explain_refusal(sailings, f, trailer, query, ending, q, number(refusal)),
         Planned::Plan {
             rides: count,
             expected,
@@ -124,23 +119,27 @@ fn explain_query(sailings: &[u8], f: Format, trailer: Trailer, query: &[u8], end
 
 // Room is lent in full, so planning refuses the query or finds no safe journey.
 fn explain_refusal(
+    sailings: &[u8],
+    f: Format,
+    trailer: Trailer,
     query: &[u8],
     ending: Ending,
     q: Query,
-    stops: usize,
-    last: usize,
     refusal: usize,
-) {
+)
+    requires { ⌜ Plannable f × (checkedAs f (now sailings) ≡ Sound trailer) × (refusal ≡ 8 → QueryFits (trailer .stops) (f .lastminute) q) ⌝ }
+{
     say_refused(refusal);
     if refusal == 8 {
         print_no_journey(q);
+        print_starts(sailings, f, trailer, q);
         return;
     }
     if query.len() != QUERY_BYTES {
         say_query_length(query, ending);
         return;
     }
-    print_query_fault(q, stops, last);
+    print_query_fault(q, trailer.stops, f.lastminute);
 }
 
 // 6: the query has other than 8 bytes.

@@ -1,0 +1,2 @@
+-- Until when one can start.
+pub mod Starts
