@@ -140,8 +140,8 @@ def cases():
     yield "query of 7 bytes", W, ASK[:7], "refused 6\n", query_length(7)
     yield "query of 9 bytes", W, ASK + b"\0", "refused 6\n", query_length(9)
     yield "query of 16 bytes", W, ASK + ASK, "refused 6\n", query_length(16)
-    yield "query of 17 bytes", W, ASK + ASK + b"\0", "refused 6\n", query_length("at least 17")
-    yield "query of 1,000 bytes", W, ASK * 125, "refused 6\n", query_length("at least 17")
+    yield "query of 17 bytes", W, ASK + ASK + b"\0", "refused 6\n", query_length("at least 16")
+    yield "query of 1,000 bytes", W, ASK * 125, "refused 6\n", query_length("at least 16")
     # a wrong file before a wrong query
     yield "both too short", W[-19:], ASK[:7], "refused 1\n", length_refused(19, "cut off")
     file, ask, sheet, words = longest()

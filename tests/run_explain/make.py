@@ -113,6 +113,7 @@ def rows():
 
 def queries():
     yield b"", "refused 6\nThe file query is empty.\n"
+    yield W_QUERY[:1], "refused 6\nThe query has 1 byte, not 8.\n"
     yield W_QUERY[:7], "refused 6\nThe query has 7 bytes, not 8.\n"
     yield W_QUERY + b"\0", "refused 6\nThe query has 9 bytes, not 8.\n"
     yield query_bytes(source=3), "refused 6\nThe query's source is stop 3, but there are 3 stops, numbered from 0.\n"
@@ -130,14 +131,14 @@ def no_journeys():
         "refused 8\n"
         "There is no safe journey from stop 0 to stop 2 from d1 10:01 on.\n"
         "From stop 0 there is one until d1 10:00.\n"
-        "From other stops: 1 until d1 10:50.\n" + EARLIER
+        "From other stops: stop 1 until d1 10:50.\n" + EARLIER
     )
     # the boat from the source lands by 640, a minute behind the last one onward
     yield sailing_file(w_rows_with(3, departure=639)), W_QUERY, SOUND_W + (
         "refused 8\n"
         "There is no safe journey from stop 0 to stop 2 from d1 09:50 on.\n"
         "From stop 0 there is none in this file, at any minute.\n"
-        "From other stops: 1 until d1 10:39.\n" + NO_MINUTE
+        "From other stops: stop 1 until d1 10:39.\n" + NO_MINUTE
     )
     yield sailing_file([]), W_QUERY, "The file is sound. Stops: 3. Rows: 0. Classes: 2.\n" + (
         "refused 8\n"
@@ -150,7 +151,7 @@ def no_journeys():
         "refused 8\n"
         "There is no safe journey from stop 2 to stop 1 from d1 09:50 on.\n"
         "From stop 2 there is none in this file, at any minute.\n"
-        "From other stops: 0 until d1 10:00.\n" + NO_MINUTE
+        "From other stops: stop 0 until d1 10:00.\n" + NO_MINUTE
     )
     # the source's own boat at the very minute, and a minute later
     yield sailing_file(), query_bytes(1, 2, 650), SOUND_W + (
@@ -161,7 +162,7 @@ def no_journeys():
         "refused 8\n"
         "There is no safe journey from stop 1 to stop 2 from d1 10:51 on.\n"
         "From stop 1 there is one until d1 10:50.\n"
-        "From other stops: 0 until d1 10:00.\n" + EARLIER
+        "From other stops: stop 0 until d1 10:00.\n" + EARLIER
     )
     # one boat alone: no other stop has one
     yield sailing_file([(0, 1, 0, 1, 0, 0)], [ON_TIME], stops=2), query_bytes(0, 1, 1), (
@@ -177,7 +178,7 @@ def no_journeys():
         "refused 8\n"
         "There is no safe journey from stop 0 to stop 3 from d7 23:59 on.\n"
         "From stop 0 there is one until d1 23:00.\n"
-        "From other stops: 1 until d1 23:50; 2 until d2 00:10.\n" + EARLIER
+        "From other stops: stop 1 until d1 23:50; stop 2 until d2 00:10.\n" + EARLIER
     )
     # the latest boat that a file can hold
     yield sailing_file([(0, 1, 10078, 10079, 0, 0)], [ON_TIME], stops=3), query_bytes(2, 1, 0), (
@@ -185,7 +186,7 @@ def no_journeys():
         "refused 8\n"
         "There is no safe journey from stop 2 to stop 1 from d1 00:00 on.\n"
         "From stop 2 there is none in this file, at any minute.\n"
-        "From other stops: 0 until d7 23:58.\n" + NO_MINUTE
+        "From other stops: stop 0 until d7 23:58.\n" + NO_MINUTE
     )
 
 

@@ -67,7 +67,7 @@ def wanted(stops, everything, source, target, minute):
     yield f"There is no safe journey from stop {source} to stop {target} from {time(minute)} on."
     own = last_start(everything, source, target)
     others = [(stop, last_start(everything, stop, target)) for stop in range(stops) if stop not in (source, target)]
-    listed = [f" {stop} until {time(last)}" for stop, last in others if last is not None]
+    listed = [f" stop {stop} until {time(last)}" for stop, last in others if last is not None]
     if own is None:
         yield f"From stop {source} there is none in this file, at any minute."
         none, helps = "No other stop has one either.", "Another minute cannot help. Another target,"

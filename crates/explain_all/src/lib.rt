@@ -10,6 +10,7 @@ use explain_plan::print_plan;
 use explain_plan::print_query_fault;
 use explain_starts::print_starts;
 use explain_words::say;
+use explain_words::say_count;
 use explain_words::say_expected;
 use explain_words::say_number;
 use explain_words::say_time;
@@ -148,12 +149,12 @@ fn say_query_length(query: &[u8], ending: Ending) {
         say_no_bytes(b"query", ending);
         return;
     }
+    say(b"The query has ");
     if goes_on(ending) {
-        say_number(b"The query has at least ", query.len() + 1);
-    } else {
-        say_number(b"The query has ", query.len());
+        say(b"at least ");
     }
-    say_number(b" bytes, not ", QUERY_BYTES);
+    say_count(b"", query.len(), b" byte", b" bytes");
+    say_number(b", not ", QUERY_BYTES);
     say(b".\n");
 }
 

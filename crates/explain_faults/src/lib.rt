@@ -4,7 +4,6 @@ ghost use Rattle.file_layout.specs.Format.{Readable};
 
 mod broken;
 mod classes;
-mod counts;
 mod rows;
 mod sizes;
 

@@ -1,6 +1,6 @@
 // Refusal 1: file length, version, S, n or K outside its range.
-use crate::counts::say_count;
 use explain_words::say;
+use explain_words::say_count;
 use explain_words::say_number;
 use file_layout::Format;
 use file_layout::Trailer;

@@ -99,7 +99,7 @@ fn print_other(
             } else {
                 say(b"From other stops:");
             }
-            say_number(b" ", stop);
+            say_number(b" stop ", stop);
             say_time(b" until ", minute);
             true
         }

@@ -14,6 +14,16 @@ pub fn say_number(words: &[u8], number: usize) {
     write_number(number);
 }
 
+// Words, then a number and the thing that it counts, which has a form for 1 and one for all others.
+pub fn say_count(words: &[u8], count: usize, one: &[u8], many: &[u8]) {
+    say_number(words, count);
+    if count == 1 {
+        say(one);
+    } else {
+        say(many);
+    }
+}
+
 // Words, then a time.
 pub fn say_time(words: &[u8], minute: usize)
     requires { ⌜ minute < 4294967296 ⌝ }
