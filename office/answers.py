@@ -3,15 +3,12 @@ import pathlib
 import tempfile
 from dataclasses import dataclass
 
-import pack
 import packed
 import programs
 import sheet
 import text_form
 from folder import read_file
 from timetable import Query, Timetable
-
-SHEET = "sheet"
 
 
 @dataclass(frozen=True)
@@ -50,10 +47,9 @@ def add_arguments(parser):
 def answers(arguments):
     timetable = text_form.read(read_file(arguments.text), arguments.text)
     files = packed.files(timetable, arguments.folder)
-    pack.refuse_leftovers(arguments.folder, files)
     asked = programs.Programs(arguments.programs)
     queries = [answer(timetable, query, packed.folder_of(timetable, query, arguments.folder), asked) for query in timetable.queries]
-    files |= {one.folder / SHEET: one.text.encode() for one in queries}
+    files |= {one.folder / packed.SHEET: one.text.encode() for one in queries}
     return Answers(timetable, queries, files)
 
 

@@ -20,19 +20,26 @@ def add(commands):
     parser.set_defaults(run=run)
 
 
-def refuse_leftovers(folder, files):
-    """Files of another packing that would stay among the new ones would be taken for them."""
-    old = [folder, *packed.inner_folders(folder)]
-    left = [path for path in (place / packed.SAILINGS for place in old) if path.exists() and path not in files]
+def unchanged(files):
+    """Whether the packed files among these are in their places already."""
+    return all(path.exists() and read_file(path) == content for path, content in files.items() if path.name in packed.PACKED)
+
+
+def put(folder, files):
+    """Writes the files, unless others of an earlier packing would stay among them and be taken for new: a sailing file, or a sheet or a
+    page that was made of other bytes."""
+    taken = (packed.SAILINGS,) if unchanged(files) else (packed.SAILINGS, *packed.MADE)
+    old = [place / name for place in (folder, *packed.inner_folders(folder)) for name in taken]
+    left = [path for path in old if path.exists() and path not in files]
     if left:
-        raise Trouble(f"{left[0]}: is of another packing and would stay among the new files; remove it, or pack into another folder")
+        raise Trouble(f"{left[0]}: is of another packing and would stay among the new files; remove it, or choose another folder")
+    write_files(files)
 
 
 def run(arguments):
     timetable = text_form.read(read_file(arguments.text), arguments.text)
     files = packed.files(timetable, arguments.folder)
-    refuse_leftovers(arguments.folder, files)
-    write_files(files)
+    put(arguments.folder, files)
     if not arguments.quiet:
         try:
             sys.stdout.writelines(f"row {row}: line {line}\n" for row, line in enumerate(timetable.lines))

@@ -8,7 +8,8 @@ from sailing_file import Refused, query_bytes, read_query, read_sailings, sailin
 from values import query_name
 from words import Word, WrongLine
 
-SAILINGS, QUERY, NAMES = "sailings", "query", "names"
+SAILINGS, QUERY, NAMES = PACKED = "sailings", "query", "names"
+SHEET, PAGE, INDEX = MADE = "sheet", "page.html", "index.html"  # what other commands make of the packed files
 
 
 def folder_of(timetable, query, folder):

@@ -1,11 +1,10 @@
 """office page: a text becomes the planner's files and a printable page for each query, with an index of them."""
 from answers import add_arguments, answers
-from folder import write_files
 from index_page import index_page
+from pack import put
+from packed import INDEX, PAGE
 from plan_page import plan_page
 from refused_page import refused_page
-
-PAGE, INDEX = "page.html", "index.html"
 
 
 def add(commands):
@@ -23,7 +22,7 @@ def run(arguments):
         files[answer.folder / PAGE] = page(found.timetable, answer).encode()
     links = [(answer.folder / PAGE).relative_to(arguments.folder).as_posix() for answer in found.queries]
     files[arguments.folder / INDEX] = index_page(found, links).encode()
-    write_files(files)
+    put(arguments.folder, files)
     return found.status
 
 

@@ -4,8 +4,8 @@ import sys
 from answers import add_arguments, answers
 from asked import named
 from columns import columns
-from folder import write_files
 from messages import Trouble, reason
+from pack import put
 from reasons import reason_lines
 from timetable import time_text
 
@@ -22,7 +22,7 @@ def add(commands):
 
 def run(arguments):
     found = answers(arguments)
-    write_files(found.files)
+    put(arguments.folder, found.files)
     try:
         sys.stdout.write("\n".join(printed(found.timetable, answer) for answer in found.queries))
         sys.stdout.flush()

@@ -22,6 +22,7 @@ TWO = W.replace("stops 3", 'stop "Harbour & Town"\nstop Isle\nstop 灯台').repl
 TWO_PRINTED = """late: Harbour & Town to 灯台, from d1 10:01
 refused 8
 {reason}stop 0 is Harbour & Town
+stop 1 is Isle
 stop 2 is 灯台
 
 early: Harbour & Town to 灯台, from d1 09:50, bound 5
@@ -157,11 +158,29 @@ def placed_failures():
         yield None if status == 1 and not out and f"run {root}/bin/explain" in err else f"by tools/x86_64: {out}{err}"
 
 
+def stale_failures():
+    """A sheet or a page stays beside the files that it was made of, and is refused beside others; then nothing is written."""
+    with room() as folder:
+        place = pathlib.Path(folder, "made")
+        old, new = lay(folder, W), pathlib.Path(folder, "new")
+        new.write_text(W.replace("09:50", "09:49"), encoding="utf-8")
+        left = {"pack": ("sheet", "page.html"), "sheets": ("index.html", "page.html"), "page": ()}
+        called("page", old, place, "--programs", BIN)
+        before = files_in(place)
+        for command, names in left.items():
+            more = () if command == "pack" else ("--programs", BIN)
+            kept = called(command, old, place, *more)
+            yield None if kept[0] == 0 and files_in(place) == before else f"{command} again: {kept}"
+            status, _, told = called(command, new, place, *more)
+            refused = status == 1 and any(f"{name}: is of another packing" in told for name in names) and files_in(place) == before
+            yield None if refused or (not names and status == 0) else f"{command} of another text: {status}, {told}"
+
+
 def main():
     failures = [printed_failure("W", W, W_PRINTED, 0), printed_failure("two queries", TWO, TWO_PRINTED, 1)]
     failures += [written_failure(name, (ROOT / "examples" / f"{name}.txt").read_text()) for name in ("w", "islands", "week")]
     failures += [written_failure(f"text {seed}", generated.text(seed)) for seed in range(40)]
-    failures += [*programs_failures(), *placed_failures()]
+    failures += [*programs_failures(), *placed_failures(), *stale_failures()]
     finish("sheets", len(failures), [failure for failure in failures if failure])
 
 
