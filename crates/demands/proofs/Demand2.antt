@@ -1,6 +1,6 @@
 -- Demand 2: the plan is the minimum expected arrival plan, and there is none exactly if there is no safe journey.
 use Prim.Native.Nat.{ℕ, _≤_, _<_}
-use mathlib.Core.List.{List, List·Memᴰ}
+use mathlib.Core.List.{List, _∷_, List·Memᴰ}
 use mathlib.Core.Bool.{true}
 use lib.Dec.{T}
 use lib.ListN.{length}
@@ -25,6 +25,7 @@ use Rattle.demands.proofs.ChosenWords.{chosen-in-words, first-chosen-le
 use Rattle.demands.proofs.RowWorth.{worth-in-words, no-worth, ride-in-words}
 use Rattle.demands.proofs.RowBegins.{row-reaches, row-begins}
 use Rattle.demands.proofs.PlanIsSafe.{ordered-rising, plan-safe, plan-rising, plan-valued, plan-expected, plan-last}
+use Rattle.demands.proofs.FirstRide.{plan-begins}
 use Rattle.demands.proofs.PlanSet.{plan-set}
 use Rattle.demands.proofs.Optimal.{expected-stands, plan-least, valued-ride, ride-valued}
 use Rattle.demands.proofs.Sorting.{safe-sorted, sorted-same}
@@ -114,6 +115,11 @@ module _ (t : Timetable) (timely : Timely t) (q : Query) where
     -- its rides are those of document 01 and nothing else
     pub its-rides : (v : Valued) → List·Memᴰ v (p .rides) ↔ InPlan q (chosenFor t (goalOf q (p .bound))) v
     its-rides = plan-set t timely q p (plan-made t q p is-plan)
+
+    -- the first of them is the one to begin with: it boards at the source, at or after T, and its worth is the expected arrival
+    pub first-ride :
+        (v : Valued) × (rest : List Valued) × (p .rides ≡ v ∷ rest) × (boards (v .ride) (q .source) (q .minute) ≡ true) × (v .worth ≡ p .expected)
+    first-ride = plan-begins t q p (plan-made t q p is-plan)
 
     -- its latest minute is the largest a + M of its rides
     pub latest-minute :

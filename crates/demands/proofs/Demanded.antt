@@ -18,6 +18,7 @@ plan-demanded t timely q p is =
       by-boarding-row = demand2.rising t timely q p is;
       own-worths = demand2.own-worths t timely q p is;
       its-rides = demand2.its-rides t timely q p is;
+      begins = demand2.first-ride t timely q p is;
       latest-minute = demand2.latest-minute t timely q p is;
       expects = demand2.own-expected t timely q p is;
       minimum = demand2.minimum t timely q p is;

@@ -6,6 +6,7 @@ pub mod Course
 pub mod Demand2
 pub mod Demand3
 pub mod EveryRide
+pub mod FirstRide
 pub mod Forward
 pub mod Means
 pub mod Meeting

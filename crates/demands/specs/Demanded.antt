@@ -1,12 +1,13 @@
 -- Demands 2 and 3 in one record: what must be true of a plan's rides, with its expected ticks, latest minute and bound.
 use Prim.Native.Nat.{ℕ, _≤_}
-use mathlib.Core.List.{List, List·Memᴰ}
+use mathlib.Core.List.{List, _∷_, List·Memᴰ}
+use mathlib.Core.Bool.{true}
 use mathlib.Core.Logic.{_↔_}
 use mathlib.Core.Option.{some}
 use mathlib.Core.Path.{_≡_}
 use Rattle.timetable.specs.Timetable.{Timetable}
 use Rattle.query.specs.declared.Query.{Query}
-use Rattle.plans.specs.Rides.{Ride, landsBy}
+use Rattle.plans.specs.Rides.{Ride, landsBy, boards}
 use Rattle.plans.specs.Journeys.{IsEarliest, boundOf, goalOf}
 use Rattle.plans.specs.Worth.{Valued, valued, ridesOf}
 use Rattle.plans.specs.Plan.{chosenFor}
@@ -24,6 +25,9 @@ pub record Demanded (t : Timetable) (q : Query) (rides : List Valued) (expected 
   pub own-worths : valued (q .target) (ridesOf rides) ≡ rides
   -- the rides of the extraction rule over the chosen rows, and nothing else
   pub its-rides : (v : Valued) → List·Memᴰ v rides ↔ InPlan q (chosenFor t (goalOf q bound)) v
+  -- the first of its rides is the one to begin with: it boards at the source, at or after T, and its worth is the expected arrival
+  pub begins :
+      (v : Valued) × (rest : List Valued) × (rides ≡ v ∷ rest) × (boards (v .ride) (q .source) (q .minute) ≡ true) × (v .worth ≡ expected)
   -- the latest minute is the largest a + M of its rides
   pub latest-minute :
       ((v : Valued) → List·Memᴰ v rides → landsBy (v .ride) ≤ latest) × ((v : Valued) × List·Memᴰ v rides × (landsBy (v .ride) ≡ latest))

@@ -167,6 +167,15 @@ module _ (κs : Lfts 2) (arguments : Dens κs kinds.ps) (answer : resT kinds.r �
         λ gone. o ∙ ap (λ (x : Option Plan). deskAnswered x out .answer) (exactly .1 gone),
       )
 
+  -- so a bound never causes it: 10,008 exactly if there is none without a bound either
+  pub eight-without-bound : verdict file q out ≡ fine
+      → (answer ≡ 10008) ↔ ((end : ℕ) → Journey (decode versionOne file) (queryOf (q .source) (q .target) (q .minute) 0) end → ⊥)
+  eight-without-bound e =
+      let exactly = eight-exactly e in (
+        λ told end j. exactly .0 told end (record { first = j .first; in-time = j .in-time; onward = j .onward }),
+        λ gone. exactly .1 (λ end j. gone end (record { first = j .first; in-time = j .in-time; onward = j .onward })),
+      )
+
   -- on 10,008 no byte changes
   pub eight-leaves : verdict file q out ≡ fine → answer ≡ 10008 → out′ ≡ out
   unfolding deskAnswered
