@@ -5,6 +5,7 @@ from timetable import MOST_TRIPS
 from words import Word, WrongLine
 
 OWN_WORDS = ("stop", "stops", "class", "shares", "house", "sail", "trip", "days", "query", "name", "bound", "tables", "first")
+FILE_NAMES = ("sailings", "query", "names", "sheet")  # of what stands in a packed folder
 LONGEST_NAME = 60
 DIGITS = re.compile("[0-9]+")
 FOLDER_NAME = re.compile("[A-Za-z0-9_-]+")
@@ -49,6 +50,8 @@ def query_name(word):
     text = name(word, "a query's name")
     if not FOLDER_NAME.fullmatch(text):
         raise WrongLine(word, "a query's name of the letters a to z and A to Z, digits, - and _")
+    if text.lower() in FILE_NAMES:
+        raise WrongLine(word, f"a query's name that is none of the files {', '.join(FILE_NAMES)}")
     return text
 
 

@@ -163,6 +163,8 @@ QUERIES = [
     ("query 0 2 d1 06:45 name 7", "with a letter in it"),
     ("query 0 2 d1 06:45 name a/b", "the letters a to z"),
     ("query 0 2 d1 06:45 name früh", "the letters a to z"),
+    ("query 0 2 d1 06:45 name Sailings", "none of the files"),
+    ("query 0 2 d1 06:45 name sheet", "none of the files"),
     ("query 0 2 d8 06:45", "read d8"),
 ]
 
