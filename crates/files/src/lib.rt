@@ -1,5 +1,7 @@
 // The system's side of every program: reading a file, and how that ended; writing the standard output, and telling where that fails.
+ghost use mathlib.Core.Path.{_≡_};
 ghost use Rattle.io.specs.Counts.{Counts};
+ghost use Rattle.files.specs.Endings.{goesOn};
 use libc::STDOUT_FILENO;
 
 // How the reading of a file ended.
@@ -71,11 +73,15 @@ fn ending_of(fd: i32, full: bool, words: &[u8]) -> Ending {
 }
 
 // Whether the file goes on behind what was read.
-pub fn goes_on(ending: Ending) -> bool {
-    if let Ending::More = ending {
-        return true;
+pub fn goes_on(ending: Ending) -> bool
+    ensures { λ r. ⌜ r ≡ goesOn ending ⌝ }
+{
+    match ending {
+        Ending::Missing => false,
+        Ending::Unreadable => false,
+        Ending::Whole => false,
+        Ending::More => true,
     }
-    false
 }
 
 // To be called first by a program: tells a standard output that is closed from the start, which the writes pass over.

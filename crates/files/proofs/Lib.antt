@@ -1,0 +1,2 @@
+-- What the contract on endings settles.
+pub mod Settled

@@ -1,0 +1,2 @@
+-- How the reading of a file ended.
+pub mod Endings
