@@ -185,7 +185,9 @@ pub fn plan(file: &[u8], q: Query) -> Result<Planned, Refusal> {
     let s = check(file, Trips::LastRows)?;
     let (source, target) = (q.source as usize, q.target as usize);
     let code_fits = q.code == 0 || (4..=16).contains(&q.code);
-    if source >= s.stops || target >= s.stops || source == target || q.minute > 10_079 || !code_fits {
+    let margin = q.ticks_to_gain();
+    let margin_fits = (1..=2_560).contains(&margin);
+    if source >= s.stops || target >= s.stops || source == target || q.minute > 10_079 || !code_fits || !margin_fits {
         return Err((6, 0));
     }
     let first = s.rows.partition_point(|r| (r.departure as u32) < q.minute);
@@ -220,7 +222,7 @@ pub fn plan(file: &[u8], q: Query) -> Result<Planned, Refusal> {
         let stack = &mut stacks[row.board as usize];
         let entry = Chosen { departure: row.departure as u32, row: i as u32, worth: best.0 };
         match stack.last_mut() {
-            Some(top) if top.worth <= entry.worth => {}
+            Some(top) if top.worth < entry.worth + margin => {}
             Some(top) if top.departure == entry.departure => *top = entry,
             _ => stack.push(entry),
         }

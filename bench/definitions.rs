@@ -56,7 +56,7 @@ fn in_minutes(target: u16, r: &Ride, behind: &[Valued]) -> Option<u64> {
     first_open(behind, r.to, r.latest()).map(|v| v.worth)
 }
 
-fn chosen(t: &Timetable, target: u16, off: &dyn Fn(&Ride, &[Valued]) -> Option<u64>) -> Vec<Valued> {
+fn chosen(t: &Timetable, target: u16, margin: u64, off: &dyn Fn(&Ride, &[Valued]) -> Option<u64>) -> Vec<Valued> {
     let mut weighed: Vec<(u16, Option<Valued>)> = Vec::new();
     let mut chosen: Vec<Valued> = Vec::new();
     for (i, r) in t.rows.iter().enumerate().rev() {
@@ -83,7 +83,7 @@ fn chosen(t: &Timetable, target: u16, off: &dyn Fn(&Ride, &[Valued]) -> Option<u
         weighed.push((r.trip, best.clone()));
         if let Some(v) = best {
             let first = chosen.iter().find(|c| c.ride.from == r.board);
-            if r.board != target && first.map_or(true, |f| v.worth < f.worth) {
+            if r.board != target && first.map_or(true, |f| v.worth + margin <= f.worth) {
                 chosen.retain(|c| !(c.ride.from == r.board && c.ride.departs == v.ride.departs));
                 chosen.insert(0, v);
             }
@@ -94,7 +94,7 @@ fn chosen(t: &Timetable, target: u16, off: &dyn Fn(&Ride, &[Valued]) -> Option<u
 
 pub fn earliest(t: &Timetable, q: Query) -> Option<u32> {
     let target = q.target as u16;
-    let rides = chosen(t, target, &|r, behind| in_minutes(target, r, behind));
+    let rides = chosen(t, target, 1, &|r, behind| in_minutes(target, r, behind));
     first_open(&rides, q.source as u16, q.minute as u64).map(|v| v.worth as u32)
 }
 
@@ -103,7 +103,7 @@ pub fn planned(t: &Timetable, q: Query) -> Answer {
     let target = q.target as u16;
     let Some(end) = earliest(t, q) else { return refused };
     let bound = if q.code == 0 { 0 } else { q.minute + q.code * (end - q.minute) / 4 };
-    let all = chosen(t, target, &|r, behind| in_ticks(target, bound as u64, r, behind));
+    let all = chosen(t, target, q.ticks_to_gain() as u64, &|r, behind| in_ticks(target, bound as u64, r, behind));
     let Some(first) = first_open(&all, q.source as u16, q.minute as u64) else { return refused };
     let mut windows = vec![(q.source as u16, q.minute as u64, first.ride.departs)];
     let mut rides = Vec::new();

@@ -58,6 +58,11 @@ fn planning<'a>(planner: &'a Planner, s: &'a Shape, lent: &'a RefCell<Lent>) -> 
     }
 }
 
+// The other build, if there is one that takes the shape's queries.
+fn before(s: &Shape) -> Option<&'static Planner> {
+    verified::before().filter(|planner| s.queries.iter().all(|q| planner.takes(q)))
+}
+
 // How many rides the shape's plans have; all sides answer alike.
 fn agreed(s: &Shape, lent: &mut Lent) -> usize {
     let Lent { work, rides } = lent;
@@ -65,7 +70,7 @@ fn agreed(s: &Shape, lent: &mut Lent) -> usize {
     for q in &s.queries {
         let ours = NOW.answer(&s.file, *q, work, rides);
         assert_eq!(ours, baseline::answer(&s.file, *q), "{}", s.name);
-        if let Some(before) = verified::before() {
+        if let Some(before) = before(s) {
             assert_eq!(ours, before.answer(&s.file, *q, work, rides), "{}", s.name);
         }
         if let sailing::Answer::Plan { rides, .. } = ours {
@@ -86,7 +91,7 @@ fn plan_shape(s: &Shape) -> (f64, Option<f64>) {
             black_box(baseline::plan(black_box(&s.file), *q).is_ok());
         }
     };
-    let mut before = verified::before().map(|planner| planning(planner, s, &lent));
+    let mut before = before(s).map(|planner| planning(planner, s, &lent));
     let mut jobs: Vec<&mut dyn FnMut()> = vec![&mut ours, &mut theirs];
     if let Some(job) = &mut before {
         jobs.push(job);
@@ -127,14 +132,15 @@ fn mean(ratios: &[f64]) -> f64 {
     (ratios.iter().map(|r| r.ln()).sum::<f64>() / ratios.len() as f64).exp()
 }
 
-fn main() {
-    let files = std::env::args().nth(1).map_or(2_000, |x| x.parse().expect("a count of files"));
-    let only = std::env::args().nth(2).unwrap_or_default();
-    let earlier = if verified::before().is_some() { "   before  ratio" } else { "" };
-    let (asked, plans) = compare::compare(files, 60);
-    println!("{asked} queries on small files agree, {plans} with a plan\n");
-    println!("{:32} {:>8} {:>8} {:>6} {:>6}{earlier}", "plan, microseconds a query", "ours", "Rust", "ratio", "rides");
-    let ratios: Vec<_> = shapes::all().iter().filter(|s| s.name.contains(&only)).map(plan_shape).collect();
+// The columns of the other build, if it is timed.
+fn earlier(before: Option<&Planner>) -> &'static str {
+    before.map_or("", |_| "   before  ratio")
+}
+
+fn plan_shapes(title: &str, shapes: &[Shape]) {
+    let earlier = earlier(shapes.first().and_then(before));
+    println!("{title:32} {:>8} {:>8} {:>6} {:>6}{earlier}", "ours", "Rust", "ratio", "rides");
+    let ratios: Vec<_> = shapes.iter().map(plan_shape).collect();
     let to_rust: Vec<f64> = ratios.iter().map(|r| r.0).collect();
     let to_before: Vec<f64> = ratios.iter().filter_map(|r| r.1).collect();
     println!("{:32} {:>24.2}", "geometric mean", mean(&to_rust));
@@ -142,6 +148,20 @@ fn main() {
         let most = to_before.iter().cloned().fold(0.0, f64::max);
         println!("{:32} mean {:.3}, largest {:.3}", "now to before", mean(&to_before), most);
     }
-    println!("\n{:32} {:>8} {:>8} {:>6} {:>8} {:>6}{earlier}", "check, microseconds", "ours", "looks", "ratio", "table", "ratio");
-    shapes::checks().iter().filter(|s| s.name.contains(&only)).for_each(check_shape);
+    println!();
+}
+
+fn main() {
+    let files = std::env::args().nth(1).map_or(2_000, |x| x.parse().expect("a count of files"));
+    let only = std::env::args().nth(2).unwrap_or_default();
+    let chosen = |shapes: Vec<Shape>| -> Vec<Shape> { shapes.into_iter().filter(|s| s.name.contains(&only)).collect() };
+    let (asked, plans) = compare::compare(files, 60);
+    println!("{asked} queries on small files agree, {plans} with a plan\n");
+    let shapes = chosen(shapes::all());
+    plan_shapes("plan, microseconds a query", &shapes);
+    let with_margin: Vec<_> = shapes.into_iter().map(|s| s.with_margin(256)).collect();
+    plan_shapes("with margin 256", &with_margin);
+    let earlier = earlier(verified::before());
+    println!("{:32} {:>8} {:>8} {:>6} {:>8} {:>6}{earlier}", "check, microseconds", "ours", "looks", "ratio", "table", "ratio");
+    chosen(shapes::checks()).iter().for_each(check_shape);
 }

@@ -23,6 +23,14 @@ pub struct Query {
     pub target: u32,
     pub minute: u32,
     pub code: u32,
+    // none for the call that has no margin, which means 1
+    pub margin: Option<u32>,
+}
+
+impl Query {
+    pub fn ticks_to_gain(&self) -> u32 {
+        self.margin.unwrap_or(1)
+    }
 }
 
 #[derive(Clone, Debug, PartialEq)]

@@ -8,7 +8,7 @@ pub struct Shape {
 }
 
 fn ask(source: u32, target: u32, minute: u32, code: u32) -> Query {
-    Query { source, target, minute, code }
+    Query { source, target, minute, code, margin: None }
 }
 
 fn shape(name: &'static str, stops: u16, mut rows: Vec<Row>, tables: Vec<Vec<u16>>, queries: Vec<Query>) -> Shape {
@@ -174,6 +174,16 @@ fn no_journey() -> Shape {
     let mut s = spread("no safe journey", 20, 10);
     s.queries = vec![ask(0, 1, 9900, 0)];
     s
+}
+
+impl Shape {
+    // The same file and queries, with a margin.
+    pub fn with_margin(mut self, margin: u32) -> Shape {
+        for q in &mut self.queries {
+            q.margin = Some(margin);
+        }
+        self
+    }
 }
 
 pub fn all() -> Vec<Shape> {

@@ -3,17 +3,20 @@ use crate::sailing::{Answer, Query};
 
 type Check = unsafe extern "C" fn(*const u8, usize, *mut u32, usize);
 type Plan = unsafe extern "C" fn(*const u8, usize, u32, u32, u32, u32, *mut u32, usize, *mut u32, usize, *mut u32, usize);
+type PlanMargin = unsafe extern "C" fn(*const u8, usize, u32, u32, u32, u32, u32, *mut u32, usize, *mut u32, usize, *mut u32, usize);
 type Earliest = unsafe extern "C" fn(*const u8, usize, u32, u32, u32, *mut u32, usize, *mut u32, usize);
 
 // The planner of one commit.
 pub struct Planner {
     check: Check,
     plan: Plan,
+    // none in commits before the margin
+    plan_margin: Option<PlanMargin>,
     earliest: Earliest,
 }
 
 macro_rules! planner {
-    ($name:ident, $check:ident, $plan:ident, $earliest:ident) => {
+    ($name:ident, $check:ident, $plan:ident, $plan_margin:expr, $earliest:ident) => {
         extern "C" {
             fn $check(file: *const u8, file_len: usize, answer: *mut u32, answer_len: usize);
             fn $plan(
@@ -42,14 +45,41 @@ macro_rules! planner {
                 answer_len: usize,
             );
         }
-        pub static $name: Planner = Planner { check: $check, plan: $plan, earliest: $earliest };
+        pub static $name: Planner = Planner { check: $check, plan: $plan, plan_margin: $plan_margin, earliest: $earliest };
     };
 }
 
-planner!(NOW, trial_check, trial_plan, trial_earliest);
+// The call with a margin, of a commit that has it.
+macro_rules! with_margin {
+    ($plan_margin:ident) => {{
+        extern "C" {
+            fn $plan_margin(
+                file: *const u8,
+                file_len: usize,
+                source: u32,
+                target: u32,
+                minute: u32,
+                code: u32,
+                margin: u32,
+                work: *mut u32,
+                work_len: usize,
+                rides: *mut u32,
+                rides_len: usize,
+                answer: *mut u32,
+                answer_len: usize,
+            );
+        }
+        Some($plan_margin)
+    }};
+}
 
-#[cfg(against)]
-planner!(BEFORE, before_check, before_plan, before_earliest);
+planner!(NOW, trial_check, trial_plan, with_margin!(trial_plan_margin), trial_earliest);
+
+#[cfg(all(against, not(against_margin)))]
+planner!(BEFORE, before_check, before_plan, None, before_earliest);
+
+#[cfg(against_margin)]
+planner!(BEFORE, before_check, before_plan, with_margin!(before_plan_margin), before_earliest);
 
 // The planner of the other commit, if one was given.
 pub fn before() -> Option<&'static Planner> {
@@ -67,25 +97,21 @@ impl Planner {
         answer[0] as usize
     }
 
+    pub fn takes(&self, q: &Query) -> bool {
+        q.margin.is_none() || self.plan_margin.is_some()
+    }
+
     // Number and place of the refusal, rides, expected ticks, latest minute and bound.
     pub fn plan(&self, file: &[u8], q: Query, work: &mut [u32], rides: &mut [u32]) -> [u32; 6] {
         let mut answer = [0u32; 6];
-        unsafe {
-            (self.plan)(
-                file.as_ptr(),
-                file.len(),
-                q.source,
-                q.target,
-                q.minute,
-                q.code,
-                work.as_mut_ptr(),
-                work.len(),
-                rides.as_mut_ptr(),
-                rides.len(),
-                answer.as_mut_ptr(),
-                6,
-            )
-        };
+        let Query { source, target, minute, code, margin } = q;
+        let (f, f_len, a) = (file.as_ptr(), file.len(), answer.as_mut_ptr());
+        let (w, w_len, r, r_len) = (work.as_mut_ptr(), work.len(), rides.as_mut_ptr(), rides.len());
+        match (margin, self.plan_margin) {
+            (None, _) => unsafe { (self.plan)(f, f_len, source, target, minute, code, w, w_len, r, r_len, a, 6) },
+            (Some(margin), Some(plan)) => unsafe { plan(f, f_len, source, target, minute, code, margin, w, w_len, r, r_len, a, 6) },
+            (Some(_), None) => panic!("that commit has no margin"),
+        }
         answer
     }
 

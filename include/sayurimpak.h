@@ -1,11 +1,11 @@
 /*
  * sayurimpak.h -- plans for a booking desk
  *
- * One call reads a sailing file, finds the safe plan whose expected arrival is
- * earliest and writes it to bytes of yours. It is proved, for every file, query
- * and room, that the answer and every byte of `out` afterwards are what this
- * page says. The small readers at the end are plain C and not proved; they are
- * run against the sheet program.
+ * A call reads a sailing file, finds the safe plan whose expected arrival is
+ * earliest, or one without the rides that gain little, and writes it to bytes
+ * of yours. It is proved, for every file, query and room, that the answer and
+ * every byte of `out` afterwards are what this page says. The small readers at
+ * the end are plain C and not proved; they are run against the sheet program.
  *
  * Build, with the archive's lib/pkgconfig on PKG_CONFIG_PATH:
  *   cc -std=c99 host.c $(pkg-config --cflags --libs sayurimpak) -o host
@@ -24,7 +24,7 @@ extern "C" {
 #endif
 
 /* Of this header and the library beside it: it rises with every call added. */
-#define SAYURIMPAK_VERSION 1
+#define SAYURIMPAK_VERSION 2
 
 /*
  * The sailing file
@@ -48,6 +48,10 @@ extern "C" {
 #define SAYURIMPAK_DAY_MINUTES 1440u
 #define SAYURIMPAK_LAST_MINUTE 10079u
 #define SAYURIMPAK_TICKS_A_MINUTE 256u
+
+/* Margins, in ticks: 1 leaves out no ride that gains, 2,560 are 10 minutes. */
+#define SAYURIMPAK_LEAST_MARGIN 1u
+#define SAYURIMPAK_MOST_MARGIN 2560u
 
 /*
  * What a call answers
@@ -78,17 +82,18 @@ extern "C" {
  *         again; if it stays so, whoever makes it has to correct it. The
  *         program `explain` names the class or the row.
  *   6  the query is wrong: source or target is not below the file's stops, they
- *      are equal, the minute is above 10,079, or the bound code is not 0 or 4
- *      to 16.
- *      -> Correct the numbers that are passed.
+ *      are equal, the minute is above 10,079, the bound code is not 0 or 4 to
+ *      16, or the margin is not 1 to 2,560.
+ *      -> Correct the numbers that are passed. A margin is in ticks, 256 a
+ *         minute; 1 stands for none.
  *   7  out_len is below 12 bytes for each of the file's rows.
  *      -> Lend SAYURIMPAK_MOST_BYTES, which is enough for every file.
  *   8  there is no safe journey from the source at or after the minute to the
  *      target.
- *      -> A later minute cannot help, nor can another bound code, since a bound
- *         never causes 8. An earlier minute, another target, next week's file or
- *         a relief sailing can; `explain` says until when, and from where, there
- *         is a safe journey.
+ *      -> A later minute cannot help, nor can another bound code or margin,
+ *         since these never cause 8. An earlier minute, another target, next
+ *         week's file or a relief sailing can; `explain` says until when, and
+ *         from where, there is a safe journey.
  */
 #define SAYURIMPAK_REFUSED 10000u
 
@@ -181,8 +186,34 @@ uint32_t sayurimpak_plan(const uint8_t *file, size_t file_len, uint32_t source,
                          uint8_t *out, size_t out_len);
 
 /*
- * This call will stay as it is. A request that adds a number to the query adds
- * a call with a name of its own, which takes all the numbers known by then.
+ * sayurimpak_plan_margin
+ * ----------------------
+ * The same without the rides that gain only seconds: a shorter plan, as a rule.
+ *
+ * margin           in ticks, SAYURIMPAK_LEAST_MARGIN to SAYURIMPAK_MOST_MARGIN;
+ *                  SAYURIMPAK_TICKS_A_MINUTE asks for a minute. With 1 it is
+ *                  the call above: the same answer, and the same bytes of `out`.
+ *
+ * What it does: of two rides of the plan from one stop the earlier is worth at
+ * least the margin less. A ride that gains less on the next is left out, and the
+ * plan may then begin with another ride, which not always needs fewer behind it.
+ *
+ * What it costs: the expected arrival may be later than with margin 1, which is
+ * the earliest there is, by at most (margin - 1) * L ticks, where L is the most
+ * rides boarded on any way through the plan with margin 1.
+ *
+ * What stays: whether there is a plan, E and the bound, and all that is said
+ * above of the answer, the plan in `out`, how to follow it, the limit of the
+ * promise and what you must see to.
+ */
+uint32_t sayurimpak_plan_margin(const uint8_t *file, size_t file_len,
+                                uint32_t source, uint32_t target,
+                                uint32_t minute, uint32_t bound_code,
+                                uint32_t margin, uint8_t *out, size_t out_len);
+
+/*
+ * These calls will stay as they are. A request that adds a number to the query
+ * adds a call with a name of its own, which takes all the numbers known by then.
  */
 
 /*
@@ -293,7 +324,7 @@ static inline const char *sayurimpak_refusal_words(uint32_t number) {
   case SAYURIMPAK_BAD_CLASS: return "a class of the sailing file is wrong";
   case SAYURIMPAK_BAD_ROW: return "a row of the sailing file is wrong";
   case SAYURIMPAK_BAD_ORDER: return "a row is out of order, or breaks off its trip";
-  case SAYURIMPAK_BAD_QUERY: return "the query is wrong";
+  case SAYURIMPAK_BAD_QUERY: return "a stop, minute, bound code or margin is wrong";
   case SAYURIMPAK_NO_ROOM: return "too little room for the plan";
   case SAYURIMPAK_NO_JOURNEY: return "there is no safe journey";
   default: return "no refusal";

@@ -1,11 +1,13 @@
 """What is asked, in a line."""
+from margin import left_out
 from timetable import time_text
 
 
 def asked(timetable, query):
-    """From, to, from when, and the bound if there is one."""
+    """From, to, from when, and a bound and a margin that make a difference."""
     bound = f", bound {query.bound}" if query.bound else ""
-    return f"{timetable.stop_name(query.source)} to {timetable.stop_name(query.target)}, from {time_text(query.minute)}{bound}"
+    margin = f", margin {query.margin}" if left_out(query) else ""
+    return f"{timetable.stop_name(query.source)} to {timetable.stop_name(query.target)}, from {time_text(query.minute)}{bound}{margin}"
 
 
 def named(timetable, query):

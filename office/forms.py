@@ -4,12 +4,16 @@ from typing import Optional, Union
 
 import house
 import times
-from timetable import BOUND_CODES, FEWEST_STOPS, LONGEST_DELAY, MOST_STOPS, SHARE_TOTAL
+from timetable import BOUND_CODES, FEWEST_STOPS, LEAST_MARGIN, LONGEST_DELAY, MARGINS, MOST_MARGIN, MOST_STOPS, SHARE_TOTAL, TICKS
 from values import OWN_WORDS, is_number, is_own, name, number, query_name, trip, whole
 from words import Word, WrongLine
 
 SAIL_OPTIONS = {"trip": "a trip's number or name", "class": "a class's name or number", "days": "days such as 1-5"}
-QUERY_OPTIONS = {"bound": "a bound code, 0 or 4 to 16", "name": "a query's name"}
+QUERY_OPTIONS = {
+    "bound": "a bound code, 0 or 4 to 16",
+    "margin": f"a margin of {LEAST_MARGIN} to {MOST_MARGIN} ticks, {TICKS} a minute",
+    "name": "a query's name",
+}
 
 
 @dataclass(frozen=True)
@@ -38,6 +42,7 @@ class Asked:
     target: Word
     minute: int
     bound: int
+    margin: Optional[int]
     name: Optional[str]
 
 
@@ -133,20 +138,24 @@ def sail(words):
     return Sailing(board, land, spans, days, goes, values["class"])
 
 
-def bound(word):
-    if whole(word) not in BOUND_CODES:
-        raise WrongLine(f"bound {word}", QUERY_OPTIONS["bound"])
-    return whole(word)
+def one_of(known, values, option):
+    """The number that a query's option has, which must be a known one; None where the line has no such option."""
+    if option not in values:
+        return None
+    if whole(values[option]) not in known:
+        raise WrongLine(f"{option} {values[option]}", QUERY_OPTIONS[option])
+    return whole(values[option])
 
 
 def query(words):
     values, left = options(words, QUERY_OPTIONS)
     called = query_name(values["name"]) if "name" in values else None
-    code = bound(values["bound"]) if "bound" in values else 0
+    bound = one_of(BOUND_CODES, values, "bound") or 0
+    margin = one_of(MARGINS, values, "margin")
     source, target = left.take("the source stop"), left.take("the target stop")
     minute = times.moment(left, "the day behind two stops")
     left.end()
-    return Asked(source, target, minute, code, called)
+    return Asked(source, target, minute, bound, margin, called)
 
 
 def tables(words):

@@ -1,6 +1,7 @@
 """The printable page of one query: what to board first, what to take after each landing, and a drawing of it."""
 from drawing import drawings
 from landings import landings
+from margin import left_out
 from markup import element
 from page_head import time_mark, whole
 from timetable import DAY, time_text
@@ -63,7 +64,7 @@ class PlanPage:
         return element("b", {}, self.timetable.stop_name(stop))
 
     def arrivals(self):
-        """Expected and latest arrival, and how times are meant."""
+        """Expected and latest arrival, how times are meant, and what is left out."""
         name = self.timetable.stop_name(self.query.target)
         boxes = element(
             "ul",
@@ -71,7 +72,7 @@ class PlanPage:
             element("li", {}, f"Expected at {name}", self.times.mark(self.sheet.expected)),
             element("li", {}, "At the latest", self.times.mark(self.sheet.latest)),
         )
-        return element("div", {}, element("p", {}, self.times.sentence()), boxes)
+        return element("div", {}, element("p", {}, " ".join([self.times.sentence(), *left_out(self.query)])), boxes)
 
     def first(self):
         ride = self.rides[0]

@@ -1,13 +1,14 @@
-"""Document 01's bytes: a timetable as a sailing file, a query as eight bytes, and both read back by its rules."""
+"""Document 01's bytes: a timetable as a sailing file, a query as four numbers or five, and both read back by its rules."""
 import struct
 
-from timetable import (BOUND_CODES, FEWEST_STOPS, LAST_MINUTE, LONGEST_DELAY, MOST_CLASSES, MOST_ROWS, MOST_STOPS, MOST_TRIPS,
-                       SHARE_TOTAL, Query, Row, Timetable)
+from timetable import (BOUND_CODES, FEWEST_STOPS, LAST_MINUTE, LEAST_MARGIN, LONGEST_DELAY, MARGINS, MOST_CLASSES, MOST_MARGIN, MOST_ROWS,
+                       MOST_STOPS, MOST_TRIPS, SHARE_TOTAL, Query, Row, Timetable)
 
 VERSION = 1
 TRAILER = struct.Struct("<4H2I")
 ROW = struct.Struct("<6H")
 QUERY = struct.Struct("<4H")
+MARGIN = struct.Struct("<H")  # behind a query that has one
 FEWEST_BYTES, MOST_BYTES = 20, 27920
 
 
@@ -28,7 +29,8 @@ def sailings_bytes(timetable):
 
 
 def query_bytes(query):
-    return QUERY.pack(query.source, query.target, query.minute, query.bound)
+    asked = QUERY.pack(query.source, query.target, query.minute, query.bound)
+    return asked if query.margin is None else asked + MARGIN.pack(query.margin)
 
 
 def read_trailer(data):
@@ -109,10 +111,15 @@ def read_sailings(data):
     return Timetable(stops, tables, rows, [], tables_first=tables_first)
 
 
+def query_in(data, name):
+    if len(data) not in (QUERY.size, QUERY.size + MARGIN.size):
+        raise Refused(6, f"it has {len(data)} bytes, neither {QUERY.size} nor {QUERY.size + MARGIN.size}")
+    asked, margin = data[:QUERY.size], data[QUERY.size:]
+    return Query(*QUERY.unpack(asked), MARGIN.unpack(margin)[0] if margin else None, name)
+
+
 def read_query(data, stops, name):
-    if len(data) != QUERY.size:
-        raise Refused(6, f"it has {len(data)} bytes, not {QUERY.size}")
-    query = Query(*QUERY.unpack(data), name)
+    query = query_in(data, name)
     if max(query.source, query.target) >= stops:
         raise Refused(6, f"stop {max(query.source, query.target)} is not below {stops}")
     if query.source == query.target:
@@ -121,4 +128,6 @@ def read_query(data, stops, name):
         raise Refused(6, f"minute {query.minute} is past {LAST_MINUTE}")
     if query.bound not in BOUND_CODES:
         raise Refused(6, f"bound code {query.bound} is not 0 or 4 to 16")
+    if query.margin is not None and query.margin not in MARGINS:
+        raise Refused(6, f"margin {query.margin} is not {LEAST_MARGIN} to {MOST_MARGIN} ticks")
     return query

@@ -4,6 +4,8 @@ import sys
 from answers import add_arguments, answers
 from asked import named
 from columns import columns
+from counted import counted
+from margin import left_out
 from messages import Trouble, reason
 from pack import put
 from reasons import reason_lines
@@ -37,9 +39,9 @@ def printed(timetable, answer):
     if answer.sheet.refusal:
         lines += [f"refused {answer.sheet.refusal}", *reason_lines(timetable, answer)]
     else:
-        count = len(answer.rides)
-        rides = f"{count} ride{'s' if count > 1 else ''}"
+        rides = counted(len(answer.rides), "ride")
         lines.append(f"expected {time_text(answer.sheet.expected)}, latest {time_text(answer.sheet.latest)}, {rides}")
+        lines += left_out(answer.query)
         lines += columns([TITLES, *(cells(timetable, line) for line in answer.sheet.lines)])
     return "".join(f"{line}\n" for line in lines)
 

@@ -12,6 +12,9 @@ MOST_TRIPS = 2000
 LONGEST_DELAY = 120
 SHARE_TOTAL = 4096
 BOUND_CODES = (0, *range(4, 17))
+TICKS = 256  # of a minute
+LEAST_MARGIN, MOST_MARGIN = 1, 10 * TICKS
+MARGINS = range(LEAST_MARGIN, MOST_MARGIN + 1)
 
 
 @dataclass(frozen=True)
@@ -28,12 +31,13 @@ class Row:
 
 @dataclass(frozen=True)
 class Query:
-    """From source to target, standing at the source from a minute on, with a bound code; a name if it has one."""
+    """From source to target, standing at the source from a minute on, with a bound code; a margin in ticks and a name if it has them."""
 
     source: int
     target: int
     minute: int
     bound: int = 0
+    margin: Optional[int] = None
     name: Optional[str] = None
 
 

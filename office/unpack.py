@@ -25,6 +25,12 @@ def class_text(table, name):
     return f"class{called} shares {' '.join(str(share) for share in table)}"
 
 
+def query_text(query, stops):
+    name = "" if query.name is None else f" name {query.name}"
+    margin = "" if query.margin is None else f" margin {query.margin}"
+    return f"query{name} {stops[query.source]} {stops[query.target]} {time_text(query.minute)} bound {query.bound}{margin}"
+
+
 def text(timetable):
     """The lines of a text that becomes this timetable."""
     stop_names, class_names = timetable.stop_names, timetable.class_names
@@ -40,9 +46,7 @@ def text(timetable):
         kind = in_text(class_names.get(row.kind, str(row.kind)))
         times = f"{time_text(row.departure)} {time_text(row.arrival)}"
         yield f"sail {stops[row.board]} {stops[row.land]} {times} trip {row.trip} class {kind}"
-    for query in timetable.queries:
-        name = "" if query.name is None else f" name {query.name}"
-        yield f"query{name} {stops[query.source]} {stops[query.target]} {time_text(query.minute)} bound {query.bound}"
+    yield from (query_text(query, stops) for query in timetable.queries)
 
 
 def run(arguments):

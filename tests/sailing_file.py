@@ -43,9 +43,9 @@ def w_rows_with(place, **changed):
     return [tuple(row[name] for name in ROW_NUMBERS) for row in rows]
 
 
-def query_bytes(source=0, target=2, minute=590, code=0):
-    """The query's eight bytes; case W's if nothing else is said."""
-    return struct.pack("<4H", source, target, minute, code)
+def query_bytes(source=0, target=2, minute=590, code=0, margin=None):
+    """The query's eight bytes, or ten with a margin; case W's if nothing else is said."""
+    return struct.pack("<4H", source, target, minute, code) + (b"" if margin is None else struct.pack("<H", margin))
 
 
 def time(minute):

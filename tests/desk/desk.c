@@ -1,4 +1,4 @@
-/* Case W and its faults through the booking desk's call, against document 01's numbers as literals. */
+/* Case W and its faults through the booking desk's calls, against the numbers of documents 01 and 02 as literals. */
 #include <stdio.h>
 #include <string.h>
 
@@ -16,6 +16,7 @@ _Static_assert(SAYURIMPAK_ROW_BYTES == 12, "a row has six u16");
 _Static_assert(SAYURIMPAK_DAY_MINUTES == 1440, "every day has 1,440 minutes");
 _Static_assert(SAYURIMPAK_LAST_MINUTE == 10079, "seven days");
 _Static_assert(SAYURIMPAK_TICKS_A_MINUTE == 256, "a tick is 1/256 minute");
+_Static_assert(SAYURIMPAK_LEAST_MARGIN == 1 && SAYURIMPAK_MOST_MARGIN == 2560, "a margin of 1 to 2,560 ticks");
 _Static_assert(SAYURIMPAK_BAD_SIZES == 1 && SAYURIMPAK_BAD_SECTIONS == 2 && SAYURIMPAK_BAD_CLASS == 3 && SAYURIMPAK_BAD_ROW == 4 &&
                    SAYURIMPAK_BAD_ORDER == 5 && SAYURIMPAK_BAD_QUERY == 6 && SAYURIMPAK_NO_ROOM == 7 && SAYURIMPAK_NO_JOURNEY == 8,
                "the refusals' numbers");
@@ -38,18 +39,32 @@ struct asked {
 
 static const struct asked W_ASKED = {0, 2, 590, 0};
 
-/* One call with this much room: the answer, and that all bytes of `out` are as they must be. */
-static void expect(const char *what, size_t length, struct asked asked, size_t room, uint32_t wanted) {
+/* What a call answered, and that `out` has these rides of a plan and is as it was behind them. */
+static void compare(const char *what, uint32_t answer, uint32_t wanted, const uint8_t *plan) {
   static uint8_t left[LENT];
-  memset(out, DIRT, sizeof out);
   memset(left, DIRT, sizeof left);
-  if (wanted == 3) memcpy(left, W_PLAN, sizeof W_PLAN);
-  const uint32_t answer = sayurimpak_plan(file, length, asked.source, asked.target, asked.minute, asked.code, out, room);
+  if (wanted < 10000) memcpy(left, plan, 12 * wanted);
   calls++;
   if (answer == wanted && memcmp(out, left, sizeof out) == 0) return;
   failed++;
   printf("%s: answered %u and not %u%s\n", what, (unsigned)answer, (unsigned)wanted,
          memcmp(out, left, sizeof out) == 0 ? "" : ", and other bytes than must be");
+}
+
+static void expect_margin(const char *what, size_t length, struct asked asked, uint32_t margin, size_t room, uint32_t wanted,
+                          const uint8_t *plan) {
+  memset(out, DIRT, sizeof out);
+  const uint32_t answer =
+      sayurimpak_plan_margin(file, length, asked.source, asked.target, asked.minute, asked.code, margin, out, room);
+  compare(what, answer, wanted, plan);
+}
+
+/* A call with this much room, and the call with margin 1, which must do the same. */
+static void expect(const char *what, size_t length, struct asked asked, size_t room, uint32_t wanted) {
+  memset(out, DIRT, sizeof out);
+  const uint32_t answer = sayurimpak_plan(file, length, asked.source, asked.target, asked.minute, asked.code, out, room);
+  compare(what, answer, wanted, W_PLAN);
+  expect_margin(what, length, asked, 1, room, wanted, W_PLAN);
 }
 
 /* W with two bytes from `at` on changed to a number, or W as it is. */
@@ -128,6 +143,43 @@ static void queries(void) {
   }
 }
 
+/* A margin out of its range is 6, in all its 32 bits; one in its range leaves W's rides, which are half an hour apart. */
+static void margins(void) {
+  static const uint32_t WRONG[] = {0, 2561, 65535, 65536, 65537, 4294967295u}, RIGHT[] = {1, 2, 256, 2560};
+  const struct asked late = {0, 2, 601, 0};
+  char what[80];
+  put_w();
+  for (size_t k = 0; k < sizeof WRONG / sizeof WRONG[0]; k++) {
+    snprintf(what, sizeof what, "margin %u", (unsigned)WRONG[k]);
+    expect_margin(what, W_BYTES, W_ASKED, WRONG[k], W_ROOM, 10006, NULL);
+    expect_margin(what, W_BYTES, W_ASKED, WRONG[k], 47, 10006, NULL);
+    expect_margin(what, W_BYTES, late, WRONG[k], W_ROOM, 10006, NULL);
+  }
+  for (size_t k = 0; k < sizeof RIGHT / sizeof RIGHT[0]; k++) {
+    snprintf(what, sizeof what, "margin %u", (unsigned)RIGHT[k]);
+    expect_margin(what, W_BYTES, W_ASKED, RIGHT[k], W_ROOM, 3, W_PLAN);
+    expect_margin(what, W_BYTES, W_ASKED, RIGHT[k], 47, 10007, NULL);
+    expect_margin(what, W_BYTES, late, RIGHT[k], W_ROOM, 10008, NULL);
+  }
+  put_number(40, 635);
+  expect_margin("5 before a margin's 6", W_BYTES, W_ASKED, 0, W_ROOM, 10005, NULL);
+}
+
+/* W whose last row arrives at 661, worth 169,216: the second row, worth 168,960, gains 256 ticks on it. The first is worth 169,088, or
+   169,216 where the second is left out. */
+static void gains(void) {
+  static const uint8_t KEPT[36] = {0, 0, 0, 0, 0, 0, 0, 0, 0x80, 0x94, 0x02, 0,
+                                   1, 0, 0, 0, 1, 0, 0, 0, 0x00, 0x94, 0x02, 0,
+                                   3, 0, 0, 0, 3, 0, 0, 0, 0x00, 0x95, 0x02, 0};
+  static const uint8_t LEFT_OUT[24] = {0, 0, 0, 0, 0, 0, 0, 0, 0x00, 0x95, 0x02, 0,
+                                       3, 0, 0, 0, 3, 0, 0, 0, 0x00, 0x95, 0x02, 0};
+  put_number(42, 661);
+  expect_margin("a gain of 256, margin 1", W_BYTES, W_ASKED, 1, W_ROOM, 3, KEPT);
+  expect_margin("a gain of 256, margin 256", W_BYTES, W_ASKED, 256, W_ROOM, 3, KEPT);
+  expect_margin("a gain of 256, margin 257", W_BYTES, W_ASKED, 257, W_ROOM, 2, LEFT_OUT);
+  expect_margin("a gain of 256, margin 2,560", W_BYTES, W_ASKED, 2560, W_ROOM, 2, LEFT_OUT);
+}
+
 /* 6 before 7 before 8, and a file's own fault before all. */
 static void order(void) {
   const struct asked wrong = {0, 2, 590, 3}, none = {0, 2, 601, 0};
@@ -155,6 +207,8 @@ int main(int count, char **words) {
   faults();
   lengths();
   queries();
+  margins();
+  gains();
   order();
   printf("desk: %d calls, %d differences\n", calls, failed);
   return failed > 0;

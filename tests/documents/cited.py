@@ -1,6 +1,6 @@
 """Every crate, path and name that the documents cite exists.
 
-Looked for in README.md, CONTRIBUTING.md, dist/README.md and docs/*.md:
+Looked for in README.md, CONTRIBUTING.md, dist/README.md and the pages under docs:
   `crate/path: name, ..`   the file under crates/ (without its ending), and each name defined in it
   `crate: name, ..`        each name defined in the crate's code
   `crate::name`            the same; `Type::name` is looked for by both words
@@ -78,7 +78,7 @@ def looked_at(page):
 
 
 def main():
-    pages = [*map(pathlib.Path, ("README.md", "CONTRIBUTING.md", "dist/README.md")), *sorted(pathlib.Path("docs").glob("*.md"))]
+    pages = [*map(pathlib.Path, ("README.md", "CONTRIBUTING.md", "dist/README.md")), *sorted(pathlib.Path("docs").rglob("*.md"))]
     count = 0
     for page in pages:
         for number, line in looked_at(page):

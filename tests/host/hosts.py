@@ -16,6 +16,8 @@ import tempfile
 from sailing_file import query_bytes, sailing_file
 
 STORED = pathlib.Path("crates/run_sheets")
+ANY_TWO = list(itertools.permutations(range(5), 2))
+ALONG = [(stop, stop + 1) for stop in range(4)]
 
 
 def stored_parts():
@@ -33,7 +35,7 @@ def stored():
     sheets = re.split(r"case \d+\n", (STORED / "stdout").read_text())[1:]
     assert len(parts) == 2 * len(sheets)
     for file, query, sheet in zip(parts[::2], parts[1::2], sheets):
-        if len(query) == 8:
+        if len(query) in (8, 10):
             yield file, query, sheet
 
 
@@ -46,16 +48,18 @@ def drawn_table(draw):
 
 
 def drawn(seed):
-    """Boats between five stops, each a trip of its own, in either order of the sections."""
+    """Boats between five stops, each a trip of its own, in either order of the sections: now and then between any two, or often from each
+    stop to the next, where a margin leaves out rides."""
     draw = random.Random(seed)
     tables = [drawn_table(draw) for _ in range(draw.randint(1, 5))]
+    ways, last, longest = draw.choice([(ANY_TWO, 3000, 200), (ALONG, 400, 20)])
     rows = []
-    for trip, departure in enumerate(sorted(draw.randint(0, 3000) for _ in range(draw.randint(1, 150)))):
-        board, land = draw.sample(range(5), 2)
-        rows.append((board, land, departure, departure + draw.randint(1, 200), trip, draw.randrange(len(tables))))
-    source, target = draw.sample(range(5), 2)
+    for trip, departure in enumerate(sorted(draw.randint(0, last) for _ in range(draw.randint(1, 300)))):
+        rows.append((*draw.choice(ways), departure, departure + draw.randint(1, longest), trip, draw.randrange(len(tables))))
+    source, target = draw.choice(ANY_TWO) if ways is ANY_TWO else (0, 4)
+    margin = draw.choice([None, 1, 100, 2560, 2561])
     file = sailing_file(rows, tables, 5, rows_first=draw.random() < 0.5)
-    return file, query_bytes(source, target, draw.randint(0, 1500), draw.choice([0, 4, 5, 9, 16]))
+    return file, query_bytes(source, target, draw.randint(0, last // 3), draw.choice([0, 4, 5, 9, 16]), margin)
 
 
 def printed_sheet(runner, sheet, folder):
@@ -63,7 +67,7 @@ def printed_sheet(runner, sheet, folder):
 
 
 def differs(runner, host, folder, query, sheet):
-    asked = [str(number) for number in struct.unpack("<4H", query)]
+    asked = [str(number) for (number,) in struct.iter_unpack("<H", query)]
     ended = subprocess.run([runner, "run", host, folder / "sailings", *asked], capture_output=True, text=True)
     if ended.stdout == sheet and ended.returncode == sheet.startswith("refused"):
         return False

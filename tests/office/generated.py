@@ -50,7 +50,8 @@ def text(seed):
         source, target = sorted(chance.sample(range(stops), 2)) if number == 2 else (chance.randrange(2), stops - 1)
         name = f" name q{number}" if queries > 1 or chance.random() < 0.5 else ""
         begin = chance.choice((max(start - 30, 0), chance.randrange(start, end)))
-        lines.append(f"query{name} {called[source]} {called[target]} {clock(begin)} bound {chance.choice((0, 0, 4, 6, 16))}")
+        margin = chance.choice(("", "", " margin 1", " margin 100", " margin 256", " margin 2560"))
+        lines.append(f"query{name} {called[source]} {called[target]} {clock(begin)} bound {chance.choice((0, 0, 4, 6, 16))}{margin}")
     return "\n".join(lines) + "\n"
 
 

@@ -105,6 +105,16 @@ query A C d1 06:00
     return text, files(rows, [[4096]], 3, (0, 2, 360, 0), "stop A\nstop B\nstop C\n")
 
 
+def margin_cases():
+    """W with a margin: the first and the last there is, anywhere on the line, and beside a query that has none."""
+    for words, margin in (("bound 0 margin 1", 1), ("margin 2560", 2560), ("margin 0256 bound 0", 256)):
+        yield words, W_TEXT.replace("bound 0", words), {**W, "query": writer.query_bytes(margin=margin)}
+    yield "margin first", W_TEXT.replace("query", "query margin 255"), {**W, "query": writer.query_bytes(margin=255)}
+    text, wanted = several_case()
+    short = writer.query_bytes(2, 0, 1445, 16, 256)
+    yield "margin on one of two", text.replace("bound 16", "margin 256 bound 16"), {**wanted, "Two_2/query": short}
+
+
 def several_case():
     text = W_TEXT.replace("query 0 2 d1 09:50 bound 0", "query name one 0 2 d1 09:50\nquery 2 0 d2 00:05 bound 16 name Two_2")
     wanted = {f"one/{name}": data for name, data in W.items()} | {f"Two_2/{name}": data for name, data in W.items()}
@@ -146,6 +156,8 @@ def cases():
         **NAMED_FILES, "names": NAMED_FILES["names"].replace(b"Harbour", b'"Pier #1"')}
     for what, (text, wanted) in {"days": days_case(), "shuttle": shuttle_case(), "sorted": sorted_case(), "several": several_case(),
                                  "widest": widest_case()}.items():
+        yield what, text.encode(), wanted
+    for what, text, wanted in margin_cases():
         yield what, text.encode(), wanted
     for pair in PAIRS:
         text = f"stops 2\nclass h house {pair[0]} {pair[1]}\nquery 0 1 d1 00:00"

@@ -21,6 +21,9 @@ TAKE = rf"take the (?P<departure>{TIME}) to (?P<land>.+)"
 DUE = rf"due (?P<arrival>{TIME})(?:, at the latest (?P<latest>{TIME}))?\."
 CHOICE = re.compile(rf"{WHEN} {TAKE}, {DUE} (?:Go on at (?P<go>\d+)|There you are\.) (?P<target>.+) expected (?P<expected>{TIME})")
 FIRST = re.compile(rf"Board first: the (?P<departure>{TIME}) from (?P<board>.+) to (?P<land>.+), {DUE} (?:Go on at (?P<go>\d+)|There you are\.)")
+LEFT_OUT = re.compile(
+    r"Rides that gain less than (?:(?P<ticks>\d+) ticks \(under )?(?:(?P<minutes>\d+) minutes? ?)?(?:(?P<seconds>\d+) seconds?)?\)? on the next from "
+    r"their stop are left out\.")
 WINDOW = re.compile(rf"You land at (?P<stop>.+) (?:between (?P<first>{TIME}) and (?P<last>{TIME})|at (?P<only>{TIME}))")
 
 
@@ -75,7 +78,9 @@ class Plan:
 
     def __init__(self, folder):
         rows, delays = file_rows((folder / "sailings").read_bytes())
-        self.source, self.target, self.asked, _ = struct.unpack("<4H", (folder / "query").read_bytes())
+        asked = (folder / "query").read_bytes()
+        self.source, self.target, self.asked, _ = struct.unpack("<4H", asked[:8])
+        self.margin = int.from_bytes(asked[8:], "little") or 1
         self.head = (folder / "sheet").read_text().splitlines()[0]
         self.rides = list(sheet_rides((folder / "sheet").read_text(), rows, delays))
         self.rides_from = {stop: sorted(ride for ride in self.rides if ride.board == stop) for stop in {ride.board for ride in self.rides}}
@@ -161,6 +166,19 @@ def check_times(plan):
     spoken = "".join(text for part in plan.page.iter("main") for text in without_drawings(part))
     marked = sum(len(re.findall(TIME, words_of(time))) for time in with_class(plan.page, "time"))
     demand(len(re.findall(TIME, spoken)) == marked, "times that are marked as such")
+
+
+def check_margin(plan):
+    """What the page says is left out is less than the margin, to the tick or to the second; and the rides keep that distance."""
+    told = LEFT_OUT.search(words_of(plan.page))
+    demand((told is not None) == (plan.margin > 1), f"words on a margin of {plan.margin}")
+    if told:
+        ticks = (60 * int(told["minutes"] or 0) + int(told["seconds"] or 0)) * 256 / 60
+        exact = ticks == plan.margin if told["ticks"] is None else int(told["ticks"]) == plan.margin < ticks < plan.margin + 256 / 60
+        demand(exact, f"a margin of {plan.margin} in {told[0]}")
+    for rides in plan.rides_from.values():
+        for ride, later in zip(rides, rides[1:]):
+            demand(later.expected - ride.expected >= plan.margin // 256, f"a gain of {ride} on {later}")
 
 
 def without_drawings(element):
@@ -294,6 +312,7 @@ def check_text(path, folder):
         plan = Plan(query)
         check_landings(plan)
         check_times(plan)
+        check_margin(plan)
         check_drawings(plan)
         check_self_contained((query / "page.html").read_text())
         plans += 1

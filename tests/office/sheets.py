@@ -32,6 +32,32 @@ Harbour & Town  d1 10:00  Isle     d1 10:30  d1 11:15
 Isle            d1 10:32  灯台     d1 11:00  d1 11:00
 Isle            d1 10:50  灯台     d1 11:30  d1 11:30
 """
+# the 10:32 gains 256 ticks on the 10:50: at a margin of 256 it stays, at 257 it is left out
+MARGINS = W.replace("d1 11:30", "d1 11:01").replace(
+    "query 0 2 d1 09:50 bound 0",
+    "\n".join(f"query name {name} 0 2 d1 09:50 margin {margin}" for name, margin in (("least", 1), ("some", 256), ("more", 257))))
+MARGINS_PRINTED = """least: stop 0 to stop 2, from d1 09:50
+expected d1 11:01, latest d1 11:01, 3 rides
+Board at  departs   Land at  due       expected
+stop 0    d1 10:00  stop 1   d1 10:30  d1 11:01
+stop 1    d1 10:32  stop 2   d1 11:00  d1 11:00
+stop 1    d1 10:50  stop 2   d1 11:01  d1 11:01
+
+some: stop 0 to stop 2, from d1 09:50, margin 256
+expected d1 11:01, latest d1 11:01, 3 rides
+Rides that gain less than 1 minute on the next from their stop are left out.
+Board at  departs   Land at  due       expected
+stop 0    d1 10:00  stop 1   d1 10:30  d1 11:01
+stop 1    d1 10:32  stop 2   d1 11:00  d1 11:00
+stop 1    d1 10:50  stop 2   d1 11:01  d1 11:01
+
+more: stop 0 to stop 2, from d1 09:50, margin 257
+expected d1 11:01, latest d1 11:01, 2 rides
+Rides that gain less than 257 ticks (under 1 minute 1 second) on the next from their stop are left out.
+Board at  departs   Land at  due       expected
+stop 0    d1 10:00  stop 1   d1 10:30  d1 11:01
+stop 1    d1 10:50  stop 2   d1 11:01  d1 11:01
+"""
 SHEET = (ROOT / "examples" / "w" / "sheet").read_text()
 LINES = SHEET.splitlines(keepends=True)
 
@@ -178,6 +204,7 @@ def stale_failures():
 
 def main():
     failures = [printed_failure("W", W, W_PRINTED, 0), printed_failure("two queries", TWO, TWO_PRINTED, 1)]
+    failures.append(printed_failure("margins", MARGINS, MARGINS_PRINTED, 0))
     failures += [written_failure(name, (ROOT / "examples" / f"{name}.txt").read_text()) for name in ("w", "islands", "week")]
     failures += [written_failure(f"text {seed}", generated.text(seed)) for seed in range(40)]
     failures += [*programs_failures(), *placed_failures(), *stale_failures()]

@@ -1,4 +1,4 @@
-"""Document 01's refusals 1 to 6 of a file and a query, written for the tests from the document alone; 0 is sound."""
+"""Refusals 1 to 6 of a file and a query, written for the tests from documents 01 and 02 alone; 0 is sound."""
 PAIR = 2
 
 
@@ -62,11 +62,12 @@ def of_sailings(data):
 
 
 def of_query(query, stops):
-    if len(query) != 8:
+    if len(query) != 8 and len(query) != 10:
         return 6
     source, target, minute, code = (u16(query, PAIR * place) for place in range(4))
+    margin = u16(query, 8) if len(query) == 10 else 1
     known = source < stops and target < stops and source != target
-    return 0 if known and minute <= 10079 and (code == 0 or 4 <= code <= 16) else 6
+    return 0 if known and minute <= 10079 and (code == 0 or 4 <= code <= 16) and 1 <= margin <= 2560 else 6
 
 
 def refusal(sailings, query):

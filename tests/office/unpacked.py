@@ -58,7 +58,8 @@ def chance_files(chance):
     tables = [chance_table(chance) for _ in range(classes)]
     rows = chance_rows(chance, stops, classes, chance.choice((0, 1, 5, 40)))
     source, target = chance.sample(range(stops), 2)
-    query = writer.query_bytes(source, target, chance.choice((0, 590, 10079)), chance.choice((0, 4, 9, 16)))
+    margin = chance.choice((None, None, 1, 256, 2560))
+    query = writer.query_bytes(source, target, chance.choice((0, 590, 10079)), chance.choice((0, 4, 9, 16)), margin)
     names = ""
     if chance.random() < 0.7:
         names += "".join(f"stop {as_word(name)}\n" for name in chance_names(chance, chance.choice((0, 1, stops))))
@@ -101,7 +102,7 @@ def hurt(chance, data):
     if kind == 2:
         return data[:at] + bytes([data[at] ^ 1 << chance.randrange(8)]) + data[at + 1:]
     if kind == 3:
-        return data[:at // 2 * 2] + chance.choice((0, 1, 121, 200, 2000, 10080)).to_bytes(2, "little") + data[at // 2 * 2 + 2:]
+        return data[:at // 2 * 2] + chance.choice((0, 1, 121, 200, 2000, 2561, 10080)).to_bytes(2, "little") + data[at // 2 * 2 + 2:]
     if kind == 4:
         return data[:at] + data[at + chance.choice((1, 2, 12)):]
     if kind == 5:
@@ -131,6 +132,23 @@ def edge_failure(folder, number, changed):
     status, out, err = called("unpack", f"{folder}/old")
     fine = status == 0 and not err if number == 0 else status == 1 and f"refused {number}: row 1 " in err
     return None if fine else f"W with {changed}: ended with {status}: {err}"
+
+
+QUERY = writer.query_bytes()
+QUERIES = (
+    (QUERY, " bound 0\n"), (QUERY + b"\1\0", " bound 0 margin 1\n"), (QUERY + b"\0\x0a", " bound 0 margin 2560\n"),
+    (QUERY + b"\0\0", "margin 0 is not 1 to 2560 ticks"), (QUERY + b"\1\x0a", "margin 2561 is not"), (QUERY + b"\xff\xff", "margin 65535 is not"),
+    (writer.query_bytes(code=3, margin=0), "bound code 3 is not"), (b"", "it has 0 bytes, neither 8 nor 10"), (QUERY[:7], "it has 7 bytes"),
+    (QUERY + b"\1", "it has 9 bytes"), (QUERY + b"\1\0\0", "it has 11 bytes"), (QUERY + b"\1\0\0\0", "it has 12 bytes"),
+)
+
+
+def query_failure(folder, query, piece):
+    """W's query with a margin or another length: how its line ends in the text, or why it is refused."""
+    lay(f"{folder}/old", {"sailings": writer.sailing_file(), "query": query})
+    status, out, err = called("unpack", f"{folder}/old")
+    fine = out.endswith(piece) and not err if status == 0 else not out and f"refused 6: {piece}" in err
+    return None if fine and (status == 0) == piece.endswith("\n") else f"query {query}: ended with {status}: {out}{err}"
 
 
 WRONG_NAMES = (b"stop A\nstop B\nstop C\nstop D\n", b"stop A\nstop A\n", b"class 2 x\n", b"class 0 x\nclass 0 y\n", b"class 0 x\nclass 1 x\n",
@@ -176,6 +194,7 @@ def main():
             failures.append(round_failure(folder, files))
             failures.append(refusal_failure(folder, chance, files, seen))
         failures += [edge_failure(folder, *edge) for edge in EDGES]
+        failures += [query_failure(folder, *case) for case in QUERIES]
         failures += [names_failure(folder, names) for names in WRONG_NAMES]
         failures += [several_failure(folder, *case) for case in several()]
     failures += [f"only {seen.get(number, 0)} files were refused {number}" for number in range(7) if seen.get(number, 0) < 10]

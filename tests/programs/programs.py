@@ -1,9 +1,9 @@
-"""Runs `sheet` and `explain` on files that document 01 draws lines between, and compares all that they print; then every program where
+"""Runs `sheet` and `explain` on files that documents 01 and 02 draw lines between, and compares all that they print; then every program where
 the standard output cannot be written, which must be told in one line on standard error.
 
 usage: programs.py RUNNER FOLDER
 
-What must be printed is written beside each case, from document 01; that of the longest sheet is counted out by its own rule.
+What must be printed is written beside each case, from the documents; that of the longest sheet is counted out by its own rule.
 """
 import fcntl
 import os
@@ -12,7 +12,7 @@ import subprocess
 import sys
 import tempfile
 
-from sailing_file import query_bytes, sailing_file, time
+from sailing_file import query_bytes, sailing_file, time, w_rows_with
 
 W = sailing_file()
 ASK = query_bytes()
@@ -104,6 +104,30 @@ def longest():
     return file, query_bytes(SOURCE, TARGET, 0, 0), sheet, words
 
 
+def with_margin(words, margin):
+    """A plan's words with the line on a margin, which stands behind the one on the rides."""
+    told = f"Margin: {margin} ticks. Of two rides from one stop the earlier is expected to arrive at least that much sooner.\n"
+    return words.replace("\nFrom stop", f"\n{told}From stop")
+
+
+def margins():
+    """W with a margin at both sides of its lines; and W whose 10:50 arrives at 11:01, on which the 10:32 gains 256 ticks."""
+    yield "margin 1", W, query_bytes(margin=1), W_SHEET, W_WORDS
+    for margin in (2, 2560):
+        yield f"margin {margin}", W, query_bytes(margin=margin), W_SHEET, with_margin(W_WORDS, margin)
+    for margin in (0, 2561, 65535):
+        refused = query_refused(f"The query's margin is {margin}, but it must be 1 to 2560 ticks.")
+        yield f"margin {margin}", W, query_bytes(margin=margin), "refused 6\n", refused
+    code = query_refused("The query's bound code is 3, but it must be 0 or 4 to 16.")
+    yield "margin 0 behind bound code 3", W, query_bytes(code=3, margin=0), "refused 6\n", code
+    near = sailing_file(w_rows_with(3, arrival=661))
+    sheet, words = (text.replace("11:30", "11:01").replace("11:15", "11:01") for text in (W_SHEET, W_WORDS))
+    yield "a gain of 256, margin 256", near, query_bytes(margin=256), sheet, with_margin(words, 256)
+    shorter = sheet.replace("plan 3", "plan 2").replace("1 d1 10:32 2 d1 11:00 d1 11:00\n", "")
+    fewer = words.replace("plan: 3", "plan: 2").replace(" by d1 10:32, take the d1 10:32 (trip 1) to stop 2, due at d1 11:00;", "")
+    yield "a gain of 256, margin 257", near, query_bytes(margin=257), shorter, with_margin(fewer, 257)
+
+
 def length_refused(length, found):
     return f"refused 1\nThe file sailings has {length} bytes, but a sailing file has 20 to 27920: it is {found}, or no sailing file.\n"
 
@@ -113,7 +137,7 @@ def query_refused(reason):
 
 
 def query_length(length):
-    return query_refused(f"The query has {length} bytes, not 8.")
+    return query_refused(f"The query has {length} bytes, neither 8 nor 10.")
 
 
 def cases():
@@ -139,9 +163,11 @@ def cases():
     yield "a byte behind W", W + b"\0", ASK, "refused 1\n", NO_TRAILER
     yield "query of 7 bytes", W, ASK[:7], "refused 6\n", query_length(7)
     yield "query of 9 bytes", W, ASK + b"\0", "refused 6\n", query_length(9)
+    yield "query of 11 bytes", W, ASK + b"\1\0\0", "refused 6\n", query_length(11)
     yield "query of 16 bytes", W, ASK + ASK, "refused 6\n", query_length(16)
     yield "query of 17 bytes", W, ASK + ASK + b"\0", "refused 6\n", query_length("at least 16")
     yield "query of 1,000 bytes", W, ASK * 125, "refused 6\n", query_length("at least 16")
+    yield from margins()
     # a wrong file before a wrong query
     yield "both too short", W[-19:], ASK[:7], "refused 1\n", length_refused(19, "cut off")
     file, ask, sheet, words = longest()

@@ -113,15 +113,19 @@ def rows():
 
 def queries():
     yield b"", "refused 6\nThe file query is empty.\n"
-    yield W_QUERY[:1], "refused 6\nThe query has 1 byte, not 8.\n"
-    yield W_QUERY[:7], "refused 6\nThe query has 7 bytes, not 8.\n"
-    yield W_QUERY + b"\0", "refused 6\nThe query has 9 bytes, not 8.\n"
+    yield W_QUERY[:1], "refused 6\nThe query has 1 byte, neither 8 nor 10.\n"
+    yield W_QUERY[:7], "refused 6\nThe query has 7 bytes, neither 8 nor 10.\n"
+    yield W_QUERY + b"\0", "refused 6\nThe query has 9 bytes, neither 8 nor 10.\n"
+    yield W_QUERY + b"\1\0\0", "refused 6\nThe query has 11 bytes, neither 8 nor 10.\n"
     yield query_bytes(source=3), "refused 6\nThe query's source is stop 3, but there are 3 stops, numbered from 0.\n"
     yield query_bytes(target=200), "refused 6\nThe query's target is stop 200, but there are 3 stops, numbered from 0.\n"
     yield query_bytes(source=2), "refused 6\nSource and target of the query are both stop 2.\n"
     yield query_bytes(minute=10080), "refused 6\nThe query's minute is 10080, past the last minute of the week, 10079.\n"
     yield query_bytes(code=3), "refused 6\nThe query's bound code is 3, but it must be 0 or 4 to 16.\n"
     yield query_bytes(code=17), "refused 6\nThe query's bound code is 17, but it must be 0 or 4 to 16.\n"
+    yield query_bytes(code=17, margin=0), "refused 6\nThe query's bound code is 17, but it must be 0 or 4 to 16.\n"
+    yield query_bytes(margin=0), "refused 6\nThe query's margin is 0, but it must be 1 to 2560 ticks.\n"
+    yield query_bytes(margin=2561), "refused 6\nThe query's margin is 2561, but it must be 1 to 2560 ticks.\n"
 
 
 def no_journeys():
@@ -190,12 +194,31 @@ def no_journeys():
     )
 
 
-def plans():
-    yield sailing_file(), W_QUERY, SOUND_W + (
-        "Rides in the plan: 3. Expected arrival: d1 11:15. Latest: d1 11:30.\n"
-        "From stop 0 take the d1 10:00 (trip 0) to stop 1, due at d1 10:30.\n"
+def margin_said(margin):
+    return f"Margin: {margin} ticks. Of two rides from one stop the earlier is expected to arrive at least that much sooner.\n"
+
+
+def w_plan(margin=""):
+    """What is told of W, with what is said of a margin."""
+    return (
+        SOUND_W + "Rides in the plan: 3. Expected arrival: d1 11:15. Latest: d1 11:30.\n" + margin
+        + "From stop 0 take the d1 10:00 (trip 0) to stop 1, due at d1 10:30.\n"
         "Landing at stop 1 by d1 10:32, take the d1 10:32 (trip 1) to stop 2, due at d1 11:00;"
         " by d1 10:50, take the d1 10:50 (trip 3) to stop 2, due at d1 11:30.\n"
+    )
+
+
+def plans():
+    yield sailing_file(), W_QUERY, w_plan()
+    # the least margin is what a query of 8 bytes means; W's rides gain more than the most
+    yield sailing_file(), query_bytes(margin=1), w_plan()
+    yield sailing_file(), query_bytes(margin=256), w_plan(margin_said(256))
+    yield sailing_file(), query_bytes(margin=2560), w_plan(margin_said(2560))
+    # a boat that gains a minute, which is 256 ticks, on the next: a margin above that leaves it out
+    yield sailing_file([(0, 2, 10, 20, 0, 0), (0, 2, 15, 21, 1, 0)]), query_bytes(0, 2, 10, margin=257), (
+        "The file is sound. Stops: 3. Rows: 2. Classes: 2.\n"
+        "Rides in the plan: 1. Expected arrival: d1 00:21. Latest: d1 00:21.\n" + margin_said(257)
+        + "From stop 0 take the d1 00:15 (trip 1) to stop 2, due at d1 00:21.\n"
     )
     # one ride over two rows, worth 169,920 ticks: 663.75 minutes, and 670 at the latest
     yield sailing_file([(0, 1, 600, 620, 0, 1), (1, 2, 625, 660, 0, 1)]), W_QUERY, (

@@ -52,6 +52,7 @@ def long_plan():
 
 W = sailing_file()
 ASK = query_bytes()
+GAINS = sailing_file([(0, 2, 10, 20, 0, 0), (0, 2, 15, 21, 1, 0)])
 CASES = [
     # W as document 01 prints it; within a bound of 4 and of 5 quarters; tables ahead of rows; asked at 600 and at 601
     (W, ASK, W_SHEET),
@@ -92,6 +93,17 @@ CASES = [
     (W, ASK + b"\0", refused(6)),
     (W, ASK + ASK, refused(6)),
     (sailing_file(w_rows_with(2, board=2)), b"", refused(4)),
+    # E1: margins of 1 and 2,560 change nothing of W; 0 and 2,561 and 11 bytes are refused, the file's own refusal first
+    (W, query_bytes(margin=1), W_SHEET),
+    (W, query_bytes(margin=2560), W_SHEET),
+    (W, query_bytes(margin=0), refused(6)),
+    (W, query_bytes(margin=2561), refused(6)),
+    (W, query_bytes(margin=1) + b"\0", refused(6)),
+    (sailing_file(w_rows_with(2, board=2)), query_bytes(margin=0), refused(4)),
+    # a boat that gains a minute, which is 256 ticks, on the next; with a bound too, which E gives whatever the margin
+    (GAINS, query_bytes(0, 2, 10, 0, 256), "plan 1 d1 00:20 d1 00:20\n0 d1 00:10 2 d1 00:20 d1 00:20\n"),
+    (GAINS, query_bytes(0, 2, 10, 0, 257), "plan 1 d1 00:21 d1 00:21\n0 d1 00:15 2 d1 00:21 d1 00:21\n"),
+    (GAINS, query_bytes(0, 2, 10, 4, 257), "plan 1 d1 00:20 d1 00:20\n0 d1 00:10 2 d1 00:20 d1 00:20\n"),
     # no rows: no journey, and a wrong query first
     (sailing_file([]), ASK, refused(8)),
     (sailing_file([]), query_bytes(0, 0, 590, 0), refused(6)),

@@ -100,6 +100,11 @@ Seen by_subject(const Bytes &file, const Call &call) {
   const uint8_t *bytes = file.empty() ? &nothing : file.data();
   if (call.entry == Entry::check)
     trial_check(bytes, file.size(), answer.start(), 6);
+  else if (call.entry == Entry::plan && query.margin)
+    trial_plan_margin(bytes, file.size(), query.source, query.target,
+                        query.minute, query.code, *query.margin, work.start(),
+                        work.length(), plan.start(), plan.length(),
+                        answer.start(), 6);
   else if (call.entry == Entry::plan)
     trial_plan(bytes, file.size(), query.source, query.target, query.minute,
                  query.code, work.start(), work.length(), plan.start(),
@@ -140,24 +145,26 @@ std::string words_of(const Call &call) {
          number(call.query.source) + number(call.query.target) +
          number(call.query.minute) + number(call.query.code) +
          number(call.work_length) + number(call.plan_length) +
-         number(call.dirt);
+         number(call.dirt) +
+         (call.query.margin ? number(*call.query.margin) : "");
 }
 
 bool call_from_words(const std::vector<std::string> &words, Call &call) {
-  if (words.size() != 8) return false;
+  if (words.size() != 8 && words.size() != 9) return false;
   bool known = false;
   for (size_t entry = 0; entry < 3; ++entry)
     if (words[0] == ENTRY_NAMES[entry]) {
       call.entry = static_cast<Entry>(entry);
       known = true;
     }
-  std::array<uint32_t, 7> values;
-  for (size_t place = 0; place < values.size(); ++place)
-    values[place] = static_cast<uint32_t>(std::stoul(words[place + 1]));
+  Numbers values;
+  for (size_t place = 1; place < words.size(); ++place)
+    values.push_back(static_cast<uint32_t>(std::stoul(words[place])));
   call.query = {values[0], values[1], values[2], values[3]};
   call.work_length = values[4];
   call.plan_length = values[5];
   call.dirt = values[6];
+  if (values.size() == 8) call.query.margin = values[7];
   return known;
 }
 

@@ -1,4 +1,5 @@
-// The printed cases of document 01, run on the definitions.
+// The printed cases of document 01 and both sides of each line of request E1,
+// run on the definitions and, if there is one, on the subject.
 #include <cstdio>
 #include <string>
 
@@ -34,8 +35,16 @@ Draft case_w() {
   return draft;
 }
 
+Seen answered(const Bytes &file, const Call &call) {
+  const Seen defined = by_definitions(file, call);
+  if (subject_is_there())
+    expect(same(defined, by_subject(file, call)),
+           ("the subject: " + words_of(call)).c_str());
+  return defined;
+}
+
 Seen planned(const Bytes &file, const Query &query) {
-  return by_definitions(file, {Entry::plan, query, 2600, 30, 5});
+  return answered(file, {Entry::plan, query, 2600, 30, 5});
 }
 
 Seen planned(const Draft &draft, const Query &query) {
@@ -99,8 +108,8 @@ void bounds_and_minutes() {
   const Seen bounded = planned(draft, {0, 2, 590, 4});
   expect(bounded.answer == Answer{0, 0, 3, 172800, 690, 690}, "5: q 4");
   expect(holds_rides(bounded, W_RIDES), "5: same plan");
-  const Seen earliest = by_definitions(
-      written(draft), {Entry::earliest, W_QUERY, 2516, 0, 5});
+  const Seen earliest =
+      answered(written(draft), {Entry::earliest, W_QUERY, 2516, 0, 5});
   expect(earliest.answer == Answer{0, 0, 690, 0, 0, 0}, "5: E 690");
   expect(planned(draft, {0, 2, 590, 5}).answer[5] == 715, "6: bound 715");
   expect(holds_rides(planned(draft, {0, 2, 600, 0}), W_RIDES), "7: T 600");
@@ -174,6 +183,94 @@ void least_and_greatest() {
   expect(check_file(full).refusal.number == 1, "27,921 with a sound trailer");
 }
 
+// ------------------------------------------------------ request E1: margins
+
+struct Boat {
+  uint32_t departure, ticks;
+};
+
+// W's first ride, and from its landing stop boats of these worths.
+Draft boats(const std::vector<Boat> &from_stop_1) {
+  Draft draft = case_w();
+  draft.rows.resize(1);
+  for (const Boat &boat : from_stop_1)
+    add_worth(draft, 1, 2, boat.departure, boat.ticks);
+  return draft;
+}
+
+// The rows boarded in the plan.
+Numbers boarded(const Draft &draft, uint32_t margin) {
+  const Seen seen = planned(draft, {0, 2, 590, 0, margin});
+  Numbers rows;
+  for (size_t ride = 0; ride < seen.answer[2]; ++ride)
+    rows.push_back(seen.plan[3 * ride]);
+  return rows;
+}
+
+constexpr uint32_t LAST = 256 * 700;  // what the last boat is worth
+
+void gains_the_margin() {
+  using N = Numbers;
+  expect(boarded(boats({{632, LAST - 10}, {650, LAST}}), 10) == N{0, 1, 2},
+         "E1: gains exactly the margin");
+  expect(boarded(boats({{632, LAST - 9}, {650, LAST}}), 10) == N{0, 2},
+         "E1: one tick less");
+  expect(boarded(boats({{650, LAST}}), 2560) == N{0, 1},
+         "E1: a stop's first row");
+  expect(boarded(boats({{632, LAST - 20}, {636, LAST - 10}, {650, LAST}}),
+                 10) == N{0, 1, 2, 3},
+         "E1: gains the margin twice");
+  expect(boarded(boats({{632, LAST - 19}, {636, LAST - 10}, {650, LAST}}),
+                 10) == N{0, 2, 3},
+         "E1: compared with the current first, not with a later row");
+  expect(boarded(boats({{632, LAST - 10}, {636, LAST - 9}, {650, LAST}}),
+                 10) == N{0, 1, 3},
+         "E1: compared with a chosen row, not with one left out");
+}
+
+void same_minute() {
+  using N = Numbers;
+  const Boat late{650, LAST + 1000}, first{636, LAST};
+  expect(boarded(boats({{636, LAST - 10}, first, late}), 10) == N{0, 1, 3},
+         "E1: replaces the row of its minute");
+  expect(boarded(boats({{636, LAST - 9}, first, late}), 10) == N{0, 2, 3},
+         "E1: one tick less in the same minute");
+  expect(boarded(boats({{636, LAST}, first, late}), 1) == N{0, 2, 3},
+         "E1: equal in the same minute");
+  expect(boarded(boats({{636, LAST - 1}, first, late}), 1) == N{0, 1, 3},
+         "E1: a tick better in the same minute, margin 1");
+}
+
+void least_and_greatest_margin() {
+  expect(holds_rides(planned(case_w(), {0, 2, 590, 0, 1}), W_RIDES),
+         "E1: W with margin 1");
+  expect(holds_rides(planned(case_w(), {0, 2, 590, 0, 2560}), W_RIDES),
+         "E1: W with margin 2,560");
+  for (uint32_t margin : {0u, 2561u, 65535u, 65536u, 65537u, 4294967295u}) {
+    const Query query{0, 2, 590, 0, margin}, late{0, 2, 601, 0, margin};
+    expect(refused(planned(case_w(), query), 6), "E1: margin out of range");
+    expect(refused(planned(case_w(), late), 6), "E1: 6 before 8");
+    expect(refused(answered(written(case_w()), {Entry::plan, query, 0, 0, 5}),
+                   6),
+           "E1: 6 before 7");
+    expect(refused(planned(Bytes(19), query), 1), "E1: 1 before 6");
+  }
+}
+
+// The margin leaves out a boat at stop 1 and, since that one is 9 ticks worse
+// then, the first ride from the source.
+void later_on_every_ride() {
+  Draft draft = boats({{632, LAST - 9}, {650, LAST}});
+  draft.rows[0].sailing_class = 0;
+  add_worth(draft, 0, 2, 620, LAST + 9);
+  std::swap(draft.rows[1], draft.rows[3]);  // by departure again
+  std::swap(draft.rows[2], draft.rows[3]);
+  expect(planned(draft, {0, 2, 590, 0, 1}).answer[3] == LAST - 9,
+         "E1: margin 1 over two rides");
+  expect(planned(draft, {0, 2, 590, 0, 10}).answer[3] == LAST + 9,
+         "E1: later by (margin - 1) x 2");
+}
+
 }  // namespace
 
 int main() {
@@ -184,6 +281,10 @@ int main() {
   shares_and_house();
   edges();
   least_and_greatest();
-  std::printf("%d printed cases hold, %d fail\n", passed, failures);
+  gains_the_margin();
+  same_minute();
+  least_and_greatest_margin();
+  later_on_every_ride();
+  std::printf("%d fixed cases hold, %d fail\n", passed, failures);
   return failures == 0 ? 0 : 1;
 }

@@ -36,7 +36,8 @@ std::string two_digits(uint32_t number) {
 const char *const ENTRIES[3] = {"check", "plan", "earliest"};
 
 void count_answer(const Call &call, const Answer &answer) {
-  const std::string entry = ENTRIES[static_cast<size_t>(call.entry)];
+  const std::string entry = ENTRIES[static_cast<size_t>(call.entry)] +
+                            std::string(call.query.margin ? ", margin" : "");
   count(entry + (answer[0] == 0 ? ": answered"
                                 : ": refused " + std::to_string(answer[0])));
   if (call.entry != Entry::plan || answer[0] != 0) return;
@@ -186,6 +187,8 @@ std::string demand_3(const Sailings &sailings, const Query &query,
     count("demand 3: plans with a ride caught only at share 0");
   if (census.longest_way < plan.rides.size())
     count("demand 3: plans longer than their longest way");
+  if (census.longest_way != longest_way(sailings, query, plan))
+    return "demand 3: the longest way, ride by ride, is another";
   if (census.holds()) return "";
   return std::string("demand 3:") +
          (census.ride_always_there ? "" : " no ride there") +
@@ -196,17 +199,113 @@ std::string demand_3(const Sailings &sailings, const Query &query,
          (census.mean_within_ticks ? "" : " mean too early");
 }
 
+// ------------------------------------------------------ request E1: margins
+
+const char *const ABOVE_1 = "margin above 1: plans";
+const char *const OTHER_RIDES = "margin above 1: other rides than margin 1";
+const char *const LATER = "margin above 1: expected later than margin 1";
+const char *const BY_ALL = "margin above 1: later by (margin - 1) x L";
+const char *const BY_ALL_LONG =
+    "margin above 1: later by (margin - 1) x L, L above 1";
+
+// "one is chosen only if its worth is at most that of the stop's current first
+// chosen row minus the margin"
+bool earlier_rides_gain(const Sailings &sailings, const Plan &plan,
+                        uint32_t margin) {
+  for (size_t later = 0; later < plan.rides.size(); ++later)
+    for (size_t earlier = 0; earlier < later; ++earlier)
+      if (boarded_row(sailings, plan.rides[earlier].ride).boarding ==
+              boarded_row(sailings, plan.rides[later].ride).boarding &&
+          plan.rides[earlier].worth + margin > plan.rides[later].worth)
+        return false;
+  return true;
+}
+
+// "Margin 1 is today's rule": every row's worth, and whether it is chosen.
+bool margin_1_is_todays_rule(const Sailings &sailings, uint32_t target,
+                             const Bound &bound) {
+  Worths today(sailings, target, bound), one(sailings, target, bound, 1);
+  for (size_t row = 0; row < sailings.rows.size(); ++row)
+    if (today.worth(row) != one.worth(row) ||
+        today.chosen(row) != one.chosen(row))
+      return false;
+  return true;
+}
+
+bool same_rides(const Plan &one, const Plan &two) {
+  return std::equal(one.rides.begin(), one.rides.end(), two.rides.begin(),
+                    two.rides.end(),
+                    [](const PlannedRide &here, const PlannedRide &there) {
+                      return here.ride.boards == there.ride.boards &&
+                             here.ride.leaves == there.ride.leaves;
+                    });
+}
+
+// "For others the expected arrival exceeds margin 1's by at most margin times
+// the most rides along a way through margin 1's plan." Here the margin less 1:
+// what gains the whole margin is not left out.
+std::string later_by_too_much(const Sailings &sailings, const Query &query,
+                              const Plan &plan, const Plan &least) {
+  const uint32_t way = longest_way(sailings, query, least);
+  const uint64_t most = least.expected + uint64_t{*query.margin - 1} * way;
+  if (plan.expected < least.expected) return "E1: earlier than margin 1's";
+  if (plan.expected > most)
+    return "E1: later than margin 1's by more than (margin - 1) x " +
+           std::to_string(way);
+  const bool by_all = plan.expected == most;
+  count(ABOVE_1);
+  count(OTHER_RIDES, !same_rides(plan, least));
+  count(LATER, plan.expected > least.expected);
+  count(BY_ALL, by_all);
+  count(BY_ALL_LONG, by_all && way > 1);
+  return "";
+}
+
+std::string beside_margin_1(const Sailings &sailings, const Query &query,
+                            const std::optional<Plan> &plan) {
+  Query without = query;
+  without.margin.reset();
+  const std::optional<Plan> least = plan_of(sailings, without);
+  if (plan.has_value() != least.has_value())
+    return "E1: the margin decides whether there is a plan";
+  if (!plan) return "";
+  if (plan->bound != least->bound) return "E1: the margin moves the bound";
+  if (*query.margin > 1)
+    return later_by_too_much(sailings, query, *plan, *least);
+  return margin_1_is_todays_rule(sailings, query.target, plan->bound)
+             ? ""
+             : "E1: margin 1 is not today's rule";
+}
+
+// A run in which no margin made a difference shows nothing.
+bool margins_were_tried() {
+  bool tried = true;
+  for (const char *kind : {ABOVE_1, OTHER_RIDES, LATER, BY_ALL, BY_ALL_LONG})
+    if (tally[kind] == 0) {
+      std::printf("never tried: %s\n", kind);
+      tried = false;
+    }
+  return tried;
+}
+
 // What the definitions themselves must keep; empty if they do.
 std::string doubts(const Bytes &file, const Call &call, bool enumerate) {
   const Sailings sailings = check_file(file).sailings;
   const std::optional<Plan> plan = plan_of(sailings, call.query);
   if (plan && !plan_is_itself_safe(sailings, call.query, *plan))
     return "the plan is not a safe plan with these worths";
-  if (plan) count_features(sailings, call.query, *plan);
+  if (plan &&
+      !earlier_rides_gain(sailings, *plan, call.query.margin.value_or(1)))
+    return "an earlier ride of a stop gains less than the margin";
+  if (plan && !call.query.margin)
+    count_features(sailings, call.query, *plan);
   std::string doubt;
-  if (enumerate && all_rides(sailings).size() <= MOST_RIDES_FOR_SETS)
+  if (call.query.margin)
+    doubt = beside_margin_1(sailings, call.query, plan);
+  else if (enumerate && all_rides(sailings).size() <= MOST_RIDES_FOR_SETS)
     doubt = demand_2(sailings, call.query, plan);
-  if (!doubt.empty() || !plan || !enumerate || plan->rides.size() > 8 ||
+  const bool walk = enumerate || call.query.margin;
+  if (!doubt.empty() || !plan || !walk || plan->rides.size() > 8 ||
       !choices_of_delays(sailings, *plan, MOST_CHOICES))
     return doubt;
   return demand_3(sailings, call.query, *plan);
@@ -227,7 +326,8 @@ bool is_meant_sound(const Sample &made) {
 // A network has too many rides for demand 2 but often a short plan for 3.
 bool is_tiny(const Sample &made) {
   return made.shape == Shape::tiny || made.shape == Shape::relay ||
-         made.shape == Shape::passing || made.shape == Shape::network;
+         made.shape == Shape::passing || made.shape == Shape::network ||
+         made.shape == Shape::close;
 }
 
 void try_call(const Options &options, uint64_t seed, const Sample &made,
@@ -246,7 +346,7 @@ void try_call(const Options &options, uint64_t seed, const Sample &made,
   }
   const bool decided = defined.answer[0] == 0 || defined.answer[0] == 8;
   if (call.entry != Entry::plan || !decided) return;
-  if (!options.self && !enumerate) return;
+  if (!options.self && !enumerate && !call.query.margin) return;
   const std::string doubt = doubts(made.file, call, enumerate);
   if (!doubt.empty()) complain(seed, made.file, call, doubt);
 }
@@ -323,6 +423,7 @@ int main(int words, char **arguments) {
   try_house(options);
   try_files(options);
   print_tally();
+  if (!margins_were_tried()) return 1;
   std::printf("%llu files from seed %llu, %s: no difference, %.1f s\n",
               static_cast<unsigned long long>(options.files),
               static_cast<unsigned long long>(options.seed),

@@ -1,4 +1,5 @@
-// The rules of document 01, transcribed sentence by sentence.
+// The rules of document 01 and of request E1 of document 02, transcribed
+// sentence by sentence.
 //
 // Every function stands under the sentence that it transcribes. Nothing here
 // is meant to be fast: worths and journeys are recursions over the definitions
@@ -59,6 +60,8 @@ SailingClass house_class(uint32_t pair);
 
 struct Query {
   uint32_t source, target, minute, code;
+  // No value means that document 01's own rule chooses the rows.
+  std::optional<uint32_t> margin = std::nullopt;
 };
 
 struct Ride {
@@ -84,6 +87,7 @@ std::optional<uint32_t> earliest_safe_arrival(const Sailings &sailings,
 std::optional<uint32_t> earliest_by_listing(const Sailings &sailings,
                                             const Query &query);
 bool code_is_known(uint32_t code);
+bool margin_is_known(uint32_t margin);
 Bound bound_of(const Query &query, uint32_t earliest);
 
 // ------------------------------------------------- worths and chosen rows
@@ -94,7 +98,8 @@ uint32_t worth_elsewhere(const SailingClass &sailing_class,
 
 class Worths {
  public:
-  Worths(const Sailings &sailings, uint32_t target, Bound bound);
+  Worths(const Sailings &sailings, uint32_t target, Bound bound,
+         std::optional<uint32_t> margin = std::nullopt);
   std::optional<uint32_t> worth(size_t row);
   bool chosen(size_t row);
   std::optional<size_t> first_chosen(uint32_t stop, uint32_t minute);
@@ -103,6 +108,7 @@ class Worths {
 
  private:
   bool decide(size_t row);
+  void take(size_t row, uint32_t margin);
   enum class Known : uint8_t { no, yes };
   const Sailings &sailings_;
   uint32_t target_;
@@ -198,6 +204,9 @@ struct WalkCensus {
 // The number of choices of delays, or nothing if above the limit.
 std::optional<uint64_t> choices_of_delays(const Sailings &sailings,
                                           const Plan &plan, uint64_t limit);
+// The most rides on a way through the plan, ride by ride: plans of any length.
+uint32_t longest_way(const Sailings &sailings, const Query &query,
+                     const Plan &plan);
 // At most eight rides, so that all sums fit 128 bits.
 WalkCensus census_of_walks(const Sailings &sailings, const Query &query,
                            const Plan &plan);

@@ -32,6 +32,11 @@ struct Draft {
 
 Bytes written(const Draft &draft);
 
+// Adds a row straight to the target that is worth exactly these ticks, with a
+// class and a trip of its own.
+void add_worth(Draft &draft, uint32_t stop, uint32_t target,
+               uint32_t departure, uint32_t ticks);
+
 enum class Entry { check, plan, earliest };
 
 struct Call {
@@ -42,10 +47,10 @@ struct Call {
 };
 
 enum class Shape {
-  tiny, relay, small, network, passing, empty, medium, damaged, edge, noise,
-  large
+  tiny, relay, small, network, passing, empty, medium, close, damaged, edge,
+  noise, large
 };
-constexpr size_t SHAPES = 11;
+constexpr size_t SHAPES = 12;
 const char *name_of(Shape shape);
 
 struct Sample {

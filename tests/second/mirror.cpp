@@ -16,6 +16,17 @@ void give(const Answer &from, uint32_t *answer) {
   std::copy(from.begin(), from.end(), answer);
 }
 
+void give_plan(const Bytes &file, const Query &query, uint32_t *work,
+               size_t work_len, uint32_t *plan, size_t plan_len,
+               uint32_t *answer) {
+  Numbers lent_work(work, work + work_len), lent_plan(plan, plan + plan_len);
+  const PlanAnswer got = plan_call(file, query, lent_work, lent_plan);
+  std::copy(lent_work.begin(), lent_work.end(), work);
+  std::copy(lent_plan.begin(), lent_plan.end(), plan);
+  give({got.number, got.place, got.rides, got.expected, got.latest, got.bound},
+       answer);
+}
+
 }  // namespace
 
 extern "C" {
@@ -34,14 +45,17 @@ void trial_plan(const uint8_t *file, size_t file_len, uint32_t source,
                   uint32_t target, uint32_t minute, uint32_t code,
                   uint32_t *work, size_t work_len, uint32_t *plan,
                   size_t plan_len, uint32_t *answer, size_t) {
-  Numbers lent_work(work, work + work_len), lent_plan(plan, plan + plan_len);
-  const PlanAnswer got =
-      plan_call(bytes_of(file, file_len), {source, target, minute, code},
-                lent_work, lent_plan);
-  std::copy(lent_work.begin(), lent_work.end(), work);
-  std::copy(lent_plan.begin(), lent_plan.end(), plan);
-  give({got.number, got.place, got.rides, got.expected, got.latest, got.bound},
-       answer);
+  give_plan(bytes_of(file, file_len), {source, target, minute, code}, work,
+            work_len, plan, plan_len, answer);
+}
+
+void trial_plan_margin(const uint8_t *file, size_t file_len, uint32_t source,
+                         uint32_t target, uint32_t minute, uint32_t code,
+                         uint32_t margin, uint32_t *work, size_t work_len,
+                         uint32_t *plan, size_t plan_len, uint32_t *answer,
+                         size_t) {
+  give_plan(bytes_of(file, file_len), {source, target, minute, code, margin},
+            work, work_len, plan, plan_len, answer);
 }
 
 void trial_earliest(const uint8_t *file, size_t file_len, uint32_t source,

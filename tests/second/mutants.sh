@@ -146,6 +146,33 @@ mutant "work left dirty on 8" plan \
 mutant "plan slice may be one shorter" plan \
   's/slice.size() < 3 \* sailings.rows.size()/slice.size() + 1 < 3 * sailings.rows.size()/'
 mutant "earliest reads the bound code" plan 's/query.minute, 0};/query.minute, 3};/'
+# request E1
+mutant "must gain more than the margin" worths \
+  's/+ margin > \*worth(\*first)/+ margin >= *worth(*first)/'
+mutant "compared with the stop's last chosen row" worths \
+  '/^void Worths::take/,/^}/s/      first_chosen(here.boarding, here.departure);/      first_chosen(here.boarding, here.departure);\n  size_t last = 0;\n  for (size_t other = row + 1; other < chosen_.size(); ++other) if (chosen_[other] \&\& sailings_.rows[other].boarding == here.boarding) last = other;/; s/> \*worth(\*first)) return;/> *worth(last)) return;/'
+mutant "compared with every later row, chosen or not" worths \
+  's/^  if (first && \*worth(row) + margin/  for (size_t other = row + 1; other < chosen_.size(); ++other) if (sailings_.rows[other].boarding == here.boarding \&\& worth(other) \&\& *worth(row) + margin > *worth(other)) return;\n&/'
+mutant "both rows of a minute stay" worths 's/    chosen_\[\*first\] = false;/    ;/'
+mutant "no margin in the same minute" worths \
+  's/\*worth(row) + margin >/*worth(row) + (sailings_.rows[*first].departure == here.departure ? 1 : margin) >/'
+mutant "the margin ignored" worths 's/take(row - 1, \*margin)/take(row - 1, 1)/'
+mutant "margin counted in minutes" worths 's/take(row - 1, \*margin)/take(row - 1, *margin * 256)/'
+mutant "margin at the source alone" plan \
+  's/^  Worths worths(sailings, query.target, plan.bound, query.margin);/  Worths with(sailings, query.target, plan.bound, query.margin), worths(sailings, query.target, plan.bound);/; s/= worths.first_chosen(query.source/= with.first_chosen(query.source/'
+mutant "margin in E" rides \
+  's/^class Journeys {/uint32_t margin = 1;\n&/; s/^        take_less(least, boarding_row(row));/        if (const Earliest its = boarding_row(row); its \&\& (!least || 256 * *its + margin <= 256 * *least)) least = its;/; s/^  return Journeys(sailings, query.target, true)/  margin = query.margin.value_or(1);\n&/'
+mutant "margin in the bound" plan \
+  's/bound_of(query, \*earliest)/bound_of(query, *earliest + query.margin.value_or(1) \/ 256)/'
+mutant "rides stay aboard within the margin" plan \
+  's/^Ride ride_of_chosen/uint32_t margin = 1;\n&/; s/worths.worth(\*next) != worths.worth(row)) return/!worths.worth(*next) || *worths.worth(*next) >= *worths.worth(row) + margin) return/; s/^  Worths worths(sailings, query.target/  margin = query.margin.value_or(1);\n&/'
+mutant "margin 0 taken" rides 's/1 <= margin && //'
+mutant "margin 2,561 taken" rides 's/margin <= 2560/margin <= 2561/'
+mutant "margin 2,560 refused" rides 's/margin <= 2560/margin < 2560/'
+mutant "margins of two bytes" rides \
+  's/{ return 1 <= margin/{ margin \&= 65535; return 1 <= margin/'
+mutant "margin refused after the slices" plan \
+  's/^  if (!query_is_right(sailings, query)) return plan_refused(6, 0);/  Query without = query; without.margin.reset();\n  if (!query_is_right(sailings, without)) return plan_refused(6, 0);/; s/^  const std::optional<Plan> plan = plan_of(sailings, query);/  if (!query_is_right(sailings, query)) return plan_refused(6, 0);\n&/'
 mutant "house shares rounded up" house 's|4096 \* above / below|(4096 * above + below - 1) / below|'
 mutant "house tail rising too slowly" house 's/31 \* (x - m)/30 * (x - m)/'
 echo "$noticed noticed, $missed missed"

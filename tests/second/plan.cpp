@@ -1,5 +1,5 @@
 // Document 01: the plan, whole calls with refusals 1 to 8, and later contents
-// of the lent slices.
+// of the lent slices. The margin is E1's.
 #include "definitions.hpp"
 
 #include <algorithm>
@@ -57,7 +57,7 @@ std::optional<Plan> plan_of(const Sailings &sailings, const Query &query) {
   if (!earliest) return std::nullopt;
   Plan plan;
   plan.bound = bound_of(query, *earliest);
-  Worths worths(sailings, query.target, plan.bound);
+  Worths worths(sailings, query.target, plan.bound, query.margin);
   const size_t first = worths.first_chosen(query.source, query.minute).value();
   std::vector<bool> held(sailings.rows.size());
   hold(sailings, worths, query.target, first, held);
@@ -74,11 +74,12 @@ std::optional<Plan> plan_of(const Sailings &sailings, const Query &query) {
 namespace {
 
 // "6 | a stop not below S, source equals target, T above 10,079, q not 0 or 4
-// to 16"
+// to 16". E1: "a margin outside its range is 6, after q"
 bool query_is_right(const Sailings &sailings, const Query &query) {
   return query.source < sailings.stops && query.target < sailings.stops &&
          query.source != query.target && query.minute <= 10079 &&
-         code_is_known(query.code);
+         code_is_known(query.code) &&
+         (!query.margin || margin_is_known(*query.margin));
 }
 
 size_t work_needed(const Sailings &sailings) {

@@ -127,6 +127,9 @@ bool code_is_known(uint32_t code) {
   return code == 0 || (4 <= code && code <= 16);
 }
 
+// E1: "a margin of 1 to 2,560 ticks"
+bool margin_is_known(uint32_t margin) { return 1 <= margin && margin <= 2560; }
+
 // "The bound is T + q(E-T)/4 rounded down."
 Bound bound_of(const Query &query, uint32_t earliest) {
   if (query.code == 0) return std::nullopt;

@@ -1,5 +1,5 @@
 #!/bin/sh
-# Builds and runs everything: the printed cases first, then the comparison.
+# Builds and runs everything: the fixed cases first, then the comparison.
 #   sh run.sh                          the definitions alone
 #   sh run.sh LIBRARY [OPTION..]       against the subject in LIBRARY; with no option both halves of 100,000 files at once
 # A difference is saved in the current directory, or in `first` or `last`, a half's own. CXX names another compiler, RUN what runs its programs.
@@ -13,26 +13,25 @@ for part in file_check house rides worths plan sheet safe_plans walk generate; d
   $build -c "$here/$part.cpp" -o "$place/$part.o" &
 done
 wait
-alone="$here/calls.cpp -DWITHOUT_SUBJECT"
-$build "$here/cases.cpp" $alone "$place"/*.o -o "$place/cases"
+# the subject, if one is named, behind what calls it
+if [ $# -gt 0 ]; then subject="$1 ${SUBJECT_FLAGS:-}"; else subject=-DWITHOUT_SUBJECT; fi
+for program in cases compare; do
+  $build "$here/$program.cpp" "$here/calls.cpp" "$place"/*.o $subject -o "$place/$program"
+done
 ${RUN:-} "$place/cases"
 if [ $# -eq 0 ]; then
-  $build "$here/compare.cpp" $alone "$place"/*.o -o "$place/compare"
   ${RUN:-} "$place/compare" --self --every 1
-else
-  library=$1
-  shift
-  $build "$here/compare.cpp" "$here/calls.cpp" "$place"/*.o "$library" \
-    ${SUBJECT_FLAGS:-} -o "$place/compare"
-  if [ $# -gt 0 ]; then
-    ${RUN:-} "$place/compare" "$@"
-    exit
-  fi
-  mkdir -p first last
-  (cd first && exec ${RUN:-} "$place/compare" --files 50000 --seed 1) &
-  first=$!
-  ended=0
-  (cd last && exec ${RUN:-} "$place/compare" --files 50000 --seed 50001) || ended=$?
-  wait "$first"
-  exit "$ended"
+  exit
 fi
+shift
+if [ $# -gt 0 ]; then
+  ${RUN:-} "$place/compare" "$@"
+  exit
+fi
+mkdir -p first last
+(cd first && exec ${RUN:-} "$place/compare" --files 50000 --seed 1) &
+first=$!
+ended=0
+(cd last && exec ${RUN:-} "$place/compare" --files 50000 --seed 50001) || ended=$?
+wait "$first"
+exit "$ended"

@@ -92,7 +92,32 @@ Large whole(const Plan &plan) {
   return product;
 }
 
+// The most rides from this one of the plan on.
+uint32_t longest_from(const Sailings &sailings, const Query &query,
+                      const Plan &plan, size_t place,
+                      std::vector<uint32_t> &known) {
+  if (known[place] != 0) return known[place];
+  const Ride &ride = plan.rides[place].ride;
+  const uint32_t stop = left_row(sailings, ride).landing;
+  uint32_t most = 0;
+  for (uint32_t delay = 0;
+       stop != query.target && delay <= maximum(sailings, plan.rides[place]);
+       ++delay)
+    if (const std::optional<size_t> next = first_leaving(
+            sailings, plan, stop, arrival(sailings, ride) + delay))
+      most = std::max(most, longest_from(sailings, query, plan, *next, known));
+  return known[place] = 1 + most;
+}
+
 }  // namespace
+
+uint32_t longest_way(const Sailings &sailings, const Query &query,
+                     const Plan &plan) {
+  std::vector<uint32_t> known(plan.rides.size(), 0);
+  const std::optional<size_t> first =
+      first_leaving(sailings, plan, query.source, query.minute);
+  return longest_from(sailings, query, plan, first.value(), known);
+}
 
 std::optional<uint64_t> choices_of_delays(const Sailings &sailings,
                                           const Plan &plan, uint64_t limit) {

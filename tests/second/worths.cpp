@@ -1,4 +1,5 @@
-// Document 01, "Expected arrival in ticks": worths and chosen rows.
+// Document 01, "Expected arrival in ticks": worths and chosen rows; with a
+// margin, E1's rule chooses.
 #include "definitions.hpp"
 
 namespace second {
@@ -29,14 +30,33 @@ uint32_t worth_elsewhere(const SailingClass &sailing_class,
   return static_cast<uint32_t>(divided_rounded_up(sum, 4096));
 }
 
-Worths::Worths(const Sailings &sailings, uint32_t target, Bound bound)
+Worths::Worths(const Sailings &sailings, uint32_t target, Bound bound,
+               std::optional<uint32_t> margin)
     : sailings_(sailings),
       target_(target),
       bound_(bound),
       worth_known_(sailings.rows.size()),
-      chosen_known_(sailings.rows.size()),
+      chosen_known_(sailings.rows.size(), margin ? Known::yes : Known::no),
       worth_(sailings.rows.size()),
-      chosen_(sailings.rows.size()) {}
+      chosen_(sailings.rows.size()) {
+  if (!margin) return;
+  for (size_t row = sailings.rows.size(); row > 0; --row)
+    take(row - 1, *margin);
+}
+
+// E1: "Rows are taken from last to first; one is chosen only if its worth is at
+// most that of the stop's current first chosen row minus the margin, or if the
+// stop has none yet; in the same minute it replaces that row."
+void Worths::take(size_t row, uint32_t margin) {
+  const Row &here = sailings_.rows[row];
+  if (here.boarding == target_ || !worth(row)) return;
+  const std::optional<size_t> first =
+      first_chosen(here.boarding, here.departure);
+  if (first && *worth(row) + margin > *worth(*first)) return;
+  if (first && sailings_.rows[*first].departure == here.departure)
+    chosen_[*first] = false;
+  chosen_[row] = true;
+}
 
 // "A row's worth is the least over getting off (..) and staying on to the
 // trip's next row. It has no worth if none of these is open."

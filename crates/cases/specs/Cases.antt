@@ -1,4 +1,4 @@
--- Document 01, "Both sides of each line": the cases marked P, as what the definitions answer beside what the document says.
+-- Document 01, "Both sides of each line": the cases marked P, and document 02, E1, as what the definitions answer beside what the documents say.
 use Prim.Native.Nat.{ℕ, _+_, _*_}
 use mathlib.Core.List.{List, [], _∷_, _++_, map}
 use mathlib.Core.Option.{Option, none, some}
@@ -10,10 +10,11 @@ use Rattle.file_layout.specs.CaseW.{caseW}
 use Rattle.file_encoding.specs.Encode.{encode}
 use Rattle.house.specs.HouseShare.{houseShare, houseAnswer}
 use Rattle.query.specs.declared.Query.{Query}
-use Rattle.query.specs.Query.{queryOf}
+use Rattle.query.specs.Query.{leastMargin, mostMargin, queryOf, withMargin}
 use Rattle.plans.specs.Chosen.{inTicks, scanned, worthOf}
 use Rattle.plans.specs.Plan.{chosenFor}
 use Rattle.plans.specs.Examples.{Case, wWith, w, wTwice, oneTrip, seldomLate}
+use Rattle.plans.specs.Margins.{fiveMinutes}
 use Rattle.planner.specs.Outcome.{PlanOutcome, planOutcome, planAnswer, earliestOutcome, earliestAnswer}
 
 -- an answer by document 01's number, place and values
@@ -54,19 +55,19 @@ numberOf (some x) = x ∷ []
 -- the worth of each row without a bound, as a list of one number or none
 unfoldable pub worthsTo : ℕ → Timetable → List (List ℕ)
 worthsTo target t =
-    map (λ w. numberOf (worthOf (w .best))) (scanned (inTicks (record { target = target; bound = 0 })) t .weighed)
+    map (λ w. numberOf (worthOf (w .best))) (scanned (inTicks (record { target = target; bound = 0; margin = leastMargin })) t .weighed)
 
 unfoldable pub joinedUp : List (List ℕ) → List ℕ
 joinedUp [] = []
 joinedUp (xs ∷ xss) = xs ++ joinedUp xss
 
 -- the chosen rows without a bound
-unfoldable pub chosenTo : ℕ → Timetable → List ℕ
-chosenTo target t = map (λ v. v .ride .board) (chosenFor t (record { target = target; bound = 0 }))
+unfoldable pub chosenWith : (margin target : ℕ) → Timetable → List ℕ
+chosenWith margin target t = map (λ v. v .ride .board) (chosenFor t (record { target = target; bound = 0; margin = margin }))
 
 -- W's query
 abbrev pub askedOfW : Query
-askedOfW = queryOf 0 2 590 0
+askedOfW = queryOf 0 2 590 0 leastMargin
 
 -- W's plan, in three rides of which the last is row 3, with its bound; and its slice, three numbers of which stay
 abbrev pub wAnswer : ℕ → List ℕ
@@ -94,7 +95,7 @@ cases =
     ∷ record { answered = checkOf (fileOf seldomLate); expected = 0 ∷ 0 ∷ 3 ∷ 1 ∷ 1 ∷ [] }
     -- 2: W's third row is worth 179,200 and is not chosen
     ∷ record { answered = joinedUp (worthsTo 2 w); expected = 172800 ∷ 168960 ∷ 179200 ∷ 176640 ∷ [] }
-    ∷ record { answered = chosenTo 2 w; expected = 0 ∷ 1 ∷ 3 ∷ [] }
+    ∷ record { answered = chosenWith leastMargin 2 w; expected = 0 ∷ 1 ∷ 3 ∷ [] }
     -- 3: W with row 3 departing at 640 still has a plan; 4: at 639, refusal 8
     ∷ record { answered = planOf (wWith 640) askedOfW; expected = wAnswer 0 }
     ∷ record { answered = sliceOf (wWith 640) askedOfW; expected = wSlice }
@@ -103,11 +104,11 @@ cases =
     ∷ record { answered = arrivalOf (wWith 639) askedOfW; expected = 8 ∷ 0 ∷ [] }
     -- 5: W with q 4: E 690, bound 690, same plan; 6: q 5: bound 715
     ∷ record { answered = arrivalOf w askedOfW; expected = 0 ∷ 0 ∷ 690 ∷ [] }
-    ∷ record { answered = planOf w (queryOf 0 2 590 4); expected = wAnswer 690 }
-    ∷ record { answered = sliceOf w (queryOf 0 2 590 4); expected = wSlice }
-    ∷ record { answered = planOf w (queryOf 0 2 590 5); expected = wAnswer 715 }
+    ∷ record { answered = planOf w (queryOf 0 2 590 4 leastMargin); expected = wAnswer 690 }
+    ∷ record { answered = sliceOf w (queryOf 0 2 590 4 leastMargin); expected = wSlice }
+    ∷ record { answered = planOf w (queryOf 0 2 590 5 leastMargin); expected = wAnswer 715 }
     -- 8: T 601: refusal 8
-    ∷ record { answered = planOf w (queryOf 0 2 601 0); expected = 8 ∷ 0 ∷ [] }
+    ∷ record { answered = planOf w (queryOf 0 2 601 0 leastMargin); expected = 8 ∷ 0 ∷ [] }
     -- 9: row 4 is on the sheet
     ∷ record { answered = planOf wTwice askedOfW; expected = wAnswer 0 }
     ∷ record {
@@ -115,10 +116,21 @@ cases =
       expected = 0 ∷ 0 ∷ 172800 ∷ 1 ∷ 1 ∷ 168960 ∷ 4 ∷ 4 ∷ 176640 ∷ 0 ∷ 0 ∷ 0 ∷ 0 ∷ 0 ∷ 0 ∷ [];
     }
     -- 11: 2,561 ticks
-    ∷ record { answered = planOf seldomLate (queryOf 0 2 0 0); expected = 0 ∷ 0 ∷ 1 ∷ 2561 ∷ 11 ∷ 0 ∷ [] }
+    ∷ record { answered = planOf seldomLate (queryOf 0 2 0 0 leastMargin); expected = 0 ∷ 0 ∷ 1 ∷ 2561 ∷ 11 ∷ 0 ∷ [] }
     -- 12: pair (5,30): cumulative shares at 1, 2, 5, 6, 35 are 303, 682, 2,730, 3,106, 4,096; 36 is above M
     ∷ record {
       answered = joinedUp (map (λ minute. inNumbers (houseAnswer (houseShare 1 minute))) (1 ∷ 2 ∷ 5 ∷ 6 ∷ 35 ∷ 36 ∷ []));
       expected = 0 ∷ 0 ∷ 303 ∷ 0 ∷ 0 ∷ 682 ∷ 0 ∷ 0 ∷ 2730 ∷ 0 ∷ 0 ∷ 3106 ∷ 0 ∷ 0 ∷ 4096 ∷ 6 ∷ 0 ∷ [];
     }
+    -- E1: W's rows 0 and 3 are the last of their stops, and chosen whatever their worth
+    ∷ record { answered = chosenWith mostMargin 2 w; expected = 0 ∷ 1 ∷ 3 ∷ [] }
+    -- E1: margins 0 and 2,561 are 6; 1 and 2,560 have a plan
+    ∷ record { answered = planOf w (withMargin 0 askedOfW); expected = 6 ∷ 0 ∷ [] }
+    ∷ record { answered = planOf w (withMargin 1 askedOfW); expected = wAnswer 0 }
+    ∷ record { answered = planOf w (withMargin 2560 askedOfW); expected = wAnswer 0 }
+    ∷ record { answered = planOf w (withMargin 2561 askedOfW); expected = 6 ∷ 0 ∷ [] }
+    -- E1: the margin leaves out the boat that lands at 100, and yet E is 100 and the bound 200
+    ∷ record { answered = planOf fiveMinutes (queryOf 0 2 0 8 leastMargin); expected = 0 ∷ 0 ∷ 1 ∷ 25600 ∷ 100 ∷ 200 ∷ [] }
+    ∷ record { answered = planOf fiveMinutes (queryOf 0 2 0 8 mostMargin); expected = 0 ∷ 0 ∷ 1 ∷ 26880 ∷ 105 ∷ 200 ∷ [] }
+    ∷ record { answered = arrivalOf fiveMinutes (queryOf 0 2 0 8 mostMargin); expected = 0 ∷ 0 ∷ 100 ∷ [] }
     ∷ []

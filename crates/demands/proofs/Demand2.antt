@@ -1,5 +1,8 @@
--- Demand 2: the plan is the minimum expected arrival plan, and there is none exactly if there is no safe journey.
-use Prim.Native.Nat.{ℕ, _≤_, _<_}
+-- Demand 2, with document 02's margin: the plan is the minimum expected arrival plan with margin 1, and no plan loses more than its margin
+-- allows; there is none exactly if there is no safe journey.
+use Prim.Native.Nat.{ℕ, _+_, _-_, _*_, _≤_, _<_}
+use native.Mathlib.Nat.{zero-mul}
+use native.Mathlib.Omega.{arith}
 use mathlib.Core.List.{List, _∷_, List·Memᴰ}
 use mathlib.Core.Bool.{true}
 use lib.Dec.{T}
@@ -12,22 +15,27 @@ use Rattle.timetable.specs.Timetable.{Timetable, rowOf}
 use Rattle.plans.specs.declared.Goal.{Goal}
 use Rattle.plans.specs.Sound.{Timely}
 use Rattle.query.specs.declared.Query.{Query}
+use Rattle.query.specs.Query.{leastMargin}
 use Rattle.plans.specs.Rides.{Ride, IsRide, landsBy, opens, boards}
 use Rattle.plans.specs.Journeys.{goalOf, Onward, Begins, Journey, IsEarliest, boundOf, within, CodeStands}
 use Rattle.plans.specs.Worth.{Valued, ridesOf, valued, firstOpen, landWorth}
 use Rattle.plans.specs.Plan.{Plan, planned, earliest, chosenFor}
 use Rattle.demands.specs.SafePlan.{SafePlan, ByBoardingRow, sorted, worthsOf, expectedOf}
+use Rattle.demands.specs.Walk.{longestWay}
 use Rattle.demands.specs.Words.{Chosen, InPlan, HasWorth, bestRide}
+use Rattle.demands.specs.MarginWords.{ChosenBy}
 use Rattle.demands.specs.RowWords.{OpenWay, LeastWay, StaysAboard}
 use Rattle.plans.proofs.EarliestSafe.{earliest-is-least, no-earliest}
 use Rattle.demands.proofs.PlanExists.{plan-exists, bound-real}
 use Rattle.demands.proofs.ChosenWords.{chosen-in-words, first-chosen-least}
 use Rattle.demands.proofs.RowWorth.{worth-in-words, no-worth, ride-in-words}
 use Rattle.demands.proofs.RowBegins.{row-reaches, row-begins}
-use Rattle.demands.proofs.PlanIsSafe.{ordered-rising, plan-safe, plan-rising, plan-valued, plan-expected, plan-last}
+use Rattle.demands.proofs.PlanIsSafe.{ordered-rising, plan-safe, plan-rising, plan-valued, plan-expected, plan-last, plan-gains}
 use Rattle.demands.proofs.FirstRide.{plan-begins}
 use Rattle.demands.proofs.PlanSet.{plan-set}
-use Rattle.demands.proofs.Optimal.{expected-stands, plan-least, valued-ride, ride-valued}
+use Rattle.demands.proofs.Expected.{expected-stands, valued-ride, ride-valued}
+use Rattle.demands.proofs.Loss.{plan-loss}
+use Rattle.demands.proofs.ByMargin.{chosen-by-margin}
 use Rattle.demands.proofs.Sorting.{safe-sorted, sorted-same}
 use Rattle.demands.proofs.Forward.{AllTimed}
 use Rattle.demands.proofs.Safe.{safe-timed}
@@ -57,24 +65,30 @@ module _ (t : Timetable) (timely : Timely t) (goal : Goal) where
       ↔ (IsRide t (v .ride) × (v .ride .board ≡ i) × HasWorth t goal i (v .worth) × StaysAboard t goal v)
   row-ride = ride-in-words t timely goal
 
-  -- the chosen rows are those of document 01
+  -- the chosen rows are those of document 02
+  pub chosen-with-margin : (v : Valued) → List·Memᴰ v (chosenFor t goal) ↔ ChosenBy t goal v
+  chosen-with-margin = chosen-by-margin t goal
+
+  -- with margin 1 they are those of document 01
   pub chosen-rows :
-      (v : Valued) → List·Memᴰ v (chosenFor t goal) ↔ (Chosen t goal (v .ride .board) × (bestRide t goal (v .ride .board) ≡ some v))
+      goal .margin ≡ leastMargin → (v : Valued)
+      → List·Memᴰ v (chosenFor t goal) ↔ (Chosen t goal (v .ride .board) × (bestRide t goal (v .ride .board) ≡ some v))
   chosen-rows = chosen-in-words t goal timely
 
   -- by boarding row rising
   pub chosen-in-order : ByBoardingRow (ridesOf (chosenFor t goal))
   chosen-in-order = ordered-rising (for-ordered t timely goal)
 
-  -- who can board a row finds a first chosen row that is worth no more
+  -- who can board a row finds a first chosen row that is worth less than the margin more
   pub first-chosen :
       (i w s m : ℕ) → HasWorth t goal i w → opens (rowOf (t .rows) i .board) (rowOf (t .rows) i .departure) s m ≡ true → s ≢ goal .target
-      → (v : Valued) × (firstOpen (chosenFor t goal) s m ≡ some v) × (v .worth ≤ w)
+      → (v : Valued) × (firstOpen (chosenFor t goal) s m ≡ some v) × (v .worth ≤ w + (goal .margin - 1))
   first-chosen = first-chosen-least t goal timely
 
 -- without a bound, a row has a worth exactly if it begins a safe journey
 pub worth-begins :
-    (t : Timetable) → Timely t → (target i : ℕ) → ((w : ℕ) × HasWorth t (record { target = target; bound = 0 }) i w) ↔ Begins t target i
+    (t : Timetable) → Timely t → (target margin i : ℕ)
+    → ((w : ℕ) × HasWorth t (record { target = target; bound = 0; margin = margin }) i w) ↔ Begins t target i
 worth-begins = row-begins
 
 module _ (t : Timetable) (timely : Timely t) (q : Query) where
@@ -126,9 +140,22 @@ module _ (t : Timetable) (timely : Timely t) (q : Query) where
         ((v : Valued) → List·Memᴰ v (p .rides) → landsBy (v .ride) ≤ p .latest) × ((v : Valued) × List·Memᴰ v (p .rides) × (landsBy (v .ride) ≡ p .latest))
     latest-minute = plan-last t timely q p (plan-made t q p is-plan)
 
-    -- no safe plan within the same bound has a smaller expected arrival
-    pub minimum : (rides : List Ride) → SafePlan t q (p .bound) rides → (x : ℕ) → expectedOf q rides ≡ some x → p .expected ≤ x
-    minimum = plan-least t timely q p (plan-made t q p is-plan)
+    -- of two of its rides from one stop the earlier gains at least the margin
+    pub each-gains : (v u : Valued) → List·Memᴰ v (p .rides) → List·Memᴰ u (p .rides) → v .ride .from ≡ u .ride .from
+        → v .ride .departs < u .ride .departs → v .worth + q .margin ≤ u .worth
+    each-gains = plan-gains t timely q p (plan-made t q p is-plan)
+
+    -- against any safe plan within the same bound it loses less than the margin a ride, along that plan's longest way
+    pub loss :
+        (rides : List Ride) → SafePlan t q (p .bound) rides → (x : ℕ) → expectedOf q rides ≡ some x
+        → p .expected ≤ x + (q .margin - 1) * longestWay q (sorted rides)
+    loss = plan-loss t timely q p (plan-made t q p is-plan)
+
+    -- so with margin 1 none has a smaller expected arrival
+    pub minimum :
+        q .margin ≡ leastMargin → (rides : List Ride) → SafePlan t q (p .bound) rides → (x : ℕ) → expectedOf q rides ≡ some x → p .expected ≤ x
+    minimum one rides safe x e =
+        omega (arith, loss rides safe x e, ap (λ m. (m - 1) * longestWay q (sorted rides)) one, zero-mul (longestWay q (sorted rides)))
 
   module _ (bound : ℕ) (rides : List Ride) (safe : SafePlan t q bound rides) where
     -- a set of rides in any order is a list by boarding row rising
@@ -137,7 +164,7 @@ module _ (t : Timetable) (timely : Timely t) (q : Query) where
 
     -- every safe plan has an expected arrival
     pub has-expected : (x : ℕ) × (expectedOf q rides ≡ some x)
-    has-expected = expected-stands t timely q bound rides safe
+    has-expected = expected-stands t q bound rides safe
 
     -- its worths are of these rides
     pub its-worths : ridesOf (worthsOf q rides) ≡ sorted rides

@@ -1,6 +1,8 @@
 -- Demands 2 and 3, and the laws that lead to them.
 pub mod Boarded
 pub mod Choices
+pub mod BestRide
+pub mod ByMargin
 pub mod ChosenWords
 pub mod Course
 pub mod Demand2
@@ -10,7 +12,8 @@ pub mod FirstRide
 pub mod Forward
 pub mod Means
 pub mod Meeting
-pub mod Optimal
+pub mod Expected
+pub mod Loss
 pub mod PlanSet
 pub mod Reached
 pub mod RowBegins
@@ -27,3 +30,4 @@ pub mod PlanIsSafe
 pub mod Largest
 pub mod Demanded
 pub mod OnePlan
+pub mod AnyMargin

@@ -1,15 +1,17 @@
 -- Sums over delays, and that a ride is worth the mean of what its landings are worth, rounded up once. Assumes nothing.
-use Prim.Native.Nat.{ℕ, suc, _+_, _*_, _≤_}
+use Prim.Native.Nat.{ℕ, suc, _+_, _*_, _≤_, _<_}
 use mathlib.Core.Bool.{cond}
 use mathlib.Core.List.{List, [], _∷_}
 use mathlib.Core.Path.{_≡_, refl, sym, _∙_, ap}
 use native.Mathlib.Nat.{add-zero}
 use native.Mathlib.Omega.{arith}
 use lib.Dec.{eqb}
+use lib.ListN.{length}
 use Rattle.laws.proofs.Tests.{ifb}
 use Rattle.timetable.specs.Classes.{sum, shareTotal}
 use Rattle.plans.specs.Rides.{Ride}
 use Rattle.timetable.specs.Ticks.{ticksAMinute, quotientUp}
+use Rattle.plans.proofs.Weighing.{weigh-less}
 use Rattle.plans.specs.Worth.{weigh, Valued, caught, arrivalWorth, changeWorth, landWorth}
 
 pub weigh-scale : (shares : List ℕ) (a k : ℕ) (f : ℕ → ℕ) → weigh shares a (λ m. k * f m) ≡ k * weigh shares a f
@@ -17,7 +19,7 @@ unfolding weigh
 weigh-scale [] a k f = omega arith
 weigh-scale (p ∷ shares) a k f = omega (arith, weigh-scale shares (suc a) k f)
 
-pub weigh-add :
+weigh-add :
     (shares : List ℕ) (a : ℕ) (f g : ℕ → ℕ) → weigh shares a (λ m. f m + g m) ≡ weigh shares a f + weigh shares a g
 unfolding weigh
 weigh-add [] a f g = omega arith
@@ -28,6 +30,20 @@ pub weigh-constant : (shares : List ℕ) (a c : ℕ) → weigh shares a (λ m. c
 unfolding weigh sum
 weigh-constant [] a c = omega arith
 weigh-constant (p ∷ shares) a c = omega (arith, weigh-constant shares (suc a) c)
+
+-- each term less by so much, the sum of 4,096 shares less by 4,096 times as much
+pub weigh-within :
+    (shares : List ℕ) (a : ℕ) (f g : ℕ → ℕ) (x y : ℕ) → sum shares ≡ shareTotal
+    → ((m : ℕ) → a ≤ m → m < a + length shares → f m + x ≤ g m + y) → weigh shares a f + shareTotal * x ≤ weigh shares a g + shareTotal * y
+weigh-within shares a f g x y full each =
+    omega (
+      arith,
+      weigh-less shares a (λ m. f m + x) (λ m. g m + y) each,
+      weigh-add shares a f (λ m. x),
+      weigh-constant shares a x ∙ ap (λ n. n * x) full,
+      weigh-add shares a g (λ m. y),
+      weigh-constant shares a y ∙ ap (λ n. n * y) full,
+    )
 
 pub weigh-shift : (shares : List ℕ) (a v : ℕ) (f : ℕ → ℕ) → weigh shares (a + v) f ≡ weigh shares v (λ w. f (a + w))
 unfolding weigh
@@ -41,6 +57,10 @@ up-reaches n = omega arith
 
 pub up-loses : (n : ℕ) → shareTotal * quotientUp shareTotal n ≤ n + 4095
 up-loses n = omega arith
+
+-- whole ticks pass through
+pub up-within : (m n x y : ℕ) → m + shareTotal * x ≤ n + shareTotal * y → quotientUp shareTotal m + x ≤ quotientUp shareTotal n + y
+up-within m n x y h = omega arith
 
 -- at the target the minute itself counts, elsewhere the ride caught
 unfoldable pub standingWorth : ℕ → List Valued → ℕ → ℕ → ℕ

@@ -1,5 +1,5 @@
 -- The plan is a safe plan within its bound, by boarding row rising, with its own worths. Uses all that a sound timetable keeps.
-use Prim.Native.Nat.{ℕ, _≤_, _<_}
+use Prim.Native.Nat.{ℕ, _+_, _≤_, _<_}
 use native.Mathlib.Omega.{arith}
 use mathlib.Core.Bool.{true}
 use mathlib.Core.List.{List, _∷_, List·Memᴰ, List·Memᴰ·tail, List·Memᴰ·not-nil}
@@ -25,7 +25,7 @@ use Rattle.plans.proofs.EarliestSafe.{worth-of}
 use Rattle.demands.proofs.Sorting.{sorted-same}
 use Rattle.demands.proofs.Largest.{lands-by, lands-last}
 use Rattle.plans.proofs.Made.{Made}
-use Rattle.plans.proofs.PlanRides.{for-picked, for-ride, for-within, plan-member, plan-ordered, plan-own, plan-first}
+use Rattle.plans.proofs.PlanRides.{for-picked, for-ride, for-within, for-gaining, plan-member, plan-ordered, plan-own, plan-first}
 
 pub ordered-rising : {vs : List Valued} → Ordered vs → ByBoardingRow (ridesOf vs)
 ordered-rising nobody = no-rides
@@ -82,6 +82,13 @@ module _ (t : Timetable) (timely : Timely t) (q : Query) (p : Plan) (made : Made
       members-apart (p .rides) (plan-ordered t timely q p made) v u m n (λ e. e)
       (λ b. absurd (let c : v .ride .departs < u .ride .departs = b .apart there in let z : ⊥ = omega arith in z))
       (λ b. absurd (let c : u .ride .departs < v .ride .departs = b .apart (sym there) in let z : ⊥ = omega arith in z))
+
+  -- of two rides from one stop the earlier gains at least the margin
+  pub plan-gains :
+      (v u : Valued) → List·Memᴰ v (p .rides) → List·Memᴰ u (p .rides) → v .ride .from ≡ u .ride .from → v .ride .departs < u .ride .departs
+      → v .worth + q .margin ≤ u .worth
+  plan-gains v u m n =
+      for-gaining t timely (goalOf q (p .bound)) v u (plan-member t timely q p made v m) (plan-member t timely q p made u n)
 
   pub plan-safe : SafePlan t q (p .bound) (ridesOf (p .rides))
   plan-safe =

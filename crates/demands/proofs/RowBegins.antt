@@ -23,7 +23,7 @@ use Rattle.plans.proofs.RideMinutes.{board-inside}
 use Rattle.plans.proofs.EarliestSafe.{onward-ride, onward-earlier}
 use Rattle.plans.proofs.InTicks.{chosenInTicks, bestInTicks, Off, arrives, goes-on, off-is}
 use Rattle.demands.proofs.PlanExists.{ticks-exist}
-use Rattle.demands.proofs.ChosenWords.{weighs, has-worth}
+use Rattle.demands.proofs.BestRide.{weighs, has-worth}
 
 module _ (t : Timetable) (timely : Timely t) (goal : Goal) where
   -- a safe journey goes on from ride r, and its last a + M is within the bound
@@ -67,9 +67,10 @@ module _ (t : Timetable) (timely : Timely t) (goal : Goal) where
 
 -- without a bound: exactly if it begins a safe journey
 pub row-begins :
-    (t : Timetable) → Timely t → (target i : ℕ) → ((w : ℕ) × HasWorth t (record { target = target; bound = 0 }) i w) ↔ Begins t target i
-row-begins t timely target i =
-    let exactly = row-reaches t timely (record { target = target; bound = 0 }) i in (
+    (t : Timetable) → Timely t → (target margin i : ℕ)
+    → ((w : ℕ) × HasWorth t (record { target = target; bound = 0; margin = margin }) i w) ↔ Begins t target i
+row-begins t timely target margin i =
+    let exactly = row-reaches t timely (record { target = target; bound = 0; margin = margin }) i in (
       λ worth. let r = exactly .0 worth in (r .0, r .2 .0, r .1, r .2 .1),
       λ begun. exactly .1 (begun .0, begun .2, (begun .1, begun .3, tt)),
     )

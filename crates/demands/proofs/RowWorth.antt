@@ -33,7 +33,7 @@ use Rattle.plans.proofs.EarliestSafe.{worth-of}
 use Rattle.plans.proofs.InTicks.{chosenInTicks, bestInTicks, Off, arrives, goes-on, off-is, ticks-at-target, ticks-elsewhere}
 use Rattle.plans.proofs.Weighing.{change-same}
 use Rattle.plans.proofs.ChosenWorth.{landing-sees}
-use Rattle.demands.proofs.ChosenWords.{best-ride, weighs, has-worth}
+use Rattle.demands.proofs.BestRide.{best-ride, weighs, has-worth}
 use Rattle.plans.proofs.Made.{chosen-for}
 
 module _ (aim : Aim) (t : Timetable) where

@@ -18,7 +18,7 @@ use Rattle.plans.specs.Worth.{weigh, firstOpen, worthOr, caught, landWorth, val
 use Rattle.demands.specs.Walk.{Sailed, Delayed, delay-first, undelayed, Standing, landed}
 use Rattle.plans.proofs.RideMinutes.{shares-stand}
 use Rattle.plans.proofs.Weighing.{weigh-less}
-use Rattle.demands.proofs.Means.{standingWorth, weigh-scale, weigh-add, weigh-constant, weigh-shift, up-reaches, up-loses, land-mean}
+use Rattle.demands.proofs.Means.{standingWorth, weigh-scale, weigh-within, weigh-constant, weigh-shift, up-reaches, up-loses, land-mean}
 use Rattle.demands.proofs.Choices.{late, total, total-cons, total-nil}
 use Rattle.demands.proofs.Forward.{Timed, Served, over, onward, Forward, served-sooner, served-behind, landing-latest}
 use Rattle.plans.proofs.Open.{boards-stop}
@@ -33,7 +33,7 @@ unfolding mean course
 mean-end at = total-nil (λ sailed. ticksAMinute * course sailed at .minute)
 
 -- where one stands after a ride that landed at this minute
-abbrev off : Standing → Ride → ℕ → Standing
+abbrev pub off : Standing → Ride → ℕ → Standing
 off at r minute = record { stop = r .to; minute = minute; boarded = suc (at .boarded) }
 
 mean-boards :
@@ -61,7 +61,7 @@ mean-passes r behind at full shut =
 abbrev pub worthAt : ℕ → List Ride → Standing → ℕ
 worthAt target rides at = standingWorth target (valued target rides) (at .stop) (at .minute)
 
-worth-boards :
+pub worth-boards :
     (target : ℕ) (r : Ride) (behind : List Ride) (at : Standing) → Timed target r behind → boards r (at .stop) (at .minute) ≡ true
     → worthAt target (r ∷ behind) at ≡ quotientUp shareTotal (weigh (r .shares) (r .arrives) (λ minute. worthAt target behind (off at r minute)))
 unfolding standingWorth caught worthOr firstOpen valued
@@ -73,7 +73,7 @@ worth-boards target r behind at timed opens =
     (firstOpen (valued target behind) (at .stop) (at .minute)) opens)
     ∙ land-mean target r (valued target behind) (timed .full)
 
-worth-passes :
+pub worth-passes :
     (target : ℕ) (r : Ride) (behind : List Ride) (at : Standing) → boards r (at .stop) (at .minute) ≡ false
     → worthAt target (r ∷ behind) at ≡ worthAt target behind at
 unfolding standingWorth caught firstOpen valued
@@ -82,13 +82,13 @@ worth-passes target r behind at shut =
     (cond-false (some (record { ride = r; worth = landWorth target r (valued target behind) }))
     (firstOpen (valued target behind) (at .stop) (at .minute)) shut)
 
-worth-over : (target : ℕ) (rides : List Ride) (at : Standing) → at .stop ≡ target → worthAt target rides at ≡ ticksAMinute * at .minute
+pub worth-over : (target : ℕ) (rides : List Ride) (at : Standing) → at .stop ≡ target → worthAt target rides at ≡ ticksAMinute * at .minute
 unfolding standingWorth
 worth-over target rides at there =
     cond-true (ticksAMinute * at .minute) (caught (valued target rides) (at .stop) (at .minute)) (eq-eqb (at .stop) target there)
 
 -- the delays of a ride, where its landings are served
-Landings : (r : Ride) → (ℕ → Type 0) → Type 0
+abbrev pub Landings : (r : Ride) → (ℕ → Type 0) → Type 0
 Landings r P = (minute : ℕ) → r .arrives ≤ minute → minute < r .arrives + length (r .shares) → P minute
 
 -- A ≤ 4,096^R × X: rounding up only adds
@@ -96,7 +96,6 @@ board-within :
     (target : ℕ) (r : Ride) (behind : List Ride) (at : Standing) → Timed target r behind → boards r (at .stop) (at .minute) ≡ true
     → Landings r (λ minute. mean behind (off at r minute) ≤ shareTotal ^ length behind * worthAt target behind (off at r minute))
     → mean (r ∷ behind) at ≤ shareTotal ^ suc (length behind) * worthAt target (r ∷ behind) at
-unfolding Landings
 board-within target r behind at timed opens each =
     rw (mean-boards r behind at opens, worth-boards target r behind at timed opens, pow-succ' shareTotal (length behind))
     (round (shareTotal ^ length behind) (weigh (r .shares) (r .arrives) (λ minute. mean behind (off at r minute))) worths
@@ -122,7 +121,6 @@ pass-within target r behind at timed shut further =
 pub mean-within :
     (target : ℕ) {rides : List Ride} → Forward target rides → (at : Standing) → Served target rides (at .stop) (at .minute)
     → mean rides at ≤ shareTotal ^ length rides * worthAt target rides at
-unfolding Landings
 mean-within target Forward.none at (onward next among opens) = absurd (List·Memᴰ·not-nil among)
 mean-within target Forward.none at (over there) = omega (arith, mean-end at, worth-over target [] at there)
 mean-within target (Forward.one {r = r} {behind = behind} timed goes-on rest) at served =
@@ -149,26 +147,11 @@ Above target rides at most =
     shareTotal ^ length rides * worthAt target rides at + shareTotal ^ length rides * at .boarded + gap target at
     ≤ mean rides at + shareTotal ^ length rides * most
 
-sums-within :
-    (shares : List ℕ) (a : ℕ) (worths means : ℕ → ℕ) (power b most : ℕ) → sum shares ≡ shareTotal
-    → ((minute : ℕ) → a ≤ minute → minute < a + length shares → power * worths minute + power * b ≤ means minute + power * most)
-    → power * weigh shares a worths + shareTotal * (power * b) ≤ weigh shares a means + shareTotal * (power * most)
-sums-within shares a worths means power b most full each =
-    omega (
-      arith,
-      weigh-less shares a (λ minute. power * worths minute + power * b) (λ minute. means minute + power * most) each,
-      weigh-add shares a (λ minute. power * worths minute) (λ minute. power * b),
-      weigh-scale shares a power worths,
-      weigh-constant shares a (power * b) ∙ ap (λ n. n * (power * b)) full,
-      weigh-add shares a means (λ minute. power * most),
-      weigh-constant shares a (power * most) ∙ ap (λ n. n * (power * most)) full,
-    )
-
 board-above :
     (target : ℕ) (r : Ride) (behind : List Ride) (at : Standing) (most : ℕ) → Timed target r behind
     → boards r (at .stop) (at .minute) ≡ true → Landings r (λ minute. Above target behind (off at r minute) most)
     → Above target (r ∷ behind) at most
-unfolding Landings Above
+unfolding Above
 board-above target r behind at most timed opens each =
     rw (mean-boards r behind at opens, worth-boards target r behind at timed opens, pow-succ' shareTotal (length behind))
     (round (shareTotal ^ length behind) (one-le-pow (length behind) shareTotal (omega arith))
@@ -187,8 +170,12 @@ board-above target r behind at most timed opens each =
         power * weigh (r .shares) (r .arrives) worths + shareTotal * (power * suc (at .boarded))
         ≤ weigh (r .shares) (r .arrives) means + shareTotal * (power * most)
     summed =
-        sums-within (r .shares) (r .arrives) worths means power (suc (at .boarded)) most (timed .full)
-        (λ minute from below. omega (arith, each minute from below))
+        omega (
+          arith,
+          weigh-within (r .shares) (r .arrives) (λ minute. power * worths minute) means (power * suc (at .boarded)) (power * most) (timed .full)
+              (λ minute from below. omega (arith, each minute from below)),
+          weigh-scale (r .shares) (r .arrives) power worths,
+        )
 
     round :
         (n : ℕ) → 1 ≤ n → (landings sums b g : ℕ) → g ≤ 1 → n * sums + shareTotal * (n * suc b) ≤ landings + shareTotal * (n * most)
@@ -204,16 +191,16 @@ pass-above target r behind at most timed shut further =
     (omega arith)
 
 -- what holds of every choice holds of the choices behind a first ride boarded, or passed over
-most-boarded :
+pub most-boarded :
     (r : Ride) (behind : List Ride) (at : Standing) (most : ℕ) → boards r (at .stop) (at .minute) ≡ true
     → AtMostRides (r ∷ behind) at most → Landings r (λ minute. AtMostRides behind (off at r minute) most)
-unfolding Landings course landed
+unfolding course landed
 most-boarded r behind at most opens within minute from below sailed delayed =
     subst (λ (m : ℕ). course sailed (off at r m) .boarded ≤ most) (omega arith)
     (subst (λ (b : Bool). cond b (course sailed (off at r (r .arrives + (minute - r .arrives)))) (course sailed at) .boarded ≤ most) opens
     (within (late r (minute - r .arrives) ∷ sailed) (delay-first refl (omega arith) delayed)))
 
-most-passed :
+pub most-passed :
     (r : Ride) (behind : List Ride) (at : Standing) (most : ℕ) → sum (r .shares) ≡ shareTotal → boards r (at .stop) (at .minute) ≡ false
     → AtMostRides (r ∷ behind) at most → AtMostRides behind at most
 unfolding course landed
@@ -224,7 +211,7 @@ most-passed r behind at most full shut within sailed delayed =
 mean-above :
     (target most : ℕ) {rides : List Ride} → Forward target rides → (at : Standing) → Served target rides (at .stop) (at .minute)
     → AtMostRides rides at most → Above target rides at most
-unfolding Landings Above course
+unfolding Above course
 mean-above target most Forward.none at (onward next among opens) within = absurd (List·Memᴰ·not-nil among)
 mean-above target most Forward.none at (over there) within =
     omega (

@@ -66,7 +66,7 @@ module _ {t : Timetable} (q : Query) (bound : ℕ) (rides : List Ride) (safe : S
 
 module _ {t : Timetable} (timely : Timely t) (q : Query) (bound : ℕ) (rides : List Ride) (safe : SafePlan t q bound rides)
     (rising : ByBoardingRow rides) where
-  forward : Forward (q .target) rides
+  pub forward : Forward (q .target) rides
   forward = safe-forward timely q bound rides safe rising
 
   -- the walk is the course
@@ -115,7 +115,7 @@ module _ {t : Timetable} (timely : Timely t) (q : Query) (bound : ℕ) (rides : 
       )
 
   -- the expected ticks are what standing at the source is worth
-  expected-worth : (x : ℕ) → expectedOf q rides ≡ some x → worthAt (q .target) rides (start q) ≡ x
+  pub expected-worth : (x : ℕ) → expectedOf q rides ≡ some x → worthAt (q .target) rides (start q) ≡ x
   unfolding expectedOf standingWorth caught worthOf worthOr
   expected-worth x e =
       cond-false (ticksAMinute * q .minute) (caught (valued (q .target) rides) (q .source) (q .minute))
@@ -137,7 +137,7 @@ module _ {t : Timetable} (timely : Timely t) (q : Query) (bound : ℕ) (rides : 
   sandwich-below x e =
       rw (arrivals-mean, ← expected-worth x e) (mean-within (q .target) forward (start q) (begins-served q bound rides safe))
 
-  longest-most : AtMostRides rides (start q) (longestWay q rides)
+  pub longest-most : AtMostRides rides (start q) (longestWay q rides)
   unfolding longestWay
   longest-most sailed delayed =
       subst (λ (at : Standing). at .boarded ≤ largest (map (λ sailed. walked q sailed .boarded) (choices rides))) (walk-course sailed delayed)

@@ -13,7 +13,7 @@ use Rattle.plans.proofs.Open.{too-late, first-further, on-head}
 use Rattle.plans.proofs.Weighing.{land-same}
 use Rattle.plans.proofs.RideMinutes.{shares-stand}
 use Rattle.demands.proofs.Forward.{AllTimed, one}
-use Rattle.demands.proofs.Optimal.{valued-ride}
+use Rattle.demands.proofs.Expected.{valued-ride}
 
 module _ (target : ℕ) (all : List Valued) where
   -- a list that ends the plan: who lands after a ride of it finds there what they find in the whole plan

@@ -1,5 +1,6 @@
--- Demands 2 and 3 in one record: what must be true of a plan's rides, with its expected ticks, latest minute and bound.
-use Prim.Native.Nat.{ℕ, _≤_}
+-- Demands 2 and 3 in one record, with document 02's margin: what must be true of a plan's rides, with its expected ticks, latest minute and
+-- bound.
+use Prim.Native.Nat.{ℕ, _+_, _-_, _*_, _≤_, _<_}
 use mathlib.Core.List.{List, _∷_, List·Memᴰ}
 use mathlib.Core.Bool.{true}
 use mathlib.Core.Logic.{_↔_}
@@ -7,13 +8,14 @@ use mathlib.Core.Option.{some}
 use mathlib.Core.Path.{_≡_}
 use Rattle.timetable.specs.Timetable.{Timetable}
 use Rattle.query.specs.declared.Query.{Query}
+use Rattle.query.specs.Query.{leastMargin}
 use Rattle.plans.specs.Rides.{Ride, landsBy, boards}
 use Rattle.plans.specs.Journeys.{IsEarliest, boundOf, goalOf}
 use Rattle.plans.specs.Worth.{Valued, valued, ridesOf}
 use Rattle.plans.specs.Plan.{chosenFor}
-use Rattle.demands.specs.SafePlan.{SafePlan, ByBoardingRow, expectedOf}
+use Rattle.demands.specs.SafePlan.{SafePlan, ByBoardingRow, sorted, expectedOf}
 use Rattle.demands.specs.Words.{InPlan}
-use Rattle.demands.specs.Walk.{Sailed, start, choices, Boards}
+use Rattle.demands.specs.Walk.{Sailed, start, choices, longestWay, Boards}
 use Rattle.demands.specs.Passenger.{Carries}
 
 pub record Demanded (t : Timetable) (q : Query) (rides : List Valued) (expected latest bound : ℕ) : Type 0 where
@@ -31,9 +33,19 @@ pub record Demanded (t : Timetable) (q : Query) (rides : List Valued) (expected 
   -- the latest minute is the largest a + M of its rides
   pub latest-minute :
       ((v : Valued) → List·Memᴰ v rides → landsBy (v .ride) ≤ latest) × ((v : Valued) × List·Memᴰ v rides × (landsBy (v .ride) ≡ latest))
-  -- the expected arrival is its own, and no other safe plan within the same bound has a smaller one
+  -- of two rides from one stop the earlier gains at least the margin
+  pub gains :
+      (v u : Valued) → List·Memᴰ v rides → List·Memᴰ u rides → v .ride .from ≡ u .ride .from → v .ride .departs < u .ride .departs
+      → v .worth + q .margin ≤ u .worth
+  -- the expected arrival is its own; against any safe plan within the same bound it loses less than the margin a ride, along that plan's
+  -- longest way
   pub expects : expectedOf q (ridesOf rides) ≡ some expected
-  pub minimum : (others : List Ride) → SafePlan t q bound others → (x : ℕ) → expectedOf q others ≡ some x → expected ≤ x
+  pub loss :
+      (others : List Ride) → SafePlan t q bound others → (x : ℕ) → expectedOf q others ≡ some x
+      → expected ≤ x + (q .margin - 1) * longestWay q (sorted others)
+  -- so with margin 1 no other safe plan within the same bound has a smaller one
+  pub minimum :
+      q .margin ≡ leastMargin → (others : List Ride) → SafePlan t q bound others → (x : ℕ) → expectedOf q others ≡ some x → expected ≤ x
   -- it carries every passenger by the latest minute, whatever delays up to their maximum its rides have
   pub carries : Carries q (ridesOf rides) latest expected
   -- and every ride is boarded under some such delays

@@ -4,6 +4,7 @@ pub mod Passenger
 pub mod SafePlan
 pub mod Words
 pub mod RowWords
+pub mod MarginWords
 pub mod SmallPlan
 pub mod Demanded
 pub mod Unnumbered

@@ -1,4 +1,5 @@
--- Demand 3's numbers of a small plan: a boat that lands at 630, seldom a minute later, and the two boats that it catches then.
+-- Demand 3's numbers of a small plan: a boat that lands at 630, seldom a minute later, and the two boats that it catches then. And what a
+-- margin costs on another.
 use Prim.Native.Nat.{ℕ, _*_, _^_}
 use mathlib.Core.List.{List, [], _∷_, map}
 use mathlib.Core.Option.{Option, none, some}
@@ -6,8 +7,10 @@ use lib.ListN.{length}
 use Rattle.timetable.specs.Timetable.{Timetable}
 use Rattle.timetable.specs.Classes.{shareTotal}
 use Rattle.query.specs.declared.Query.{Query}
+use Rattle.query.specs.Query.{queryOf, leastMargin}
 use Rattle.plans.specs.Rides.{Ride, rideOf}
 use Rattle.plans.specs.Examples.{Case, query, planTold, row, onTime, timetable}
+use Rattle.plans.specs.Margins.{ticksLate}
 use Rattle.demands.specs.SafePlan.{expectedOf}
 use Rattle.demands.specs.Walk.{choices, weight, weightedArrivals, longestWay}
 
@@ -26,6 +29,15 @@ turnedRound = rideOf small 2 2 ∷ rideOf small 1 1 ∷ rideOf small 0 0 ∷ []
 -- a safe plan too, listed backwards: the boat and the later of the two
 abbrev pub laterBoat : List Ride
 laterBoat = rideOf small 2 2 ∷ rideOf small 0 0 ∷ []
+
+-- a boat to a pier where the earlier of two boats gains nine ticks, and a direct boat a minute behind it, worth eighteen ticks more
+abbrev pub seconds : Timetable
+seconds =
+    timetable (row 0 1 10 20 0 0 ∷ row 0 2 11 100 1 2 ∷ row 1 2 20 100 2 0 ∷ row 1 2 21 100 3 1 ∷ [])
+    (onTime ∷ ticksLate 9 ∷ ticksLate 18 ∷ [])
+
+abbrev pub quickRides : List Ride
+quickRides = rideOf seconds 0 0 ∷ rideOf seconds 2 2 ∷ []
 
 unfoldable pub expectedIn : Option ℕ → List ℕ
 expectedIn none = []
@@ -47,4 +59,8 @@ smallCases =
     }
     -- L: two of the three rides are boarded, in time or late
     ∷ record { answered = longestWay asked smallRides ∷ []; expected = 2 ∷ [] }
+    -- with margin 1 two rides; with margin 10 the direct boat, later by (10 − 1) × 2 ticks: as much as two rides along a way can lose
+    ∷ record { answered = planTold seconds (queryOf 0 2 0 0 leastMargin); expected = 2 ∷ 25600 ∷ 100 ∷ 0 ∷ 0 ∷ 0 ∷ 25600 ∷ 2 ∷ 2 ∷ 25600 ∷ [] }
+    ∷ record { answered = planTold seconds (queryOf 0 2 0 0 10); expected = 1 ∷ 25618 ∷ 101 ∷ 0 ∷ 1 ∷ 1 ∷ 25618 ∷ [] }
+    ∷ record { answered = longestWay (queryOf 0 2 0 0 10) quickRides ∷ []; expected = 2 ∷ [] }
     ∷ []

@@ -21,7 +21,7 @@ bestRide t goal i = getD (scanned (inTicks goal) t .weighed) i (record { trip = 
 abbrev pub HasWorth : Timetable → Goal → (i worth : ℕ) → Type 0
 HasWorth t goal i worth = worthOf (bestRide t goal i) ≡ some worth
 
--- A row is chosen if it has a worth below that of every later-minute row at its stop, and in its own minute the least worth, the highest row
+-- With margin 1 a row is chosen if it has a worth below that of every later-minute row at its stop, and in its own minute the least worth, the highest row
 -- number deciding among equals. No row boarding at the target is chosen
 pub record Chosen (t : Timetable) (goal : Goal) (i : ℕ) : Type 0 where
   pub worth : ℕ

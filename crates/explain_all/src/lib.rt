@@ -24,6 +24,8 @@ use files::goes_on;
 use numbers::number;
 use plan_whole::Planned;
 use planner::plan_checked;
+use query::LEAST_MARGIN;
+use query::MARGIN_BYTES;
 use query::QUERY_BYTES;
 use query::Query;
 use query::query_in;
@@ -113,6 +115,7 @@ fn explain_query(sailings: &[u8], f: Format, trailer: Trailer, query: &[u8], end
             bound: _,
         } => {
             say_plan(number(count), expected, latest);
+            say_margin(q.margin);
             print_plan(sailings, f, trailer, &rides, number(count));
         }
     }
@@ -137,13 +140,15 @@ fn explain_refusal(
         return;
     }
     if query.len() != QUERY_BYTES {
-        say_query_length(query, ending);
-        return;
+        if query.len() != MARGIN_BYTES {
+            say_query_length(query, ending);
+            return;
+        }
     }
     print_query_fault(q, trailer.stops, f.lastminute);
 }
 
-// 6: the query has other than 8 bytes.
+// 6: the query has neither 8 bytes nor 10.
 fn say_query_length(query: &[u8], ending: Ending) {
     if query.len() == 0 {
         say_no_bytes(b"query", ending);
@@ -154,7 +159,8 @@ fn say_query_length(query: &[u8], ending: Ending) {
         say(b"at least ");
     }
     say_count(b"", query.len(), b" byte", b" bytes");
-    say_number(b", not ", QUERY_BYTES);
+    say_number(b", neither ", QUERY_BYTES);
+    say_number(b" nor ", MARGIN_BYTES);
     say(b".\n");
 }
 
@@ -163,4 +169,15 @@ fn say_plan(rides: usize, expected: u32, latest: u32) {
     say_expected(b". Expected arrival: ", expected);
     say_time(b". Latest: ", number(latest));
     say(b".\n");
+}
+
+// What a margin above the least leaves out.
+fn say_margin(margin: usize) {
+    if margin <= LEAST_MARGIN {
+        return;
+    }
+    say_number(b"Margin: ", margin);
+    say(
+        b" ticks. Of two rides from one stop the earlier is expected to arrive at least that much sooner.\n",
+    );
 }

@@ -3,7 +3,8 @@ use explain_words::say;
 use explain_words::say_number;
 use explain_words::say_time;
 use query::Query;
-use query::query_rule;
+use query::code_rule;
+use query::margin_rule;
 
 // 6: the first number of the query that breaks its rule, in a file of so many stops whose last minute is `last`.
 pub fn print_query_fault(q: Query, stops: usize, last: usize) {
@@ -20,7 +21,7 @@ pub fn print_query_fault(q: Query, stops: usize, last: usize) {
         say(b".\n");
         return;
     }
-    print_when_fault(q, stops, last);
+    print_when_fault(q, last);
 }
 
 fn say_no_stop(end: &[u8], stop: usize, stops: usize) {
@@ -31,20 +32,25 @@ fn say_no_stop(end: &[u8], stop: usize, stops: usize) {
     say(b" stops, numbered from 0.\n");
 }
 
-// The minute T or else the bound code q, where the stops keep their rule.
-fn print_when_fault(q: Query, stops: usize, last: usize) {
+// The minute T, or else the bound code q or the margin, where the stops keep their rule.
+fn print_when_fault(q: Query, last: usize) {
     if last < q.minute {
         say_number(b"The query's minute is ", q.minute);
         say_number(b", past the last minute of the week, ", last);
         say(b".\n");
         return;
     }
-    if query_rule(q, stops, last) {
-        say(b"The query keeps its rule.\n");
+    if !code_rule(q) {
+        say_number(b"The query's bound code is ", q.code);
+        say(b", but it must be 0 or 4 to 16.\n");
         return;
     }
-    say_number(b"The query's bound code is ", q.code);
-    say(b", but it must be 0 or 4 to 16.\n");
+    if !margin_rule(q) {
+        say_number(b"The query's margin is ", q.margin);
+        say(b", but it must be 1 to 2560 ticks.\n");
+        return;
+    }
+    say(b"The query keeps its rule.\n");
 }
 
 // 8: no safe journey for the query, whose minute was two bytes.

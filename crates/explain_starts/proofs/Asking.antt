@@ -18,8 +18,8 @@ use Rattle.file_layout.specs.Check.{checkedAs}
 use Rattle.file_layout.specs.Decode.{decode}
 use Rattle.file_layout.proofs.Sound.{checked-gives}
 use Rattle.query.specs.declared.Query.{Query}
-use Rattle.query.specs.Query.{queryOf, queryRule}
-use Rattle.query.proofs.Rules.{minute-decides, code-decides-rule, no-code}
+use Rattle.query.specs.Query.{arrivalQuery, noQuery, queryRule}
+use Rattle.query.proofs.Rules.{minute-decides, margin-decides-rule, no-code, margin-decides}
 use Rattle.plans.specs.Sound.{Timely}
 use Rattle.plans.specs.Plan.{earliest}
 use Rattle.plans.proofs.EarliestSafe.{earliest-is-least, no-earliest}
@@ -48,14 +48,14 @@ stops-fit source target plannable sound first second apart room =
     record {
       plannable = plannable;
       sound = sound;
-      fits = record { source = first; target = second; apart = apart; minute = zero-le; code = inl refl };
+      fits = record { source = first; target = second; apart = apart; minute = zero-le; code = inl refl; margin = (omega arith, omega arith) };
       room = room;
     }
 
 -- what a program lends is enough for every sound file
 pub lent-enough : (f : Format) (file : List ℕ) (h : Trailer) → Plannable f → checkedAs f file ≡ Sound h → 4 * h .rows + 2500 ≤ workNumbers
 lent-enough f file h plannable sound =
-    omega (arith, few-stops-rows f file (queryOf 0 0 0 0) noRoom noRoom h sound (plannable .readable) .1)
+    omega (arith, few-stops-rows f file noQuery noRoom noRoom h sound (plannable .readable) .1)
 
 -- work that was cleared stays as it is when it is cleared again
 cleared-twice : (room : ℕ) (work : List ℕ) → cleared room (cleared room work) ≡ cleared room work
@@ -83,14 +83,14 @@ module _ {f : Format} {file : List ℕ} {h : Trailer} {source target : ℕ} {wor
 
   module _ (minute : ℕ) (inside : minute ≤ f .lastminute) where
     abbrev q : Query
-    q = queryOf source target minute 0
+    q = arrivalQuery source target minute
 
     rule-kept : queryRule (h .stops) (f .lastminute) q ≡ true
     rule-kept =
-        sym (code-decides-rule (h .stops) (f .lastminute) q
+        sym (margin-decides-rule (h .stops) (f .lastminute) q
         (sym (minute-decides (h .stops) (f .lastminute) q (call .fits .source) (call .fits .target) (call .fits .apart))
-        ∙ le-leb minute (f .lastminute) inside))
-        ∙ sym (no-code q refl)
+        ∙ le-leb minute (f .lastminute) inside) (sym (no-code q refl)))
+        ∙ sym (margin-decides q (omega arith))
 
     room-enough : enough (workRoom (length work)) h ≡ true
     unfolding enough

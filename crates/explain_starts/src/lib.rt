@@ -10,6 +10,7 @@ use file_layout::Format;
 use file_layout::Trailer;
 use planner::Earliest;
 use planner::earliest_checked;
+use query::LEAST_MARGIN;
 use query::Query;
 pub use words::print_starts;
 
@@ -67,6 +68,7 @@ fn starts_at(
         target,
         minute,
         code: 0,
+        margin: LEAST_MARGIN,
     };
     let earliest = earliest_checked(file, f, trailer, q, work);
     match earliest {

@@ -16,7 +16,7 @@ pub answer-earliest :
     (file : List ℕ) (s : SectionPlaces) → FileReadable file s → (source target minute first : ℕ) → source ≢ target → minute < 65536
     → Cut (rowsIn file s) minute first → {start : List ℕ} → SetOut source minute start → {answer : ℕ}
     → (Swept (timetableIn file s) source minute first start → EarliestReady (timetableIn file s) source minute target answer)
-    → (code : ℕ) → answer ≡ cellOf (earliest (timetableIn file s) (queryOf source target minute code))
-answer-earliest file s stand source target minute first apart small cut out found code =
-    earliest-cell (timetableIn file s) (seaworthy file s stand) (queryOf source target minute code) apart small
+    → (code margin : ℕ) → answer ≡ cellOf (earliest (timetableIn file s) (queryOf source target minute code margin))
+answer-earliest file s stand source target minute first apart small cut out found code margin =
+    earliest-cell (timetableIn file s) (seaworthy file s stand) (queryOf source target minute code margin) apart small
     (found (sets-sail (timetableIn file s) (seaworthy file s stand) source minute first cut out))

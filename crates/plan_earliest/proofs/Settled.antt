@@ -17,7 +17,7 @@ pub earliest-arrival-settled :
     → (one ≡ other) × (length (now (ending .1 .1 .1 .1 .1 .1 .1 .0)) ≡ length (now (another .1 .1 .1 .1 .1 .1 .1 .0)))
     × ((i : ℕ) → pairCells ≤ i → getD (now (ending .1 .1 .1 .1 .1 .1 .1 .0)) i 0 ≡ getD (now (another .1 .1 .1 .1 .1 .1 .1 .0)) i 0)
 earliest-arrival-settled κs arguments one other ending another first second = (
-  first .0 0 ∙ sym (second .0 0),
+  first .0 0 0 ∙ sym (second .0 0 0),
   first .1 .same-length ∙ sym (second .1 .same-length),
   λ i h. first .1 .behind i h ∙ sym (second .1 .behind i h),
 )

@@ -40,7 +40,7 @@ pub fn earliest_arrival(
 ) -> u32
     requires { ⌜ FileReadable (now file) s × TablesHeld (now tables) (tablesIn (now file) s) × (source < mostStops) × (target < mostStops)
         × (source ≢ target) × (minute < 65536) × Cut (rowsIn (now file) s) minute first × (pairCells ≤ length (now work)) ⌝ }
-    ensures { λ r. ⌜ ((code : ℕ) → r ≡ cellOf (earliest (timetableIn (now (file .entry)) s) (queryOf source target minute code)))
+    ensures { λ r. ⌜ ((code margin : ℕ) → r ≡ cellOf (earliest (timetableIn (now (file .entry)) s) (queryOf source target minute code margin)))
         × SameOutside tripCells pairCells (now (work .entry)) (now (work .exit)) ⌝ }
 {
     fill(work, TRIP_CELLS, MOST_TRIPS, 0);

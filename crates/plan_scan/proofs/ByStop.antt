@@ -1,5 +1,5 @@
 -- The chosen rides of one stop: what choosing one more row does to them. Assumes nothing.
-use Prim.Native.Nat.{ℕ, _≤_, _<_}
+use Prim.Native.Nat.{ℕ, _+_, _≤_, _<_}
 use mathlib.Core.Bool.{true, false, cond, not, _&&_}
 use mathlib.Core.List.{List, [], _∷_, List·Memᴰ, List·Memᴰ·head, List·Memᴰ·tail, List·Memᴰ·not-nil}
 use mathlib.Core.Logic.{_≢_}
@@ -7,7 +7,7 @@ use mathlib.Core.Option.{Option, none, some}
 use mathlib.Core.Path.{_≡_, refl, sym, ap, subst, _∙_}
 use native.Mathlib.Omega.{arith}
 use lib.Dec.{eqb}
-use borrow.Author.Tests.{eqb-true, eqb-false, eq-eqb, ne-eqb, lt-ltb, le-ltb}
+use borrow.Author.Tests.{eqb-true, eqb-false, eq-eqb, ne-eqb, le-leb, lt-leb}
 use Rattle.laws.proofs.Members.{head-or-later}
 use Rattle.laws.proofs.Tests.{ifb, both-left, both-right, cond-true, cond-false}
 use Rattle.plans.specs.Rides.{Ride}
@@ -120,25 +120,25 @@ unfolding choose
 choose-none aim chosen = refl
 
 module _ (aim : Aim) (chosen : List Valued) (v : Valued) (away : v .ride .from ≢ aim .target) where
-  leading : leads (v .worth) (headOf (atStop (v .ride .from) chosen)) ≡ true → choose aim (some v) chosen ≡ v ∷ others (v .ride) chosen
+  leading : leads (aim .margin) (v .worth) (headOf (atStop (v .ride .from) chosen)) ≡ true → choose aim (some v) chosen ≡ v ∷ others (v .ride) chosen
   unfolding choose
   leading e =
       cond-true (v ∷ others (v .ride) chosen) chosen
-      (ap (λ b. not b && leads (v .worth) (firstAt chosen (v .ride .from))) (ne-eqb (v .ride .from) (aim .target) away)
-      ∙ ap (leads (v .worth)) (first-at chosen (v .ride .from)) ∙ e)
+      (ap (λ b. not b && leads (aim .margin) (v .worth) (firstAt chosen (v .ride .from))) (ne-eqb (v .ride .from) (aim .target) away)
+      ∙ ap (leads (aim .margin) (v .worth)) (first-at chosen (v .ride .from)) ∙ e)
 
-  led : leads (v .worth) (headOf (atStop (v .ride .from) chosen)) ≡ false → choose aim (some v) chosen ≡ chosen
+  led : leads (aim .margin) (v .worth) (headOf (atStop (v .ride .from) chosen)) ≡ false → choose aim (some v) chosen ≡ chosen
   unfolding choose
   led e =
       cond-false (v ∷ others (v .ride) chosen) chosen
-      (ap (λ b. not b && leads (v .worth) (firstAt chosen (v .ride .from))) (ne-eqb (v .ride .from) (aim .target) away)
-      ∙ ap (leads (v .worth)) (first-at chosen (v .ride .from)) ∙ e)
+      (ap (λ b. not b && leads (aim .margin) (v .worth) (firstAt chosen (v .ride .from))) (ne-eqb (v .ride .from) (aim .target) away)
+      ∙ ap (leads (aim .margin) (v .worth)) (first-at chosen (v .ride .from)) ∙ e)
 
   joined :
-      (l : List Valued) → atStop (v .ride .from) chosen ≡ l → leads (v .worth) (headOf l) ≡ true
+      (l : List Valued) → atStop (v .ride .from) chosen ≡ l → leads (aim .margin) (v .worth) (headOf l) ≡ true
       → atStop (v .ride .from) (choose aim (some v) chosen) ≡ v ∷ others (v .ride) l
   joined l e lead =
-      ap (atStop (v .ride .from)) (leading (subst (λ (k : List Valued). leads (v .worth) (headOf k) ≡ true) (sym e) lead))
+      ap (atStop (v .ride .from)) (leading (subst (λ (k : List Valued). leads (aim .margin) (v .worth) (headOf k) ≡ true) (sym e) lead))
       ∙ at-stop-here (v .ride .from) v (others (v .ride) chosen) refl
       ∙ ap (λ (k : List Valued). v ∷ k) (at-others (v .ride) chosen (v .ride .from) ∙ ap (others (v .ride)) e)
 
@@ -148,16 +148,16 @@ module _ (aim : Aim) (chosen : List Valued) (v : Valued) (away : v .ride .from �
   own-alone e = joined [] e refl ∙ ap (λ (k : List Valued). v ∷ k) (none-gone (v .ride))
 
   module _ (u : Valued) (rest : List Valued) (e : atStop (v .ride .from) chosen ≡ u ∷ rest) where
-    -- its first chosen ride is worth no more
-    pub own-kept : u .worth ≤ v .worth → atStop (v .ride .from) (choose aim (some v) chosen) ≡ u ∷ rest
+    -- it gains less than the margin on its first chosen ride
+    pub own-kept : u .worth < v .worth + aim .margin → atStop (v .ride .from) (choose aim (some v) chosen) ≡ u ∷ rest
     unfolding leads
-    own-kept h = ap (atStop (v .ride .from)) (led (subst (λ (k : List Valued). leads (v .worth) (headOf k) ≡ false) (sym e) (le-ltb (v .worth) (u .worth) h))) ∙ e
+    own-kept h = ap (atStop (v .ride .from)) (led (subst (λ (k : List Valued). leads (aim .margin) (v .worth) (headOf k) ≡ false) (sym e) (lt-leb (v .worth + aim .margin) (u .worth) h))) ∙ e
 
-    module _ (below : v .worth < u .worth) (later : (x : Valued) → List·Memᴰ x rest → u .ride .departs < x .ride .departs)
+    module _ (below : v .worth + aim .margin ≤ u .worth) (later : (x : Valued) → List·Memᴰ x rest → u .ride .departs < x .ride .departs)
         (rising : v .ride .departs ≤ u .ride .departs) where
       own-joined : atStop (v .ride .from) (choose aim (some v) chosen) ≡ v ∷ others (v .ride) (u ∷ rest)
       unfolding leads
-      own-joined = joined (u ∷ rest) e (lt-ltb (v .worth) (u .worth) below)
+      own-joined = joined (u ∷ rest) e (le-leb (v .worth + aim .margin) (u .worth) below)
 
       rest-stays : others (v .ride) rest ≡ rest
       rest-stays =

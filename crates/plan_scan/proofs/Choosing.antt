@@ -208,15 +208,15 @@ module _ (row : Row) (i : ℕ) (aim : Aim) (best : Option Valued) (chosen : List
         rises : v .ride .departs ≤ top .first .ride .departs
         rises = subst (λ x. x ≤ top .first .ride .departs) (sym (c .minute v is)) (c .rising (top .first) (first-member .0))
 
-        not-chosen : entryWorth w (stackStart w (row .board)) k ≤ rowWorth w i
+        not-chosen : entryWorth w (stackStart w (row .board)) k < rowWorth w i + aim .margin
             → atStop (row .board) (choose aim best chosen) ≡ atStop (row .board) chosen
         not-chosen h =
             to-own (top .first ∷ top .rest)
             (own-kept aim chosen v own-away (top .first) (top .rest) (at-own (top .first ∷ top .rest) (top .all)) (omega (arith, top-worth)))
             ∙ sym (top .all)
 
-        module _ (less : rowWorth w i < entryWorth w (stackStart w (row .board)) k) where
-          below-first : v .worth < top .first .worth
+        module _ (less : rowWorth w i + aim .margin ≤ entryWorth w (stackStart w (row .board)) k) where
+          below-first : v .worth + aim .margin ≤ top .first .worth
           below-first = omega (arith, top-worth)
 
           replace-put : entryDeparture w (stackStart w (row .board)) k ≡ row .departure
@@ -240,7 +240,7 @@ module _ (row : Row) (i : ℕ) (aim : Aim) (best : Option Valued) (chosen : List
     found has = worth-some best (getD w (pairCell i) 0) (getD w (pairCell i + 1) 0) (pair-holds w i best holds) has
 
     pub stacks-chosen :
-        (w' : List ℕ) → Chose row i w w' → (stop : ℕ) → stop < mostStops → StackHeld w' from all (row ∷ rest) (choose aim best chosen) stop
+        (w' : List ℕ) → Chose row i (aim .margin) w w' → (stop : ℕ) → stop < mostStops → StackHeld w' from all (row ∷ rest) (choose aim best chosen) stop
     stacks-chosen w' (worthless e q) stop h =
         subst (λ (l : List ℕ). StackHeld l from all (row ∷ rest) (choose aim best chosen) stop) (sym q) (kept (none-chosen e) stop h)
     stacks-chosen w' (alone has size q) stop h =
@@ -261,7 +261,7 @@ module _ (row : Row) (i : ℕ) (aim : Aim) (best : Option Valued) (chosen : List
 
   -- what a store leaves of the other cells
   pub chose-or-stored :
-      (w' : List ℕ) → Chose row i w w' → (w' ≡ w) ⊎ ((k : ℕ) × (k ≤ stackSize w (row .board)) × (w' ≡ stored row i k w))
+      (w' : List ℕ) → Chose row i (aim .margin) w w' → (w' ≡ w) ⊎ ((k : ℕ) × (k ≤ stackSize w (row .board)) × (w' ≡ stored row i k w))
   chose-or-stored w' (worthless e q) = inl q
   chose-or-stored w' (alone has size q) = inr (0, (let z : 0 ≤ stackSize w (row .board) = omega arith in z), q)
   chose-or-stored w' (not-below has k size less q) = inl q

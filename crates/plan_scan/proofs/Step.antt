@@ -215,7 +215,7 @@ module _ (file : List ℕ) (s : SectionPlaces) (goal : Goal) (first end : ℕ) (
           ∙ ap (λ k. getD (record { trip = rowAt i .trip; best = bestRow file s goal end i } ∷ after (suc i) .weighed) k (record { trip = 0; best = none }) .best) none')
           (pairs-held .weighed i (let z : i ≤ i = omega arith in z) high)
 
-      module _ (w' : List ℕ) (chose : Chose (rowAt i) i w w') where
+      module _ (w' : List ℕ) (chose : Chose (rowAt i) i (goal .margin) w w') where
         or-stored : (w' ≡ w) ⊎ ((k : ℕ) × (k ≤ stackSize w (rowAt i .board)) × (w' ≡ stored (rowAt i) i k w))
         or-stored =
             chose-or-stored (rowAt i) i (inTicks goal) (bestRow file s goal end i) (after (suc i) .chosen) choosable w (suc (s .rows))

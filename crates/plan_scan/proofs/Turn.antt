@@ -90,9 +90,9 @@ module _ (file : List ℕ) (s : SectionPlaces) (goal : Goal) (first end : ℕ) (
       turn-pushable =
           subst (λ (r : Row). Pushable r i w') (sym is) (pushable file s goal first end stand inside i low high w' room' row-away (weighed .stacks-held))
 
-      module _ (w'' : List ℕ) (chose : Chose row i w' w'') where
-        as-row : Chose (rowOf (rowsIn file s) i) i w' w''
-        as-row = subst (λ (r : Row). Chose r i w' w'') is chose
+      module _ (w'' : List ℕ) (chose : Chose row i (goal .margin) w' w'') where
+        as-row : Chose (rowOf (rowsIn file s) i) i (goal .margin) w' w''
+        as-row = subst (λ (r : Row). Chose r i (goal .margin) w' w'') is chose
 
         pub turn-chosen : Held file s goal first end i w''
         turn-chosen =

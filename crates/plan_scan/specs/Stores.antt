@@ -34,21 +34,21 @@ rowWorth w i = getD w (pairCell i) 0
 abbrev pub stored : Row → (i k : ℕ) → List ℕ → List ℕ
 stored row i k w = withTop w (row .board) k (row .departure) i (rowWorth w i)
 
--- a row with a worth below that of its stop's first chosen row goes on the stack; in the same minute it replaces that row
-pub data Chose (row : Row) (i : ℕ) (w w' : List ℕ) : Type 0 where
-  worthless : rowWorth w i ≡ missing → w' ≡ w → Chose row i w w'
-  alone : (rowWorth w i ≡ missing → ⊥) → stackSize w (row .board) ≡ 0 → w' ≡ stored row i 0 w → Chose row i w w'
+-- a row whose worth plus the margin is at most that of its stop's first chosen row goes on the stack; in the same minute it replaces that row
+pub data Chose (row : Row) (i margin : ℕ) (w w' : List ℕ) : Type 0 where
+  worthless : rowWorth w i ≡ missing → w' ≡ w → Chose row i margin w w'
+  alone : (rowWorth w i ≡ missing → ⊥) → stackSize w (row .board) ≡ 0 → w' ≡ stored row i 0 w → Chose row i margin w w'
   not-below :
       (rowWorth w i ≡ missing → ⊥) → (k : ℕ) → stackSize w (row .board) ≡ suc k
-      → entryWorth w (stackStart w (row .board)) k ≤ rowWorth w i → w' ≡ w → Chose row i w w'
+      → entryWorth w (stackStart w (row .board)) k < rowWorth w i + margin → w' ≡ w → Chose row i margin w w'
   replaces :
       (rowWorth w i ≡ missing → ⊥) → (k : ℕ) → stackSize w (row .board) ≡ suc k
-      → rowWorth w i < entryWorth w (stackStart w (row .board)) k → entryDeparture w (stackStart w (row .board)) k ≡ row .departure
-      → w' ≡ stored row i k w → Chose row i w w'
+      → rowWorth w i + margin ≤ entryWorth w (stackStart w (row .board)) k → entryDeparture w (stackStart w (row .board)) k ≡ row .departure
+      → w' ≡ stored row i k w → Chose row i margin w w'
   ahead :
       (rowWorth w i ≡ missing → ⊥) → (k : ℕ) → stackSize w (row .board) ≡ suc k
-      → rowWorth w i < entryWorth w (stackStart w (row .board)) k → (entryDeparture w (stackStart w (row .board)) k ≡ row .departure → ⊥)
-      → w' ≡ stored row i (suc k) w → Chose row i w w'
+      → rowWorth w i + margin ≤ entryWorth w (stackStart w (row .board)) k → (entryDeparture w (stackStart w (row .board)) k ≡ row .departure → ⊥)
+      → w' ≡ stored row i (suc k) w → Chose row i margin w w'
 
 -- the cells that weighing and choosing a row touch are lent
 pub record Weighable (row : Row) (i : ℕ) (w : List ℕ) : Type 0 where

@@ -1,6 +1,7 @@
-// Document 01, "Expected arrival in ticks": worth, leaving row and chosen rows, by one scan backward.
+// Document 01, "Expected arrival in ticks", and document 02, E1: worth, leaving row and chosen rows, by one scan backward.
 ghost use mathlib.Core.Path.{_≡_};
-ghost use Prim.Native.Nat.{ℕ, _+_, _≤_, _<_};
+ghost use Prim.Native.Nat.{ℕ, _+_, _-_, _≤_, _<_};
+ghost use lib.Dec.{leb};
 ghost use lib.ListN.{length};
 ghost use lib.Seq.{slice};
 ghost use Rattle.timetable.specs.Limits.{mostStops};
@@ -93,7 +94,7 @@ fn weigh_rows(
         let off = getting_off(row, tables, goal, work);
         weigh_row(row, i, off, work);
         if row.board != goal.target {
-            choose(row, i, work);
+            choose(row, i, goal.margin, work);
         }
     }
 }
@@ -117,11 +118,11 @@ fn weigh_row(row: Row, i: usize, off: u32, work: &mut [u32])
     }
 }
 
-// A row with a worth below that of its stop's first chosen row goes on the stack; in the same minute it
-// replaces that row.
-fn choose(row: Row, i: usize, work: &mut [u32])
+// A row whose worth plus the margin is at most that of its stop's first chosen row goes on the stack; in
+// the same minute it replaces that row.
+fn choose(row: Row, i: usize, margin: usize, work: &mut [u32])
     requires { ⌜ Pushable row i (now work) ⌝ }
-    ensures { λ r. ⌜ Chose row i (now (work .entry)) (now (work .exit)) ⌝ }
+    ensures { λ r. ⌜ Chose row i margin (now (work .entry)) (now (work .exit)) ⌝ }
 {
     let worth = work[PAIR_CELLS + 2 * i];
     let stack = stack_of(work, row.board);
@@ -133,7 +134,7 @@ fn choose(row: Row, i: usize, work: &mut [u32])
         return;
     }
     let first = top(work, stack);
-    if first.worth <= worth {
+    if !gains(worth, first.worth, margin) {
         return;
     }
     if first.departure == row.departure {
@@ -141,4 +142,18 @@ fn choose(row: Row, i: usize, work: &mut [u32])
     } else {
         push(work, row.board, stack, row.departure, i, worth);
     }
+}
+
+// A worth plus the margin is at most that of the first chosen row: the worth lies below a limit that is
+// known before it, 0 where the margin is more than that row is worth.
+fn gains(worth: u32, first: u32, margin: usize) -> bool
+    ensures { λ r. ⌜ r ≡ leb (worth + margin) first ⌝ }
+{
+    number(worth) < limit(number(first) + 1, margin)
+}
+
+fn limit(end: usize, margin: usize) -> usize
+    ensures { λ r. ⌜ r ≡ end - margin ⌝ }
+{
+    if end < margin { 0 } else { end - margin }
 }

@@ -12,6 +12,7 @@ use Rattle.laws.proofs.Places.{member-at}
 use Rattle.timetable.specs.Timetable.{Timetable}
 use Rattle.timetable.specs.declared.Row.{Row}
 use Rattle.query.specs.declared.Query.{Query}
+use Rattle.plans.specs.declared.Goal.{Goal}
 use Rattle.plans.specs.Journeys.{goalOf}
 use Rattle.plans.specs.Rides.{Ride}
 use Rattle.plans.specs.Worth.{Valued, firstOpen}
@@ -83,36 +84,33 @@ module _
     abbrev t : Timetable
     t = timetableIn file s
 
-    abbrev aimAt : ℕ → Aim
-    aimAt target = inTicks (record { target = target; bound = bound })
-
-    abbrev chosen : ℕ → List Valued
-    chosen target = scanPart (aimAt target) t first end .chosen
+    abbrev chosen : Goal → List Valued
+    chosen goal = scanPart (inTicks goal) t first end .chosen
 
     abbrev size : ℕ
     size = stackSize work (q .source)
 
-    abbrev rides : ℕ → Valued → List Valued
-    rides target v = extract target (upTo (q .source) (q .minute) (some v)) (chosen target)
+    abbrev rides : Goal → Valued → List Valued
+    rides goal v = extract (goal .target) (upTo (q .source) (q .minute) (some v)) (chosen goal)
 
     -- what the top of the stack tells of the plan
-    pub record Top (target : ℕ) : Type 0 where
+    pub record Top (goal : Goal) : Type 0 where
       pub ride : Valued
       pub row : entryRow work (stackStart work (q .source)) (size - 1) ≡ ride .ride .board
       pub worth : entryWorth work (stackStart work (q .source)) (size - 1) ≡ ride .worth
-      pub first-here : firstOpen (chosen target) (q .source) (q .minute) ≡ some ride
+      pub first-here : firstOpen (chosen goal) (q .source) (q .minute) ≡ some ride
       pub is-plan :
           planIn file s q bound
-          ≡ some (record { rides = rides target ride; expected = ride .worth; latest = latestOf (rides target ride); bound = bound })
-      pub few : length (rides target ride) ≤ 2000
+          ≡ some (record { rides = rides goal ride; expected = ride .worth; latest = latestOf (rides goal ride); bound = bound })
+      pub few : length (rides goal ride) ≤ 2000
 
-    abbrev pub Told : ℕ → Type 0
-    Told target = (size ≡ 0 → planIn file s q bound ≡ none) × (0 < size → Top target)
+    abbrev pub Told : Goal → Type 0
+    Told goal = (size ≡ 0 → planIn file s q bound ≡ none) × (0 < size → Top goal)
 
     module _ (held : ScanHeld work (s .rows) first end (scanPart (inTicks (goalOf q bound)) t first end))
         (idle : Idle (inTicks (goalOf q bound)) t end) where
       here : List Valued
-      here = atStop (q .source) (chosen (q .target))
+      here = atStop (q .source) (chosen (goalOf q bound))
 
       abbrev someone : Valued
       someone = record { ride = record { board = 0; leave = 0; from = 0; departs = 0; to = 0; arrives = 0; shares = [] }; worth = 0 }
@@ -121,18 +119,18 @@ module _
       unfolding here
       counted = stack-size work (stackStart work (q .source)) size here (held .stack-holds (q .source) (laid .source))
 
-      seen : firstOpen (chosenFor t (goalOf q bound)) (q .source) (q .minute) ≡ firstOpen (chosen (q .target)) (q .source) (q .minute)
+      seen : firstOpen (chosenFor t (goalOf q bound)) (q .source) (q .minute) ≡ firstOpen (chosen (goalOf q bound)) (q .source) (q .minute)
       seen = part-first t (laid .timely) (goalOf q bound) (q .source) (q .minute) first end (laid .cut) ordered idle
 
       none-here : size ≡ 0 → planIn file s q bound ≡ none
       unfolding here planWithin
       none-here e =
           ap (planWithin t q bound)
-          (seen ∙ first-open-at-stop (chosen (q .target)) (q .source) (q .minute)
+          (seen ∙ first-open-at-stop (chosen (goalOf q bound)) (q .source) (q .minute)
           ∙ first-open-none here (q .source) (q .minute) someone (λ k h. absurd (let z : ⊥ = omega (arith, counted) in z)))
 
       -- a chosen row of this part departs at or after T
-      departs-later : (v : Valued) → List·Memᴰ v (chosen (q .target)) → q .minute ≤ v .ride .departs
+      departs-later : (v : Valued) → List·Memᴰ v (chosen (goalOf q bound)) → q .minute ≤ v .ride .departs
       departs-later v m =
           let aim = inTicks (goalOf q bound) in
           let picked = chosen-picked aim t first (let z : first ≤ length (t .rows) = omega (arith, laid .stand .rows-count) in z) v
@@ -143,23 +141,23 @@ module _
       abbrev ahead : Valued
       ahead = getD here 0 someone
 
-      is-first : 0 < size → firstOpen (chosen (q .target)) (q .source) (q .minute) ≡ some ahead
+      is-first : 0 < size → firstOpen (chosen (goalOf q bound)) (q .source) (q .minute) ≡ some ahead
       unfolding here
       is-first h =
           let some-here : 0 < length here = omega (arith, counted) in
-          first-open-at-stop (chosen (q .target)) (q .source) (q .minute)
-          ∙ first-open-at here (q .source) (q .minute) 0 someone some-here (at-stop-from (q .source) (chosen (q .target)) 0 someone some-here)
-          (departs-later ahead (at-stop-member (q .source) (chosen (q .target)) ahead (member-at here 0 someone some-here)))
+          first-open-at-stop (chosen (goalOf q bound)) (q .source) (q .minute)
+          ∙ first-open-at here (q .source) (q .minute) 0 someone some-here (at-stop-from (q .source) (chosen (goalOf q bound)) 0 someone some-here)
+          (departs-later ahead (at-stop-member (q .source) (chosen (goalOf q bound)) ahead (member-at here 0 someone some-here)))
           (λ k below. absurd (let z : ⊥ = omega arith in z))
 
-      first-plan : (v : Valued) → firstOpen (chosen (q .target)) (q .source) (q .minute) ≡ some v → planIn file s q bound
-          ≡ some (record { rides = rides (q .target) v; expected = v .worth; latest = latestOf (rides (q .target) v); bound = bound })
+      first-plan : (v : Valued) → firstOpen (chosen (goalOf q bound)) (q .source) (q .minute) ≡ some v → planIn file s q bound
+          ≡ some (record { rides = rides (goalOf q bound) v; expected = v .worth; latest = latestOf (rides (goalOf q bound) v); bound = bound })
       unfolding planWithin ridesFrom
       first-plan v e =
           ap (planWithin t q bound) (seen ∙ e)
           ∙ ap (λ (vs : List Valued). some (record { rides = vs; expected = v .worth; latest = latestOf vs; bound = bound }))
           (part-rides t (laid .timely) q bound first end (laid .cut) ordered idle
-          ∙ ap (λ (o : Option Valued). extract (q .target) (upTo (q .source) (q .minute) o) (chosen (q .target))) e)
+          ∙ ap (λ (o : Option Valued). extract (q .target) (upTo (q .source) (q .minute) o) (chosen (goalOf q bound))) e)
 
       top-entry : 0 < size → entryAt work (stackStart work (q .source) + 2 * (size - 1)) ≡ entryOf ahead
       unfolding here
@@ -173,7 +171,7 @@ module _
           let some-here : 0 < length here = omega (arith, counted) in
           held .climbing (q .source) (laid .source) .fits ahead (member-at here 0 someone some-here)
 
-      told : Told (q .target)
+      told : Told (goalOf q bound)
       told = (
         none-here,
         λ h.
@@ -187,9 +185,9 @@ module _
               first-here = is-first h;
               is-plan = first-plan ahead (is-first h);
               few =
-                  (let z : length (rides (q .target) ahead) ≤ 2000 = omega (
+                  (let z : length (rides (goalOf q bound) ahead) ≤ 2000 = omega (
                     arith,
-                    extract-few (q .target) (upTo (q .source) (q .minute) (some ahead)) (chosen (q .target)),
+                    extract-few (q .target) (upTo (q .source) (q .minute) (some ahead)) (chosen (goalOf q bound)),
                     chosen-few (inTicks (goalOf q bound)) (t .tables) first (slice first end (t .rows)),
                     length-slice first end (t .rows) (let y : end ≤ length (t .rows) = omega (arith, laid .stand .rows-count) in y),
                     laid .stand .few-rows,
@@ -197,10 +195,10 @@ module _
             },
       )
 
-    -- the same of a goal whose target is the query's
-    pub goal-told : (target : ℕ) → target ≡ q .target → ScanHeld work (s .rows) first end (scanPart (aimAt target) t first end)
-        → Idle (aimAt target) t end → Told target
-    goal-told target e =
+    -- the same of a goal that is the query's
+    pub goal-told : (goal : Goal) → goal ≡ goalOf q bound → ScanHeld work (s .rows) first end (scanPart (inTicks goal) t first end)
+        → Idle (inTicks goal) t end → Told goal
+    goal-told goal e =
         subst
-        (λ x. ScanHeld work (s .rows) first end (scanPart (aimAt x) t first end) → Idle (aimAt x) t end → Told x)
+        (λ (g : Goal). ScanHeld work (s .rows) first end (scanPart (inTicks g) t first end) → Idle (inTicks g) t end → Told g)
         (sym e) told

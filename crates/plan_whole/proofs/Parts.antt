@@ -2,7 +2,7 @@
 use Prim.Native.Nat.{ℕ, _≤_, _<_}
 use native.Mathlib.Omega.{arith}
 use mathlib.Core.List.{List}
-use mathlib.Core.Path.{_≡_, sym, subst}
+use mathlib.Core.Path.{refl, sym, subst}
 use lib.Dec.{eqb, ltb}
 use lib.ListN.{length}
 use borrow.Author.Tests.{eqb-true, eqb-false, ltb-true, ltb-false}
@@ -10,6 +10,7 @@ use Rattle.laws.proofs.Tests.{ifb}
 use Rattle.timetable.specs.Timetable.{Timetable}
 use Rattle.timetable.specs.declared.Row.{Row}
 use Rattle.query.specs.declared.Query.{Query}
+use Rattle.plans.specs.Journeys.{goalOf}
 use Rattle.plans.specs.Sound.{Timely}
 use Rattle.plans.specs.Chosen.{inTicks}
 use Rattle.plan_rows.specs.declared.SectionPlaces.{SectionPlaces}
@@ -47,14 +48,13 @@ within-inside rows bound end within =
     ifb (λ _. end ≤ length rows) (eqb bound 0) (λ e. omega (arith, within .all (eqb-true bound 0 e)))
     (λ e. within .before (eqb-false bound 0 e) .inside)
 
-pub is-part : (file : List ℕ) (s : SectionPlaces) (tables : List ℕ) (q : Query) (goal : Goal) (first end : ℕ) → PlanningInput file s tables q first
-    → goal .target ≡ q .target → goal .bound < 4294967296 → Reaches (q .minute) (goal .bound) → RowsWithin (rowsIn file s) (goal .bound) end
-    → RowsInReach file s q goal first end
-is-part file s tables q goal first end laid target fits reaches within =
+pub is-part : (file : List ℕ) (s : SectionPlaces) (tables : List ℕ) (q : Query) (bound first end : ℕ) → PlanningInput file s tables q first
+    → bound < 4294967296 → Reaches (q .minute) bound → RowsWithin (rowsIn file s) bound end → RowsInReach file s q (goalOf q bound) first end
+is-part file s tables q bound first end laid fits reaches within =
     record {
-      target = target;
+      aims = refl;
       bound = fits;
-      ordered = within-ordered (rowsIn file s) (q .minute) (goal .bound) first end (laid .cut) reaches within;
-      inside = omega (arith, within-inside (rowsIn file s) (goal .bound) end within, laid .stand .rows-count);
-      idle = within-idle (timetableIn file s) (laid .timely) goal end within;
+      ordered = within-ordered (rowsIn file s) (q .minute) bound first end (laid .cut) reaches within;
+      inside = omega (arith, within-inside (rowsIn file s) bound end within, laid .stand .rows-count);
+      idle = within-idle (timetableIn file s) (laid .timely) (goalOf q bound) end within;
     }

@@ -55,7 +55,7 @@ pub record RowsWithin (rows : List Row) (bound end : ℕ) : Type 0 where
 
 -- the rows from `first` to before `end` are all that a plan for this goal can board
 pub record RowsInReach (file : List ℕ) (s : SectionPlaces) (q : Query) (goal : Goal) (first end : ℕ) : Type 0 where
-  pub target : goal .target ≡ q .target
+  pub aims : goal ≡ goalOf q (goal .bound)
   pub bound : goal .bound < 4294967296
   pub ordered : first ≤ end
   pub inside : end ≤ s .rows

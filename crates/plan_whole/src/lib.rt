@@ -115,6 +115,7 @@ fn plan_within(
     let goal = Goal {
         target: q.target,
         bound,
+        margin: q.margin,
     };
     scan_back(file, s, tables, goal, first, end, work);
     plan_scanned(file, s, tables, q, goal, end, work, plan)

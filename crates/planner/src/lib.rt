@@ -6,7 +6,7 @@ ghost use Rattle.timetable.specs.Limits.{mostRows, mostStops};
 ghost use Rattle.file_layout.specs.Check.{checkedAs};
 ghost use Rattle.file_layout.specs.Format.{Readable, versionOne};
 ghost use Rattle.file_layout.specs.declared.Checked.the-variants.{Sound};
-ghost use Rattle.query.specs.Query.{queryOf};
+ghost use Rattle.query.specs.Query.{arrivalQuery};
 ghost use Rattle.plan_rows.specs.Sections.{Plannable};
 ghost use Rattle.planner.specs.Admission.{Admits, SmallRoom, admitted, callVerdict, enough as isEnough, faultNumber, needs, noRoom, planRoom, workRoom};
 ghost use Rattle.planner.specs.Outcome.{earliestOutcome, planOutcome};
@@ -21,6 +21,7 @@ use plan_cells::fill;
 use plan_whole::Planned;
 use plan_whole::earliest_in_room;
 use plan_whole::plan_in_room;
+use query::LEAST_MARGIN;
 use query::Query;
 use query::query_rule;
 
@@ -206,14 +207,15 @@ pub fn earliest_safe_arrival(
     minute: usize,
     work: &mut [u32],
 ) -> Earliest
-    ensures { λ r. ⌜ (r ≡ earliestOutcome versionOne (now (file .entry)) (queryOf source target minute 0) (now (work .entry)) .answer)
-        × (now (work .exit) ≡ earliestOutcome versionOne (now (file .entry)) (queryOf source target minute 0) (now (work .entry)) .work) ⌝ }
+    ensures { λ r. ⌜ (r ≡ earliestOutcome versionOne (now (file .entry)) (arrivalQuery source target minute) (now (work .entry)) .answer)
+        × (now (work .exit) ≡ earliestOutcome versionOne (now (file .entry)) (arrivalQuery source target minute) (now (work .entry)) .work) ⌝ }
 {
     let q = Query {
         source,
         target,
         minute,
         code: 0,
+        margin: LEAST_MARGIN,
     };
     let admission = admit(file, VERSION_ONE, q, work_needs(work.len()), NO_ROOM);
     match admission {

@@ -122,7 +122,7 @@ module _ (aim : Aim) (t : Timetable) where
     pub inside : v .ride .board < length (t .rows)
     pub best : bestAt aim t (v .ride .board) ≡ some v
     pub elsewhere : v .ride .from ≢ aim .target
-    pub leading : leads (v .worth) (firstAt (chosenFrom aim t (suc (v .ride .board))) (v .ride .from)) ≡ true
+    pub leading : leads (aim .margin) (v .worth) (firstAt (chosenFrom aim t (suc (v .ride .board))) (v .ride .from)) ≡ true
 
   picked-later : (i : ℕ) (v : Valued) → Picked (suc i) v → Picked i v
   picked-later i v p =
@@ -134,9 +134,9 @@ module _ (aim : Aim) (t : Timetable) where
         leading = p .leading;
       }
 
-  picked-here :
+  pub picked-here :
       (i : ℕ) → i < length (t .rows) → (v : Valued) → bestAt aim t i ≡ some v → v .ride .from ≢ aim .target
-      → leads (v .worth) (firstAt (chosenFrom aim t (suc i)) (v .ride .from)) ≡ true → Picked i v
+      → leads (aim .margin) (v .worth) (firstAt (chosenFrom aim t (suc i)) (v .ride .from)) ≡ true → Picked i v
   picked-here i h v e apart lead =
       let at : i ≡ v .ride .board = sym (best-boards i h v e .row) in
       record {
@@ -144,7 +144,7 @@ module _ (aim : Aim) (t : Timetable) where
         inside = subst (λ k. k < length (t .rows)) at h;
         best = subst (λ k. bestAt aim t k ≡ some v) at e;
         elsewhere = apart;
-        leading = subst (λ k. leads (v .worth) (firstAt (chosenFrom aim t (suc k)) (v .ride .from)) ≡ true) at lead;
+        leading = subst (λ k. leads (aim .margin) (v .worth) (firstAt (chosenFrom aim t (suc k)) (v .ride .from)) ≡ true) at lead;
       }
 
   picked-by :

@@ -18,9 +18,9 @@ use Rattle.plans.proofs.Open.{first-here, first-further, on-head}
 pub data Choice (aim : Aim) (chosen : List Valued) : Option Valued → List Valued → Type 0 where
   worthless : Choice aim chosen none chosen
   at-target : {v : Valued} → v .ride .from ≡ aim .target → Choice aim chosen (some v) chosen
-  behind : {v : Valued} → leads (v .worth) (firstAt chosen (v .ride .from)) ≡ false → Choice aim chosen (some v) chosen
+  behind : {v : Valued} → leads (aim .margin) (v .worth) (firstAt chosen (v .ride .from)) ≡ false → Choice aim chosen (some v) chosen
   added :
-      {v : Valued} → v .ride .from ≢ aim .target → leads (v .worth) (firstAt chosen (v .ride .from)) ≡ true
+      {v : Valued} → v .ride .from ≢ aim .target → leads (aim .margin) (v .worth) (firstAt chosen (v .ride .from)) ≡ true
       → Choice aim chosen (some v) (v ∷ others (v .ride) chosen)
 
 pub choice : (aim : Aim) (best : Option Valued) (chosen : List Valued) → Choice aim chosen best (choose aim best chosen)
@@ -33,7 +33,7 @@ choice aim (some v) chosen =
     (λ yes' _. added (eqb-false (v .ride .from) (aim .target) e) yes') (λ no' _. behind no') refl)
   where
     lead : Bool
-    lead = leads (v .worth) (firstAt chosen (v .ride .from))
+    lead = leads (aim .margin) (v .worth) (firstAt chosen (v .ride .from))
 
 -- the test by which one row replaces another
 abbrev pub same-minute : Ride → Ride → Bool

@@ -114,7 +114,7 @@ module _ (t : Timetable) (target : ℕ) where
         (boards-behind t timely r next is (onward-ride on) (omega arith))
         (r .to) (landsBy r) end (T-true b) (eqb-false (r .to) target q) (minutes-least on))
         (λ u e h. raised (ride-at-most (inMinutes target) t r is (minutes-landed target) (u .worth)
-        (minutes-elsewhere target r _ (eqb-false (r .to) target q) u e)) h)) refl
+        (minutes-elsewhere target r _ (eqb-false (r .to) target q) u e)) (let z : u .worth ≤ end = omega arith in z))) refl
 
     -- a row has a best ride, in minutes, exactly if it begins a safe journey
     pub begins-in-minutes : (i : ℕ) → i < length (t .rows) → ((v : Valued) × (bestAt (inMinutes target) t i ≡ some v)) ↔ Begins t target i
@@ -127,8 +127,8 @@ module _ (t : Timetable) (target : ℕ) where
     pub journey-least :
         (s m : ℕ) → s ≢ target → (r : Ride) {end : ℕ} → boards r s m ≡ true → Onward t target r end
         → AtMost (firstOpen (chosenFrom (inMinutes target) t 0) s m) end
-    journey-least s m elsewhere r {end} b on = ride-first t timely (inMinutes target) 0 r (onward-ride on) zero-le s m end b elsewhere
-        (minutes-least on)
+    journey-least s m elsewhere r {end} b on =
+        raised (ride-first t timely (inMinutes target) 0 r (onward-ride on) zero-le s m end b elsewhere (minutes-least on)) (omega arith)
 
 -- who stands at the target has nothing chosen to board
 pub chosen-away : (aim : Aim) (t : Timetable) (s m : ℕ) {v : Valued} → firstOpen (chosenFrom aim t 0) s m ≡ some v
@@ -187,9 +187,9 @@ journey-after t timely q end j =
     omega arith
 
 -- who can start later can start earlier: a later start never helps
-pub journey-earlier : (t : Timetable) (source target code : ℕ) {minute later end : ℕ} → minute ≤ later
-    → Journey t (queryOf source target later code) end → Journey t (queryOf source target minute code) end
-journey-earlier t source target code {minute} {later} before j =
+pub journey-earlier : (t : Timetable) (source target code margin : ℕ) {minute later end : ℕ} → minute ≤ later
+    → Journey t (queryOf source target later code margin) end → Journey t (queryOf source target minute code margin) end
+journey-earlier t source target code margin {minute} {later} before j =
     record {
       first = j .first;
       in-time = true-T (boards-earlier (j .first) source later minute before (T-true (j .in-time)));

@@ -5,6 +5,7 @@ pub mod AtMost
 pub mod FromRow
 pub mod Choice
 pub mod Order
+pub mod Gaining
 pub mod BestRides
 pub mod FirstLeast
 pub mod Staying

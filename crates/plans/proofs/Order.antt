@@ -1,4 +1,4 @@
--- Chosen rides stand by boarding row rising; at each stop their departures and worths rise. Assumes nothing.
+-- Chosen rides stand by boarding row rising, and at each stop their departures rise. Assumes nothing.
 use Prim.Native.Nat.{ℕ, _≤_, _<_}
 use native.Mathlib.Omega.{arith}
 use mathlib.Core.Bool.{true, false, cond, false≢true}
@@ -21,38 +21,10 @@ pub record Before (v u : Valued) : Type 0 where
   pub rows : v .ride .board < u .ride .board
   pub minutes : v .ride .departs ≤ u .ride .departs
   pub apart : v .ride .from ≡ u .ride .from → v .ride .departs < u .ride .departs
-  pub cheaper : v .ride .from ≡ u .ride .from → v .worth < u .worth
 
 pub data Ordered : List Valued → Type 0 where
   nobody : Ordered []
   ahead : {v : Valued} {vs : List Valued} → ((u : Valued) → List·Memᴰ u vs → Before v u) → Ordered vs → Ordered (v ∷ vs)
-
--- what leads the stop's first chosen row leads each of its chosen rows
-pub leads-each :
-    (vs : List Valued) → Ordered vs → (w s : ℕ) → leads w (firstAt vs s) ≡ true → (x : Valued) → List·Memᴰ x vs → x .ride .from ≡ s → w < x .worth
-unfolding leads firstAt
-leads-each [] o w s lead x m there = absurd (List·Memᴰ·not-nil m)
-leads-each (v ∷ vs) (ahead before o) w s lead x m there =
-    ifb (λ b. eqb (v .ride .from) s ≡ b → leads w (cond b (some v) (firstAt vs s)) ≡ true → w < x .worth) (eqb (v .ride .from) s)
-    (λ e _ l. head-or-later (w < x .worth) m (λ q. subst (λ (u : Valued). w < u .worth) (sym q) (ltb-true w (v .worth) l))
-    (λ n. let first : w < v .worth = ltb-true w (v .worth) l in
-    let then : v .worth < x .worth = before x n .cheaper (eqb-true (v .ride .from) s e ∙ sym there) in omega arith))
-    (λ e _ l. leads-each vs o w s l x (head-or-later (List·Memᴰ x vs) m
-    (λ q. absurd (eqb-false (v .ride .from) s e (ap (λ (u : Valued). u .ride .from) (sym q) ∙ there))) (λ n. n)) there) refl lead
-
--- what does not lead finds one at its stop, from a minute at which none has left, that is worth no more
-pub led-by-first :
-    (vs : List Valued) (w s m : ℕ) → leads w (firstAt vs s) ≡ false → ((x : Valued) → List·Memᴰ x vs → m ≤ x .ride .departs)
-    → AtMost (firstOpen vs s m) w
-unfolding leads firstAt
-led-by-first [] w s m led early = absurd (false≢true (sym led))
-led-by-first (v ∷ vs) w s m led early =
-    ifb (λ b. eqb (v .ride .from) s ≡ b → leads w (cond b (some v) (firstAt vs s)) ≡ false → AtMost (firstOpen (v ∷ vs) s m) w)
-    (eqb (v .ride .from) s)
-    (λ e _ l. is-at-most (first-here v vs s m (can-board (v .ride) s m (eqb-true (v .ride .from) s e) (early v (List·Memᴰ·head refl))))
-    (ltb-false w (v .worth) l))
-    (λ e _ l. on-head (AtMost (firstOpen (v ∷ vs) s m) w) v vs s m (λ b _. absurd (eqb-false (v .ride .from) s e (boards-stop (v .ride) s m b)))
-    (λ _ h. subst (λ (o : Option Valued). AtMost o w) (sym h) (led-by-first vs w s m l (λ x n. early x (List·Memᴰ·tail n))))) refl led
 
 -- of two members at one stop the one that departs first stands first; in one minute they are one
 pub members-apart :

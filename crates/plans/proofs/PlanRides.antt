@@ -16,8 +16,9 @@ use Rattle.plans.specs.Chosen.{inTicks}
 use Rattle.plans.specs.Plan.{Plan, chosenFor, ridesFrom}
 use Rattle.plans.proofs.Open.{found-boards}
 use Rattle.plans.proofs.BestRides.{Picked, chosen-picked, best-is-ride}
-use Rattle.plans.proofs.FirstLeast.{chosen-ordered}
+use Rattle.plans.proofs.FirstLeast.{chosen-ordered, chosen-gaining}
 use Rattle.plans.proofs.Order.{Ordered}
+use Rattle.plans.proofs.Gaining.{Gaining}
 use Rattle.plans.proofs.OwnWorth.{OwnWorth}
 use Rattle.plans.proofs.ChosenWorth.{chosen-own, best-within}
 use Rattle.plans.proofs.Extracted.{up-to-wants, extract-member, extract-ordered, extract-own, extract-first}
@@ -32,6 +33,10 @@ module _ (t : Timetable) (timely : Timely t) where
     pub for-ordered : Ordered (chosenFor t goal)
     for-ordered = subst (λ (l : List Valued). Ordered l) (sym (chosen-for t goal))
         (chosen-ordered (inTicks goal) t timely 0 zero-le)
+
+    pub for-gaining : Gaining (goal .margin) (chosenFor t goal)
+    for-gaining = subst (λ (l : List Valued). Gaining (goal .margin) l) (sym (chosen-for t goal))
+        (chosen-gaining (inTicks goal) t timely 0 zero-le)
 
     pub for-own : OwnWorth (goal .target) (chosenFor t goal)
     for-own = subst (λ (l : List Valued). OwnWorth (goal .target) l) (sym (chosen-for t goal)) (chosen-own t timely goal 0 zero-le)

@@ -1,5 +1,5 @@
 -- A ride's minutes, and that what is boarded after it stands behind it. Uses rising departures and rows that arrive after they depart.
-use Prim.Native.Nat.{ℕ, suc, pred, _≤_, _<_}
+use Prim.Native.Nat.{ℕ, suc, pred, _+_, _-_, _≤_, _<_}
 use native.Mathlib.Nat.{lt-of-not-le}
 use native.Mathlib.Omega.{arith}
 use mathlib.Core.Bool.{true}
@@ -51,16 +51,16 @@ module _ (t : Timetable) (timely : Timely t) where
   board-inside r is = omega (arith, is .onward, is .inside)
 
   module _ (aim : Aim) where
-    -- who can board a ride finds a first chosen row that is worth no more than the ride's boarding row
+    -- who can board a ride finds a first chosen row that is worth less than the margin more than the ride's boarding row
     pub ride-first :
         (i : ℕ) (r : Ride) → IsRide t r → i ≤ r .board → (s m w : ℕ) → boards r s m ≡ true → s ≢ aim .target → AtMost (bestAt aim t (r .board)) w
-        → AtMost (firstOpen (chosenFrom aim t i) s m) w
+        → AtMost (firstOpen (chosenFrom aim t i) s m) (w + (aim .margin - 1))
     ride-first i r is here s m w b elsewhere best =
-        found-at-most (AtMost (firstOpen (chosenFrom aim t i) s m) w) best
+        found-at-most (AtMost (firstOpen (chosenFrom aim t i) s m) (w + (aim .margin - 1))) best
         (λ v e h. let at = best-boards aim t (r .board) (board-inside r is) v e in
         let there : v .ride .from ≡ s = at .stop ∙ sym (ap (λ (x : Ride). x .from) (is .as-timed)) ∙ boards-stop r s m b in
         let then : v .ride .departs ≡ r .departs = at .minute ∙ sym (ap (λ (x : Ride). x .departs) (is .as-timed)) in
-        raised (subst (λ k. AtMost (firstOpen (chosenFrom aim t i) k m) (v .worth)) there
+        raised (subst (λ k. AtMost (firstOpen (chosenFrom aim t i) k m) (v .worth + (aim .margin - 1))) there
         (first-least aim t timely i (let z : i ≤ length (t .rows) = omega (arith, board-inside r is) in z) (r .board) here
         (board-inside r is) v e
-        (λ q. elsewhere (sym there ∙ q)) m (let z : m ≤ v .ride .departs = omega (arith, boards-minute r s m b) in z))) h)
+        (λ q. elsewhere (sym there ∙ q)) m (let z : m ≤ v .ride .departs = omega (arith, boards-minute r s m b) in z))) (omega arith))

@@ -1,11 +1,12 @@
--- Document 01, "Expected arrival in ticks": a row's worth, and which rows are chosen, from the last row to the first.
-use Prim.Native.Nat.{ℕ, suc}
+-- Document 01, "Expected arrival in ticks", and document 02, E1: a row's worth, and which rows are chosen, from the last row to the first.
+use Prim.Native.Nat.{ℕ, suc, _+_}
 use mathlib.Core.Bool.{Bool, true, cond, not, _&&_}
 use mathlib.Core.List.{List, [], _∷_}
 use mathlib.Core.Option.{Option, none, some}
-use lib.Dec.{eqb, ltb}
+use lib.Dec.{eqb, leb, ltb}
 use Rattle.timetable.specs.Timetable.{Timetable, sharesOf}
 use Rattle.timetable.specs.declared.Row.{Row}
+use Rattle.query.specs.Query.{leastMargin}
 use Rattle.plans.specs.declared.Goal.{Goal}
 use Rattle.plans.specs.Rides.{Ride, landsBy}
 use Rattle.plans.specs.Journeys.{within}
@@ -34,16 +35,18 @@ unfoldable pub offInMinutes : (target : ℕ) → GettingOff
 offInMinutes target r behind =
     cond (eqb (r .to) target) (some (landsBy r)) (worthOf (firstOpen behind (r .to) (landsBy r)))
 
--- what a scan aims at: what getting off is worth, and the stop where no row is chosen
+-- what a scan aims at: what getting off is worth, the stop where no row is chosen, and the margin between chosen rows
 pub record Aim : Type 0 where
   pub off : GettingOff
   pub target : ℕ
+  pub margin : ℕ
 
 abbrev pub inTicks : Goal → Aim
-inTicks goal = record { off = offInTicks goal; target = goal .target }
+inTicks goal = record { off = offInTicks goal; target = goal .target; margin = goal .margin }
 
+-- a query's margin does not touch the earliest safe arrival
 abbrev pub inMinutes : (target : ℕ) → Aim
-inMinutes target = record { off = offInMinutes target; target = target }
+inMinutes target = record { off = offInMinutes target; target = target; margin = leastMargin }
 
 -- the ride of one row, and a later ride of the trip boarded at this row already
 abbrev pub rowRide : List (List ℕ) → ℕ → Row → Ride
@@ -98,10 +101,10 @@ unfoldable pub firstAt : List Valued → ℕ → Option Valued
 firstAt [] stop = none
 firstAt (v ∷ vs) stop = let later = firstAt vs stop in cond (eqb (v .ride .from) stop) (some v) later
 
--- a worth below that of the stop's first chosen row behind, or the stop has none yet
-unfoldable pub leads : ℕ → Option Valued → Bool
-leads worth none = true
-leads worth (some first) = ltb worth (first .worth)
+-- the stop has no chosen row yet, or the worth plus the margin is at most that of the stop's current first chosen row
+unfoldable pub leads : (margin worth : ℕ) → Option Valued → Bool
+leads margin worth none = true
+leads margin worth (some first) = leb (worth + margin) (first .worth)
 
 -- in the same minute it replaces that row
 unfoldable pub others : Ride → List Valued → List Valued
@@ -114,7 +117,7 @@ others r (v ∷ vs) =
 unfoldable pub choose : Aim → Option Valued → List Valued → List Valued
 choose aim none chosen = chosen
 choose aim (some v) chosen =
-    cond (not (eqb (v .ride .from) (aim .target)) && leads (v .worth) (firstAt chosen (v .ride .from)))
+    cond (not (eqb (v .ride .from) (aim .target)) && leads (aim .margin) (v .worth) (firstAt chosen (v .ride .from)))
     (v ∷ others (v .ride) chosen) chosen
 
 -- the rows from row i on: each with its best ride, and the rides of the chosen ones

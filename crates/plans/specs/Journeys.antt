@@ -41,7 +41,7 @@ boundOf q e = cond (eqb (q .code) 0) 0 (q .minute + q .code * (e - q .minute) / 
 
 -- what a query aims at, within a bound
 abbrev pub goalOf : Query → (bound : ℕ) → Goal
-goalOf q bound = record { target = q .target; bound = bound }
+goalOf q bound = record { target = q .target; bound = bound; margin = q .margin }
 
 -- a minute is within the bound
 abbrev pub within : ℕ → ℕ → Bool

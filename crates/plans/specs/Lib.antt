@@ -9,3 +9,4 @@ pub mod Plan
 pub mod Trips
 pub mod Examples
 pub mod Misreadings
+pub mod Margins

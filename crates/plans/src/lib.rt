@@ -1,7 +1,8 @@
-// Document 01, "Rides, safe journeys, plans": what planning aims at.
+// Document 01, "Rides, safe journeys, plans", and document 02, E1: what planning aims at.
 
-// The target, and the bound (0 for none).
+// The target, the bound (0 for none), and the margin between chosen rows.
 pub struct Goal {
     pub target: usize,
     pub bound: usize,
+    pub margin: usize,
 }

@@ -1,4 +1,4 @@
--- The demands of what the booking desk's call returns, for every list of bytes, four numbers and room, over its contract. Assumes nothing.
+-- The demands of what the booking desk's calls return, for every list of bytes, query and room, over their contracts. Assumes nothing.
 use Prim.Native.Nat.{ℕ, _+_, _*_, _≤_, _<_}
 use native.Mathlib.Omega.{arith}
 use mathlib.Core.List.{List, _++_, List·Memᴰ}
@@ -7,22 +7,19 @@ use mathlib.Core.Option.{Option, none, some}
 use mathlib.Core.Path.{_≡_, refl, sym, ap, subst, _∙_}
 use lib.ListN.{length, drop, length-map}
 use lib.Seq.{drop-append-seam}
-use contract.Lifetimes.{Lfts}
-use denote.Ref.{now}
-use denote.Triple.Clauses.{AtExit}
-use borrow.Fn.Kinds.{Dens, resT, endedOf}
 use Rattle.laws.proofs.Members.{mapped-from}
 use Rattle.timetable.specs.Timetable.{Timetable}
 use Rattle.timetable.specs.Verdict.{Verdict, fine, fault, byVerdict}
 use Rattle.file_layout.specs.Format.{versionOne}
 use Rattle.file_layout.specs.Decode.{decode}
 use Rattle.query.specs.declared.Query.{Query}
-use Rattle.query.specs.Query.{queryOf}
+use Rattle.query.specs.Query.{queryOf, withMargin, leastMargin}
 use Rattle.plans.specs.Rides.{Ride}
 use Rattle.plans.specs.Journeys.{Journey}
 use Rattle.plans.specs.Worth.{Valued}
 use Rattle.plans.specs.Plan.{Plan, planned}
 use Rattle.demands.specs.Demanded.{Demanded}
+use Rattle.demands.proofs.AnyMargin.{same-journey}
 use Rattle.demands.proofs.Demanded.{plan-demanded}
 use Rattle.plan_slice.specs.Slice.{ridesIn}
 use Rattle.plan_slice.proofs.ReadBack.{read-back}
@@ -30,9 +27,7 @@ use Rattle.planner.specs.Admission.{noRoom, admission}
 use Rattle.planner.proofs.Admitting.{refused-number}
 use Rattle.sayurimpak.specs.Desk.{DeskOutcome, refused, planBytes, deskAnswered, byteRoom, deskOutcome}
 use Rattle.sayurimpak.specs.Host.{numbersIn, NumbersFit}
-use Rattle.sayurimpak.proofs.sayurimpak_plan.Kinds as kinds
-use Rattle.sayurimpak.proofs.sayurimpak_plan.Reads as reads
-use Rattle.promises.specs.Returned.{Booked}
+use Rattle.promises.specs.Returned.{AsDesk, Booked}
 use Rattle.promises.proofs.Admitted.{is-timely, is-sound, no-plan-exactly}
 use Rattle.promises.proofs.Minutes.{plan-minutes}
 use Rattle.promises.proofs.PlanCall.{demanded-rides}
@@ -119,21 +114,8 @@ module _ (file : List ℕ) (q : Query) (out : List ℕ) where
   eight-told e none is told = refl
   eight-told e (some p) is told = absurd (let z : ⊥ = omega (arith, told, rides-few e p is) in z)
 
--- whatever answer and bytes the contract permits
-module _ (κs : Lfts 2) (arguments : Dens κs kinds.ps) (answer : resT kinds.r κs .Denot) (ending : AtExit (endedOf 2 kinds.ps kinds.r) κs)
-    (permitted : reads.Post κs arguments answer ending) where
-  abbrev file : List ℕ
-  file = now (arguments .0)
-
-  abbrev q : Query
-  q = queryOf (arguments .1 .0) (arguments .1 .1 .0) (arguments .1 .1 .1 .0) (arguments .1 .1 .1 .1 .0)
-
-  abbrev out : List ℕ
-  out = now (arguments .1 .1 .1 .1 .1 .0)
-
-  abbrev out′ : List ℕ
-  out′ = now (ending .1 .1 .1 .1 .1 .0)
-
+-- whatever answer and bytes a contract permits that asks the desk for this query
+module _ (file : List ℕ) (q : Query) (out : List ℕ) (answer : ℕ) (out′ : List ℕ) (permitted : AsDesk file q out answer out′) where
   -- 10,001 to 10,007, and no byte changes
   pub refuses : (number place : ℕ) → verdict file q out ≡ fault number place
       → (answer ≡ 10000 + number) × (out′ ≡ out) × (1 ≤ number) × (number ≤ 7)
@@ -169,11 +151,21 @@ module _ (κs : Lfts 2) (arguments : Dens κs kinds.ps) (answer : resT kinds.r �
 
   -- so a bound never causes it: 10,008 exactly if there is none without a bound either
   pub eight-without-bound : verdict file q out ≡ fine
-      → (answer ≡ 10008) ↔ ((end : ℕ) → Journey (decode versionOne file) (queryOf (q .source) (q .target) (q .minute) 0) end → ⊥)
+      → (answer ≡ 10008) ↔ ((end : ℕ) → Journey (decode versionOne file) (queryOf (q .source) (q .target) (q .minute) 0 (q .margin)) end → ⊥)
   eight-without-bound e =
       let exactly = eight-exactly e in (
         λ told end j. exactly .0 told end (record { first = j .first; in-time = j .in-time; onward = j .onward }),
         λ gone. exactly .1 (λ end j. gone end (record { first = j .first; in-time = j .in-time; onward = j .onward })),
+      )
+
+  -- nor does a margin: exactly if there is none with margin 1
+  pub eight-any-margin : verdict file q out ≡ fine
+      → (answer ≡ 10008) ↔ ((end : ℕ) → Journey (decode versionOne file) (withMargin leastMargin q) end → ⊥)
+  eight-any-margin e =
+      let exactly = eight-exactly e in
+      let same = same-journey (decode versionOne file) q leastMargin in (
+        λ told end j. exactly .0 told end (same end .0 j),
+        λ gone. exactly .1 (λ end j. gone end (same end .1 j)),
       )
 
   -- on 10,008 no byte changes

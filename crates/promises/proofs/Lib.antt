@@ -5,5 +5,7 @@ pub mod ArrivalCall
 pub mod Minutes
 pub mod HostReads
 pub mod DeskCall
+pub mod DeskCalls
 pub mod ShutOut
 pub mod SheetCall
+pub mod Margins

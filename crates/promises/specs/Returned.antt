@@ -5,12 +5,18 @@ use mathlib.Core.Path.{_≡_}
 use lib.ListN.{length, drop}
 use Rattle.clock.specs.Clock.{dayOf}
 use Rattle.timetable.specs.Timetable.{Timetable}
+use Rattle.file_layout.specs.Format.{versionOne}
 use Rattle.query.specs.declared.Query.{Query}
 use Rattle.plans.specs.Worth.{Valued}
 use Rattle.demands.specs.Demanded.{Demanded}
 use Rattle.plan_slice.specs.Slice.{ridesIn}
+use Rattle.sayurimpak.specs.Desk.{deskOutcome}
 use Rattle.sayurimpak.specs.Host.{numbersIn}
 use Rattle.sheet_text.specs.Sheet.{firstText, ridesText}
+
+-- a call of the desk gives the desk's outcome for this query
+abbrev pub AsDesk : (file : List ℕ) → Query → (out : List ℕ) → (answer : ℕ) (bytes : List ℕ) → Type 0
+AsDesk file q out answer bytes = (answer ≡ deskOutcome versionOne file q out .answer) × (bytes ≡ deskOutcome versionOne file q out .bytes)
 
 -- the answer counts the rides that stand in the bytes, 12 bytes a ride; other bytes stay as they were in `out`
 pub record Booked (t : Timetable) (q : Query) (out : List ℕ) (answer : ℕ) (bytes : List ℕ) : Type 0 where

@@ -11,7 +11,7 @@ use borrow.Author.Tests.{ltb-true, leb-true, eqb-true, eqb-false, lt-ltb, le-ltb
 use Rattle.laws.proofs.Tests.{both-left, both-right, either, cond-true, cond-false}
 use Rattle.numbers.specs.Numbers.{u16At}
 use Rattle.query.specs.declared.Query.{Query}
-use Rattle.query.specs.Query.{queryOf, journeyRule, fewestQuarters, mostQuarters, codeRule, queryRule, QueryFits, queryBytes, noQuery, queryIn}
+use Rattle.query.specs.Query.{queryOf, journeyRule, fewestQuarters, mostQuarters, codeRule, queryRule, leastMargin, mostMargin, marginRule, QueryFits, queryBytes, marginBytes, readWith, noQuery, queryIn}
 
 -- a conjunction with a false part is false
 broken : (b : Bool) → (b && false) ≡ false
@@ -38,11 +38,15 @@ module _ (stops last : ℕ) (q : Query) where
 
   pub journey-breaks : journeyRule stops last q ≡ false → false ≡ queryRule stops last q
   unfolding queryRule
-  journey-breaks e = sym (ap (λ x. x && codeRule q) e)
+  journey-breaks e = sym (ap (λ x. x && codeRule q && marginRule q) e)
 
-  pub code-decides-rule : journeyRule stops last q ≡ true → codeRule q ≡ queryRule stops last q
+  pub code-breaks : codeRule q ≡ false → false ≡ queryRule stops last q
   unfolding queryRule
-  code-decides-rule e = sym (ap (λ x. x && codeRule q) e)
+  code-breaks e = simp (e, broken)
+
+  pub margin-decides-rule : journeyRule stops last q ≡ true → codeRule q ≡ true → marginRule q ≡ queryRule stops last q
+  unfolding queryRule
+  margin-decides-rule e c = sym (ap (λ x. x && codeRule q && marginRule q) e ∙ ap (λ x. x && marginRule q) c)
 
 -- the bound code
 module _ (q : Query) where
@@ -58,14 +62,27 @@ module _ (q : Query) where
   unfolding codeRule
   code-decides some-code h = simp (ne-eqb _ _ some-code, le-leb _ _ h)
 
+-- the margin
+module _ (q : Query) where
+  pub margin-small : q .margin < leastMargin → false ≡ marginRule q
+  unfolding marginRule
+  margin-small h = simp (lt-leb _ _ h)
+
+  pub margin-decides : leastMargin ≤ q .margin → leb (q .margin) mostMargin ≡ marginRule q
+  unfolding marginRule
+  margin-decides h = simp (le-leb _ _ h)
+
 -- all that a kept rule tells
 pub rule-gives : (stops last : ℕ) (q : Query) → queryRule stops last q ≡ true → QueryFits stops last q
-unfolding queryRule journeyRule codeRule
+unfolding queryRule journeyRule codeRule marginRule
 rule-gives stops last q kept =
     let source = ltb (q .source) stops in
     let target = source && ltb (q .target) stops in
     let apart = target && not (eqb (q .source) (q .target)) in
-    let e = both-left (apart && leb (q .minute) last) (codeRule q) kept in
+    let journey = apart && leb (q .minute) last in
+    let both = both-left (journey && codeRule q) (marginRule q) kept in
+    let margin = both-right (journey && codeRule q) (marginRule q) kept in
+    let e = both-left journey (codeRule q) both in
     let e₃ = both-left apart (leb (q .minute) last) e in
     let e₂ = both-left target (not (eqb (q .source) (q .target))) e₃ in
     record {
@@ -75,32 +92,43 @@ rule-gives stops last q kept =
           eqb-false (q .source) (q .target) (not-true (eqb (q .source) (q .target)) (both-right target (not (eqb (q .source) (q .target))) e₃));
       minute = leb-true (q .minute) last (both-right apart (leb (q .minute) last) e);
       code =
-          elim (either (eqb (q .code) 0) (leb fewestQuarters (q .code) && leb (q .code) mostQuarters) (both-right (apart && leb (q .minute) last) (codeRule q) kept)) [
+          elim (either (eqb (q .code) 0) (leb fewestQuarters (q .code) && leb (q .code) mostQuarters) (both-right journey (codeRule q) both)) [
             | inl p ↦ inl (eqb-true (q .code) 0 p)
             | inr p ↦ inr (
               leb-true fewestQuarters (q .code) (both-left (leb fewestQuarters (q .code)) (leb (q .code) mostQuarters) p),
               leb-true (q .code) mostQuarters (both-right (leb fewestQuarters (q .code)) (leb (q .code) mostQuarters) p),
             )
           ];
+      margin = (
+        leb-true leastMargin (q .margin) (both-left (leb leastMargin (q .margin)) (leb (q .margin) mostMargin) margin),
+        leb-true (q .margin) mostMargin (both-right (leb leastMargin (q .margin)) (leb (q .margin) mostMargin) margin),
+      );
     }
 
 -- no code is above the most quarters
 pub code-most : {stops last : ℕ} {q : Query} → QueryFits stops last q → q .code ≤ mostQuarters
 code-most {stops} {last} {q} fits = elim (fits .code) [ inl p ↦ (let z : q .code ≤ mostQuarters = omega arith in z) | inr p ↦ p .1 ]
 
--- the four numbers of 8 bytes, and what any other bytes ask
+-- what 8 bytes, 10 bytes and any other bytes ask
 module _ (bytes : List ℕ) where
-  pub other-length : length bytes ≢ queryBytes → noQuery ≡ queryIn bytes
+  pub eight-bytes : length bytes ≡ queryBytes → readWith bytes leastMargin ≡ queryIn bytes
   unfolding queryIn
-  other-length other =
-      sym (cond-false (queryOf (u16At bytes 0) (u16At bytes 2) (u16At bytes 4) (u16At bytes 6)) noQuery (ne-eqb _ _ other))
+  eight-bytes e = sym (cond-true (readWith bytes leastMargin) _ (eq-eqb _ _ e))
 
-  pub eight-bytes : length bytes ≡ queryBytes → queryOf (u16At bytes 0) (u16At bytes 2) (u16At bytes 4) (u16At bytes 6) ≡ queryIn bytes
+  pub ten-bytes : length bytes ≡ marginBytes → readWith bytes (u16At bytes 8) ≡ queryIn bytes
   unfolding queryIn
-  eight-bytes e = sym (cond-true (queryOf (u16At bytes 0) (u16At bytes 2) (u16At bytes 4) (u16At bytes 6)) noQuery (eq-eqb _ _ e))
+  ten-bytes e =
+      sym (cond-false (readWith bytes leastMargin) _ (ne-eqb (length bytes) queryBytes (λ k. let z : ⊥ = omega arith in z))
+      ∙ cond-true (readWith bytes (u16At bytes 8)) noQuery (eq-eqb _ _ e))
 
-  -- `query` not of 8 bytes is 6 in its usual place, for every file
-  pub not-eight-bytes : length bytes ≢ queryBytes → (stops last : ℕ) → queryRule stops last (queryIn bytes) ≡ false
-  not-eight-bytes other stops last =
-      ap (queryRule stops last) (sym (other-length other))
+  pub other-length : length bytes ≢ queryBytes → length bytes ≢ marginBytes → noQuery ≡ queryIn bytes
+  unfolding queryIn
+  other-length eight ten =
+      sym (cond-false (readWith bytes leastMargin) _ (ne-eqb _ _ eight) ∙ cond-false (readWith bytes (u16At bytes 8)) noQuery (ne-eqb _ _ ten))
+
+  -- `query` neither of 8 bytes nor of 10 is 6 in its usual place, for every file
+  pub other-length-refused : length bytes ≢ queryBytes → length bytes ≢ marginBytes → (stops last : ℕ)
+      → queryRule stops last (queryIn bytes) ≡ false
+  other-length-refused eight ten stops last =
+      ap (queryRule stops last) (sym (other-length eight ten))
       ∙ sym (journey-breaks stops last noQuery (sym (one-stop stops last noQuery refl)))

@@ -7,6 +7,10 @@ use Rattle.query.proofs.query_in.Kinds as bytes-kinds
 use Rattle.query.proofs.query_in.Reads as bytes-reads
 use Rattle.query.proofs.query_rule.Kinds as rule-kinds
 use Rattle.query.proofs.query_rule.Reads as rule-reads
+use Rattle.query.proofs.code_rule.Kinds as code-kinds
+use Rattle.query.proofs.code_rule.Reads as code-reads
+use Rattle.query.proofs.margin_rule.Kinds as margin-kinds
+use Rattle.query.proofs.margin_rule.Reads as margin-reads
 
 pub query-of-settled : SettlesResult 0 numbers-kinds.ps numbers-kinds.r numbers-reads.Post
 query-of-settled κs arguments one other ending another first second = first ∙ sym second
@@ -16,3 +20,9 @@ query-in-settled κs arguments one other ending another first second = first ∙
 
 pub query-rule-settled : SettlesResult 0 rule-kinds.ps rule-kinds.r rule-reads.Post
 query-rule-settled κs arguments one other ending another first second = first ∙ sym second
+
+pub code-rule-settled : SettlesResult 0 code-kinds.ps code-kinds.r code-reads.Post
+code-rule-settled κs arguments one other ending another first second = first ∙ sym second
+
+pub margin-rule-settled : SettlesResult 0 margin-kinds.ps margin-kinds.r margin-reads.Post
+margin-rule-settled κs arguments one other ending another first second = first ∙ sym second

@@ -1,4 +1,4 @@
--- Document 01, "Rides, safe journeys, plans" and "The sheet": what is asked of a plan, its rule and its bytes.
+-- Document 01, "Rides, safe journeys, plans" and "The sheet", and document 02, E1: what is asked of a plan, its rule and its bytes.
 use Prim.Native.Nat.{ℕ, _≤_, _<_}
 use mathlib.Core.Bool.{Bool, cond, not, _&&_, _||_}
 use mathlib.Core.List.{List}
@@ -9,9 +9,14 @@ use lib.ListN.{length}
 use Rattle.numbers.specs.Numbers.{u16At}
 use Rattle.query.specs.declared.Query.{Query}
 
--- source, target, minute T and bound code q
-abbrev pub queryOf : (source target minute code : ℕ) → Query
-queryOf source target minute code = record { source = source; target = target; minute = minute; code = code }
+-- source, target, minute T, bound code q and margin
+abbrev pub queryOf : (source target minute code margin : ℕ) → Query
+queryOf source target minute code margin =
+    record { source = source; target = target; minute = minute; code = code; margin = margin }
+
+-- the same query with another margin
+abbrev pub withMargin : (margin : ℕ) → Query → Query
+withMargin margin q = queryOf (q .source) (q .target) (q .minute) (q .code) margin
 
 -- both stops are below S and differ, and T is not past the last minute
 unfoldable pub journeyRule : (stops last : ℕ) → Query → Bool
@@ -28,9 +33,23 @@ mostQuarters = 16
 unfoldable pub codeRule : Query → Bool
 codeRule q = eqb (q .code) 0 || (leb fewestQuarters (q .code) && leb (q .code) mostQuarters)
 
--- both, else 6; without a bound code q is 0, which keeps its rule
+-- E1: a margin of 1 to 2,560 ticks; margin 1 is document 01's rule
+abbrev pub leastMargin : ℕ
+leastMargin = 1
+
+abbrev pub mostMargin : ℕ
+mostMargin = 2560
+
+unfoldable pub marginRule : Query → Bool
+marginRule q = leb leastMargin (q .margin) && leb (q .margin) mostMargin
+
+-- all three, else 6; without a bound code q is 0 and without a margin it is 1, which keep their rules
 unfoldable pub queryRule : (stops last : ℕ) → Query → Bool
-queryRule stops last q = journeyRule stops last q && codeRule q
+queryRule stops last q = journeyRule stops last q && codeRule q && marginRule q
+
+-- what the earliest safe arrival is asked with: no bound, and the least margin
+abbrev pub arrivalQuery : (source target minute : ℕ) → Query
+arrivalQuery source target minute = queryOf source target minute 0 leastMargin
 
 -- a query that keeps its rule
 pub record QueryFits (stops last : ℕ) (q : Query) : Type 0 where
@@ -39,15 +58,25 @@ pub record QueryFits (stops last : ℕ) (q : Query) : Type 0 where
   pub apart : q .source ≢ q .target
   pub minute : q .minute ≤ last
   pub code : (q .code ≡ 0) ⊎ ((fewestQuarters ≤ q .code) × (q .code ≤ mostQuarters))
+  pub margin : (leastMargin ≤ q .margin) × (q .margin ≤ mostMargin)
 
--- 8 bytes: source, target, T, q as u16
+-- 8 bytes: source, target, T, q as u16; 10 bytes end with the margin
 abbrev pub queryBytes : ℕ
 queryBytes = 8
 
+abbrev pub marginBytes : ℕ
+marginBytes = 10
+
+-- the four numbers that every query has, with a margin
+abbrev pub readWith : List ℕ → (margin : ℕ) → Query
+readWith bytes margin = queryOf (u16At bytes 0) (u16At bytes 2) (u16At bytes 4) (u16At bytes 6) margin
+
 -- bytes of any other length ask from a stop to itself, which no file answers but by 6
 abbrev pub noQuery : Query
-noQuery = queryOf 0 0 0 0
+noQuery = queryOf 0 0 0 0 leastMargin
 
+-- A query of 10 bytes ends with the margin, one of 8 means 1
 unfoldable pub queryIn : List ℕ → Query
 queryIn bytes =
-    cond (eqb (length bytes) queryBytes) (queryOf (u16At bytes 0) (u16At bytes 2) (u16At bytes 4) (u16At bytes 6)) noQuery
+    cond (eqb (length bytes) queryBytes) (readWith bytes leastMargin)
+    (cond (eqb (length bytes) marginBytes) (readWith bytes (u16At bytes 8)) noQuery)

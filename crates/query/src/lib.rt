@@ -1,15 +1,18 @@
-// Document 01, "Rides, safe journeys, plans" and "The sheet": what is asked of a plan, its bytes and its rule.
+// Document 01, "Rides, safe journeys, plans" and "The sheet", and document 02, E1: what is asked of a plan, its bytes and its rule.
 ghost use mathlib.Core.Path.{_≡_};
-ghost use Rattle.query.specs.Query.{codeRule, journeyRule, queryIn, queryOf, queryRule};
+ghost use Prim.Native.Nat.{_≤_};
+ghost use lib.ListN.{length};
+ghost use Rattle.query.specs.Query.{codeRule, journeyRule, marginRule, queryBytes, queryIn, queryOf, queryRule, readWith};
 use numbers::number;
 use numbers::u16_at;
 
-// Source, target, minute T and bound code q.
+// Source, target, minute T, bound code q and margin.
 pub struct Query {
     pub source: usize,
     pub target: usize,
     pub minute: usize,
     pub code: usize,
+    pub margin: usize,
 }
 
 // The bound code counts quarters, from 4 to 16.
@@ -17,18 +20,26 @@ pub const FEWEST_QUARTERS: usize = 4;
 
 pub const MOST_QUARTERS: usize = 16;
 
-// A query is four u16.
+// The margin between chosen rows, in ticks. The least is document 01's rule.
+pub const LEAST_MARGIN: usize = 1;
+
+pub const MOST_MARGIN: usize = 2560;
+
+// A query is four u16, or five that end with its margin.
 pub const QUERY_BYTES: usize = 8;
 
-// The query that a host's four numbers ask.
-pub fn query_of(source: u32, target: u32, minute: u32, code: u32) -> Query
-    ensures { λ r. ⌜ r ≡ queryOf source target minute code ⌝ }
+pub const MARGIN_BYTES: usize = 10;
+
+// The query that a host's five numbers ask.
+pub fn query_of(source: u32, target: u32, minute: u32, code: u32, margin: u32) -> Query
+    ensures { λ r. ⌜ r ≡ queryOf source target minute code margin ⌝ }
 {
     Query {
         source: number(source),
         target: number(target),
         minute: number(minute),
         code: number(code),
+        margin: number(margin),
     }
 }
 
@@ -36,19 +47,32 @@ pub fn query_of(source: u32, target: u32, minute: u32, code: u32) -> Query
 pub fn query_in(bytes: &[u8]) -> Query
     ensures { λ r. ⌜ r ≡ queryIn (now (bytes .entry)) ⌝ }
 {
-    if bytes.len() != QUERY_BYTES {
-        return Query {
-            source: 0,
-            target: 0,
-            minute: 0,
-            code: 0,
-        };
+    if bytes.len() == QUERY_BYTES {
+        return read_with(bytes, LEAST_MARGIN);
     }
+    if bytes.len() == MARGIN_BYTES {
+        return read_with(bytes, u16_at(bytes, QUERY_BYTES));
+    }
+    Query {
+        source: 0,
+        target: 0,
+        minute: 0,
+        code: 0,
+        margin: LEAST_MARGIN,
+    }
+}
+
+// The four numbers that every query has, with a margin.
+fn read_with(bytes: &[u8], margin: usize) -> Query
+    requires { ⌜ queryBytes ≤ length (now bytes) ⌝ }
+    ensures { λ r. ⌜ r ≡ readWith (now (bytes .entry)) margin ⌝ }
+{
     Query {
         source: u16_at(bytes, 0),
         target: u16_at(bytes, 2),
         minute: u16_at(bytes, 4),
         code: u16_at(bytes, 6),
+        margin,
     }
 }
 
@@ -59,7 +83,10 @@ pub fn query_rule(q: Query, stops: usize, last: usize) -> bool
     if !journey_rule(q, stops, last) {
         return false;
     }
-    code_rule(q)
+    if !code_rule(q) {
+        return false;
+    }
+    margin_rule(q)
 }
 
 // Two stops of the file that differ, and a minute that is not past the last.
@@ -79,7 +106,7 @@ fn journey_rule(q: Query, stops: usize, last: usize) -> bool
 }
 
 // The bound code is 0 or 4 to 16.
-fn code_rule(q: Query) -> bool
+pub fn code_rule(q: Query) -> bool
     ensures { λ r. ⌜ r ≡ codeRule q ⌝ }
 {
     if q.code == 0 {
@@ -89,4 +116,14 @@ fn code_rule(q: Query) -> bool
         return false;
     }
     q.code <= MOST_QUARTERS
+}
+
+// The margin is 1 to 2,560.
+pub fn margin_rule(q: Query) -> bool
+    ensures { λ r. ⌜ r ≡ marginRule q ⌝ }
+{
+    if q.margin < LEAST_MARGIN {
+        return false;
+    }
+    q.margin <= MOST_MARGIN
 }

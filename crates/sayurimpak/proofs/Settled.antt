@@ -1,4 +1,4 @@
--- Document 01, "What every contract settles": any two permitted outcomes of the desk's call are one answer and the same bytes. Assumes nothing.
+-- Document 01, "What every contract settles": any two permitted outcomes of a call of the desk are one answer and the same bytes. Assumes nothing.
 use mathlib.Core.Path.{_≡_, sym, _∙_}
 use contract.Lifetimes.{Lfts}
 use denote.Ref.{now}
@@ -6,6 +6,8 @@ use denote.Triple.Clauses.{AtExit}
 use borrow.Fn.Kinds.{Dens, resT, endedOf}
 use Rattle.sayurimpak.proofs.sayurimpak_plan.Kinds as kinds
 use Rattle.sayurimpak.proofs.sayurimpak_plan.Reads as reads
+use Rattle.sayurimpak.proofs.sayurimpak_plan_margin.Kinds as margin-kinds
+use Rattle.sayurimpak.proofs.sayurimpak_plan_margin.Reads as margin-reads
 
 pub sayurimpak-plan-settled :
     (κs : Lfts 2) (arguments : Dens κs kinds.ps) (one other : resT kinds.r κs .Denot)
@@ -13,4 +15,12 @@ pub sayurimpak-plan-settled :
     → reads.Post κs arguments one ending → reads.Post κs arguments other another
     → (one ≡ other) × (now (ending .1 .1 .1 .1 .1 .0) ≡ now (another .1 .1 .1 .1 .1 .0))
 sayurimpak-plan-settled κs arguments one other ending another first second =
+    (first .0 ∙ sym (second .0), first .1 ∙ sym (second .1))
+
+pub sayurimpak-plan-margin-settled :
+    (κs : Lfts 2) (arguments : Dens κs margin-kinds.ps) (one other : resT margin-kinds.r κs .Denot)
+    (ending another : AtExit (endedOf 2 margin-kinds.ps margin-kinds.r) κs)
+    → margin-reads.Post κs arguments one ending → margin-reads.Post κs arguments other another
+    → (one ≡ other) × (now (ending .1 .1 .1 .1 .1 .1 .0) ≡ now (another .1 .1 .1 .1 .1 .1 .0))
+sayurimpak-plan-margin-settled κs arguments one other ending another first second =
     (first .0 ∙ sym (second .0), first .1 ∙ sym (second .1))

@@ -1,15 +1,17 @@
-// Document 01, "Numbers returned on refusal": the booking desk's call. include/sayurimpak.h is its manual.
+// Document 01, "Numbers returned on refusal", and document 02, E1: the booking desk's calls. include/sayurimpak.h is their manual.
 ghost use mathlib.Core.Path.{_≡_};
 ghost use Prim.Native.Nat.{_/_, min};
 ghost use lib.ListN.{length};
 ghost use Rattle.file_layout.specs.Format.{versionOne};
-ghost use Rattle.query.specs.Query.{queryOf};
+ghost use Rattle.query.specs.Query.{leastMargin, queryOf};
 ghost use Rattle.sayurimpak.specs.Desk.{deskOutcome};
 ghost use Rattle.sayurimpak.specs.Given.{given, Fitting};
+use numbers::cell;
 use numbers::number;
 use numbers::put_numbers;
 use plan_whole::Planned;
 use planner::plan;
+use query::LEAST_MARGIN;
 use query::query_of;
 use rooms::PLAN;
 use rooms::plan_room;
@@ -25,10 +27,27 @@ pub extern "C" fn sayurimpak_plan(
     code: u32,
     out: &mut [u8],
 ) -> u32
-    ensures { λ r. ⌜ (r ≡ deskOutcome versionOne (now (file .entry)) (queryOf source target minute code) (now (out .entry)) .answer)
-        × (now (out .exit) ≡ deskOutcome versionOne (now (file .entry)) (queryOf source target minute code) (now (out .entry)) .bytes) ⌝ }
+    ensures { λ r. ⌜ (r ≡ deskOutcome versionOne (now (file .entry)) (queryOf source target minute code leastMargin) (now (out .entry)) .answer)
+        × (now (out .exit) ≡ deskOutcome versionOne (now (file .entry)) (queryOf source target minute code leastMargin) (now (out .entry)) .bytes) ⌝ }
 {
-    let q = query_of(source, target, minute, code);
+    sayurimpak_plan_margin(file, source, target, minute, code, cell(LEAST_MARGIN), out)
+}
+
+// The same with a margin between the rides of a stop.
+#[no_mangle]
+pub extern "C" fn sayurimpak_plan_margin(
+    file: &[u8],
+    source: u32,
+    target: u32,
+    minute: u32,
+    code: u32,
+    margin: u32,
+    out: &mut [u8],
+) -> u32
+    ensures { λ r. ⌜ (r ≡ deskOutcome versionOne (now (file .entry)) (queryOf source target minute code margin) (now (out .entry)) .answer)
+        × (now (out .exit) ≡ deskOutcome versionOne (now (file .entry)) (queryOf source target minute code margin) (now (out .entry)) .bytes) ⌝ }
+{
+    let q = query_of(source, target, minute, code, margin);
     let mut work = work_room();
     let mut numbers = plan_room();
     let lent = lent_numbers(out.len());

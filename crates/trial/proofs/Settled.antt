@@ -8,6 +8,8 @@ use Rattle.trial.proofs.trial_check.Kinds as check-kinds
 use Rattle.trial.proofs.trial_check.Reads as check-reads
 use Rattle.trial.proofs.trial_plan.Kinds as plan-kinds
 use Rattle.trial.proofs.trial_plan.Reads as plan-reads
+use Rattle.trial.proofs.trial_plan_margin.Kinds as margin-kinds
+use Rattle.trial.proofs.trial_plan_margin.Reads as margin-reads
 use Rattle.trial.proofs.trial_earliest.Kinds as earliest-kinds
 use Rattle.trial.proofs.trial_earliest.Reads as earliest-reads
 use Rattle.trial.proofs.trial_house.Kinds as house-kinds
@@ -28,6 +30,16 @@ pub trial-plan-settled :
     × (now (ending .1 .1 .1 .1 .1 .0) ≡ now (another .1 .1 .1 .1 .1 .0))
     × (now (ending .1 .1 .1 .1 .1 .1 .0) ≡ now (another .1 .1 .1 .1 .1 .1 .0))
 trial-plan-settled κs arguments one other ending another first second =
+    (first .0 ∙ sym (second .0), first .1 ∙ sym (second .1), first .2 ∙ sym (second .2))
+
+pub trial-plan-margin-settled :
+    (κs : Lfts 4) (arguments : Dens κs margin-kinds.ps) (one other : resT margin-kinds.r κs .Denot)
+    (ending another : AtExit (endedOf 4 margin-kinds.ps margin-kinds.r) κs)
+    → margin-reads.Post κs arguments one ending → margin-reads.Post κs arguments other another
+    → (now (ending .1 .1 .1 .1 .1 .1 .1 .1 .0) ≡ now (another .1 .1 .1 .1 .1 .1 .1 .1 .0))
+    × (now (ending .1 .1 .1 .1 .1 .1 .0) ≡ now (another .1 .1 .1 .1 .1 .1 .0))
+    × (now (ending .1 .1 .1 .1 .1 .1 .1 .0) ≡ now (another .1 .1 .1 .1 .1 .1 .1 .0))
+trial-plan-margin-settled κs arguments one other ending another first second =
     (first .0 ∙ sym (second .0), first .1 ∙ sym (second .1), first .2 ∙ sym (second .2))
 
 pub trial-earliest-settled :

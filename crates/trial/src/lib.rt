@@ -4,7 +4,7 @@ ghost use mathlib.Core.Path.{_≡_};
 ghost use Rattle.file_layout.specs.Check.{answerOf, checked};
 ghost use Rattle.house.specs.HouseShare.{houseShare, houseAnswer};
 ghost use Rattle.file_layout.specs.Format.{versionOne};
-ghost use Rattle.query.specs.Query.{queryOf};
+ghost use Rattle.query.specs.Query.{arrivalQuery, leastMargin, queryOf};
 ghost use Rattle.planner.specs.Outcome.{planOutcome, planAnswer, earliestOutcome, earliestAnswer};
 ghost use Rattle.trial.specs.Seen.{inSix, seen};
 use file_check::check;
@@ -16,6 +16,7 @@ use plan_whole::Planned;
 use planner::Earliest;
 use planner::earliest_safe_arrival;
 use planner::plan;
+use query::LEAST_MARGIN;
 use query::query_of;
 
 // The check: number, place, S, n, K.
@@ -54,12 +55,44 @@ pub extern "C" fn trial_plan(
     answer: &mut [u32],
 )
     ensures { λ r. ⌜ (now (answer .exit) ≡ seen
-        (planAnswer (planOutcome versionOne (now (file .entry)) (queryOf source target minute code) (now (work .entry)) (now (rides .entry)) .answer))
+        (planAnswer (planOutcome versionOne (now (file .entry)) (queryOf source target minute code leastMargin) (now (work .entry)) (now (rides .entry)) .answer))
         (now (answer .entry)))
-        × (now (work .exit) ≡ planOutcome versionOne (now (file .entry)) (queryOf source target minute code) (now (work .entry)) (now (rides .entry)) .work)
-        × (now (rides .exit) ≡ planOutcome versionOne (now (file .entry)) (queryOf source target minute code) (now (work .entry)) (now (rides .entry)) .plan) ⌝ }
+        × (now (work .exit) ≡ planOutcome versionOne (now (file .entry)) (queryOf source target minute code leastMargin) (now (work .entry)) (now (rides .entry)) .work)
+        × (now (rides .exit) ≡ planOutcome versionOne (now (file .entry)) (queryOf source target minute code leastMargin) (now (work .entry)) (now (rides .entry)) .plan) ⌝ }
 {
-    let q = query_of(source, target, minute, code);
+    trial_plan_margin(
+        file,
+        source,
+        target,
+        minute,
+        code,
+        cell(LEAST_MARGIN),
+        work,
+        rides,
+        answer,
+    );
+}
+
+// The same with a margin.
+#[no_mangle]
+pub extern "C" fn trial_plan_margin(
+    file: &[u8],
+    source: u32,
+    target: u32,
+    minute: u32,
+    code: u32,
+    margin: u32,
+    work: &mut [u32],
+    rides: &mut [u32],
+    answer: &mut [u32],
+)
+    ensures { λ r. ⌜ (now (answer .exit) ≡ seen
+        (planAnswer (planOutcome versionOne (now (file .entry)) (queryOf source target minute code margin) (now (work .entry)) (now (rides .entry)) .answer))
+        (now (answer .entry)))
+        × (now (work .exit) ≡ planOutcome versionOne (now (file .entry)) (queryOf source target minute code margin) (now (work .entry)) (now (rides .entry)) .work)
+        × (now (rides .exit) ≡ planOutcome versionOne (now (file .entry)) (queryOf source target minute code margin) (now (work .entry)) (now (rides .entry)) .plan) ⌝ }
+{
+    let q = query_of(source, target, minute, code, margin);
     let planned = plan(file, q, work, rides);
     put_planned(planned, answer);
 }
@@ -75,11 +108,11 @@ pub extern "C" fn trial_earliest(
     answer: &mut [u32],
 )
     ensures { λ r. ⌜ (now (answer .exit) ≡ seen
-        (earliestAnswer (earliestOutcome versionOne (now (file .entry)) (queryOf source target minute 0) (now (work .entry)) .answer))
+        (earliestAnswer (earliestOutcome versionOne (now (file .entry)) (arrivalQuery source target minute) (now (work .entry)) .answer))
         (now (answer .entry)))
-        × (now (work .exit) ≡ earliestOutcome versionOne (now (file .entry)) (queryOf source target minute 0) (now (work .entry)) .work) ⌝ }
+        × (now (work .exit) ≡ earliestOutcome versionOne (now (file .entry)) (arrivalQuery source target minute) (now (work .entry)) .work) ⌝ }
 {
-    let q = query_of(source, target, minute, 0);
+    let q = query_of(source, target, minute, 0, cell(LEAST_MARGIN));
     let found = earliest_safe_arrival(file, q.source, q.target, q.minute, work);
     put_earliest(found, answer);
 }

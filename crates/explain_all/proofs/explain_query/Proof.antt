@@ -56,6 +56,9 @@ number-requires-2 c κs = search needs
 say-plan-requires : tie.Need-say-plan-requires
 say-plan-requires c κs = search needs
 
+say-margin-requires : tie.Need-say-margin-requires
+say-margin-requires c κs = search needs
+
 slice-aggregate-print-plan : tie.Need-slice-aggregate-print-plan
 slice-aggregate-print-plan c = search needs
 
@@ -87,6 +90,7 @@ explain-query-spec =
     enum-known-planned-2
     number-requires-2
     say-plan-requires
+    say-margin-requires
     slice-aggregate-print-plan
     number-requires-3
     print-plan-requires

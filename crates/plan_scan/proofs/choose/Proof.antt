@@ -1,8 +1,8 @@
 -- `plan_scan::choose` meets its contract: five ways, by worth, size and the top's minute. Assumes nothing.
-use Prim.Native.Nat.{_≤_, _<_}
-use mathlib.Core.Path.{refl, sym, subst, _∙_}
-use Rattle.plan_scan.specs.Stores.{rowWorth, worthless}
-use Rattle.plan_scan.proofs.Ways.{chose-alone, chose-nothing, chose-replacing, chose-ahead}
+use mathlib.Core.Path.{refl, sym, _∙_}
+use borrow.Author.Tests.{not-true, not-false}
+use Rattle.plan_scan.specs.Stores.{worthless}
+use Rattle.plan_scan.proofs.Ways.{falls-short, gains-it, chose-alone, chose-nothing, chose-replacing, chose-ahead}
 use borrow.Author.Needs.{needs}
 use Rattle.plan_scan.proofs.choose.Statement.{statement}
 use Rattle.plan_scan.proofs.choose.Tie as tie
@@ -33,7 +33,7 @@ abbrev begun : tie.After-struct-known → tie.Start
 begun c = c .before .before .before .before .before .before
 
 -- the call up to where the top is read
-abbrev looked : tie.After-struct-known2 → tie.After-struct-known
+abbrev looked : tie.After-gains → tie.After-struct-known
 looked c = c .before .before .before .before
 
 push-requires : tie.Need-push-requires
@@ -47,11 +47,14 @@ returns-2 c =
     let s = c .before .before .before .before .before in
     let a = begun s .args in
     let stack = s .before .before .stack-of in
-    chose-alone (a .row) (a .i) (a .work .now) (stack .result .start) (stack .result .size) (stack .ensures .0) (stack .ensures .1)
+    chose-alone (a .row) (a .i) (a .margin) (a .work .now) (stack .result .start) (stack .result .size) (stack .ensures .0) (stack .ensures .1)
     (s .before .if1 .left) (c .before .before .push .last .0) (c .before .before .before .before .if2 .taken) (c .before .before .push .ensures)
 
 top-requires : tie.Need-top-requires
 top-requires c κs = search needs
+
+gains-requires : tie.Need-gains-requires
+gains-requires c κs = search needs
 
 same-length-3 : tie.Need-same-length-3
 same-length-3 c = search needs
@@ -61,9 +64,9 @@ returns-3 c =
     let s = looked (c .before) in
     let a = begun s .args in
     let stack = s .before .before .stack-of in
-    chose-nothing (a .row) (a .i) (a .work .now) (stack .result .start) (stack .result .size) (stack .ensures .0) (stack .ensures .1)
+    chose-nothing (a .row) (a .i) (a .margin) (a .work .now) (stack .result .start) (stack .result .size) (stack .ensures .0) (stack .ensures .1)
     (s .before .if1 .left) (c .before .before .before .before .if2 .left)
-    (subst (λ x. x ≤ rowWorth (a .work .now) (a .i)) (c .before .before .top .ensures .2) (c .if3 .taken))
+    (falls-short _ (a .margin) _ _ (c .before .before .top .ensures .2) (sym (c .before .gains .ensures) ∙ not-true _ (c .if3 .taken)))
 
 replace-top-requires : tie.Need-replace-top-requires
 replace-top-requires c κs = search needs
@@ -81,9 +84,9 @@ returns-4 c =
     let s = looked up in
     let a = begun s .args in
     let stack = s .before .before .stack-of in
-    chose-replacing (a .row) (a .i) (a .work .now) (stack .result .start) (stack .result .size) (stack .ensures .0) (stack .ensures .1)
+    chose-replacing (a .row) (a .i) (a .margin) (a .work .now) (stack .result .start) (stack .result .size) (stack .ensures .0) (stack .ensures .1)
     (s .before .if1 .left) (up .before .before .before .if2 .left)
-    (subst (λ x. rowWorth (a .work .now) (a .i) < x) (up .before .top .ensures .2) (at-top .before .before .if3 .left))
+    (gains-it _ (a .margin) _ _ (up .before .top .ensures .2) (sym (up .gains .ensures) ∙ not-false _ (at-top .before .before .if3 .left)))
     (c .before .before .replace-top .last .0) (begun s .pre .board)
     (sym (up .before .top .ensures .1) ∙ c .before .before .before .before .if4 .taken) (c .before .before .replace-top .ensures)
 
@@ -97,9 +100,9 @@ returns-5 c =
     let s = looked up in
     let a = begun s .args in
     let stack = s .before .before .stack-of in
-    chose-ahead (a .row) (a .i) (a .work .now) (stack .result .start) (stack .result .size) (stack .ensures .0) (stack .ensures .1)
+    chose-ahead (a .row) (a .i) (a .margin) (a .work .now) (stack .result .start) (stack .result .size) (stack .ensures .0) (stack .ensures .1)
     (s .before .if1 .left) (up .before .before .before .if2 .left)
-    (subst (λ x. rowWorth (a .work .now) (a .i) < x) (up .before .top .ensures .2) (at-top .before .before .if3 .left))
+    (gains-it _ (a .margin) _ _ (up .before .top .ensures .2) (sym (up .gains .ensures) ∙ not-false _ (at-top .before .before .if3 .left)))
     (c .before .before .push2 .last .0)
     (λ same. c .before .before .before .before .if4 .left (up .before .top .ensures .1 ∙ same)) (c .before .before .push2 .ensures)
 
@@ -118,6 +121,7 @@ choose-spec =
     same-length-2
     returns-2
     top-requires
+    gains-requires
     same-length-3
     returns-3
     replace-top-requires

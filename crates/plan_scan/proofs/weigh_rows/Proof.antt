@@ -95,7 +95,7 @@ loop-again c =
     let a = c .before .before .before .before .before .before .before .before .before .before .before .before .before .before .before .before .before .before .before in
     let l = c .before .before .before .before .before .before .before .before .before .before .before .before .before .before .before .loop in
     let w = c .before .before .before .before .before .before .before .before .before .weigh-row .last .1 .1 .1 .0 in
-    let chosen = c .before .before .choose .last .1 .1 .0 in (
+    let chosen = c .before .before .choose .last .1 .1 .1 .0 in (
       first-here (c .before .before .before .before .before .before .before .before .before .before .before .before .before),
       (let z = end-here (c .before .before .before .before .before .before .before .before .before .before .before .before .before) in omega arith),
       turn-chosen (a .args .file .now) (a .args .s) (a .args .goal) (a .args .first) (a .args .end) (a .pre .0) (a .pre .3) (l .i - 1) (first-here (c .before .before .before .before .before .before .before .before .before .before .before .before .before))

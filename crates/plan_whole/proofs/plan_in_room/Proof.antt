@@ -43,7 +43,7 @@ told : (c : tie.After-earliest-arrival)
     → c .earliest-arrival .result
     ≡ cellOf (earliest (timetableIn (begun (laid-out c) .args .file .now) (laid-out c .before .before .before .before .places-in .result))
     (begun (laid-out c) .args .q))
-told c = c .earliest-arrival .ensures .0 (begun (laid-out c) .args .q .code)
+told c = c .earliest-arrival .ensures .0 (begun (laid-out c) .args .q .code) (begun (laid-out c) .args .q .margin)
 
 -- E does not lie before T, and is a minute of 16 bits
 arrival-fits : (c : tie.After-rows-before) (e : ℕ)

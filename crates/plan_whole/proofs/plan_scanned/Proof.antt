@@ -31,11 +31,11 @@ given-back c = c .before .before .before .before .before .before
 told : (a : tie.Start)
     → Told (a .args .file .now) (a .args .s) (a .args .tables .now) (a .args .q) (a .pre .0) (a .pre .1) (a .args .goal .bound) (a .args .end)
     (a .pre .2 .ordered)
-    (a .pre .2 .inside) (a .args .work .now) (a .args .goal .target)
+    (a .pre .2 .inside) (a .args .work .now) (a .args .goal)
 told a =
     goal-told (a .args .file .now) (a .args .s) (a .args .tables .now) (a .args .q) (a .pre .0) (a .pre .1) (a .args .goal .bound) (a .args .end)
     (a .pre .2 .ordered)
-    (a .pre .2 .inside) (a .args .work .now) (a .args .goal .target) (a .pre .2 .target) (a .pre .5) (a .pre .2 .idle)
+    (a .pre .2 .inside) (a .args .work .now) (a .args .goal) (a .pre .2 .aims) (a .pre .5) (a .pre .2 .idle)
 
 -- the stack's size and start, as read
 sized : (c : tie.After-stack-of) → c .stack-of .result .size ≡ stackSize (begun c .args .work .now) (begun c .args .q .source)
@@ -51,7 +51,7 @@ some-here c = omega (arith, sized (c .before .before .before), c .before .if1 .l
 top-of : (c : tie.After-top) →
     let a = begun (stacked c) in
     Top (a .args .file .now) (a .args .s) (a .args .tables .now) (a .args .q) (a .pre .0) (a .pre .1) (a .args .goal .bound) (a .args .end)
-    (a .pre .2 .ordered) (a .pre .2 .inside) (a .args .work .now) (a .args .goal .target)
+    (a .pre .2 .ordered) (a .pre .2 .inside) (a .args .work .now) (a .args .goal)
 top-of c = told (begun (stacked c)) .1 (some-here (c .before))
 
 -- the first ride, by the row that the top names

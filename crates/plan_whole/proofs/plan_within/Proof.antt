@@ -1,8 +1,8 @@
 -- `plan_whole::plan_within` meets its contract: the part of the rows that a plan can board is scanned, and the plan read off it. Assumes nothing.
 use Prim.Native.Nat.{_≤_}
-use mathlib.Core.Path.{refl}
 use native.Mathlib.Omega.{arith}
 use lib.ListN.{length}
+use Rattle.plans.specs.Journeys.{goalOf}
 use Rattle.plan_cells.specs.Cells.{used}
 use Rattle.plan_whole.specs.Steps.{RowsInReach}
 use Rattle.plan_whole.proofs.Parts.{is-part}
@@ -21,12 +21,11 @@ scanned-at c = c .before .before .before .before .before .before .before
 -- the rows that are scanned, for the goal
 looked-at : (c : tie.After-rows-within)
     → RowsInReach (begun c .args .file .now) (begun c .args .s) (begun c .args .q)
-    (record { target = begun c .args .q .target; bound = begun c .args .bound })
-    (begun c .args .first) (c .rows-within .result)
+    (goalOf (begun c .args .q) (begun c .args .bound)) (begun c .args .first) (c .rows-within .result)
 looked-at c =
     let a = begun c in
-    is-part (a .args .file .now) (a .args .s) (a .args .tables .now) (a .args .q) (record { target = a .args .q .target; bound = a .args .bound })
-    (a .args .first) (c .rows-within .result) (a .pre .0) refl (a .pre .2) (a .pre .1) (c .rows-within .ensures)
+    is-part (a .args .file .now) (a .args .s) (a .args .tables .now) (a .args .q) (a .args .bound)
+    (a .args .first) (c .rows-within .result) (a .pre .0) (a .pre .2) (a .pre .1) (c .rows-within .ensures)
 
 rows-within-requires : tie.Need-rows-within-requires
 rows-within-requires c κs = search needs

@@ -16,10 +16,13 @@ number-requires-3 c κs = search needs
 number-requires-4 : tie.Need-number-requires-4
 number-requires-4 c κs = search needs
 
+number-requires-5 : tie.Need-number-requires-5
+number-requires-5 c κs = search needs
+
 returns : tie.Need-returns
 returns c =
-    λ i. queryOf (c .before .before .before .number .ensures .0 i) (c .before .before .number2 .ensures .0 i) (c .before .number3 .ensures .0 i)
-    (c .number4 .ensures .0 i)
+    λ i. queryOf (c .before .before .before .before .number .ensures .0 i) (c .before .before .before .number2 .ensures .0 i)
+    (c .before .before .number3 .ensures .0 i) (c .before .number4 .ensures .0 i) (c .number5 .ensures .0 i)
 
 pub query-of-spec : {M : Type 1} → statement M
-query-of-spec = tie.close (tie.spec number-requires number-requires-2 number-requires-3 number-requires-4 returns)
+query-of-spec = tie.close (tie.spec number-requires number-requires-2 number-requires-3 number-requires-4 number-requires-5 returns)

@@ -1,7 +1,7 @@
--- `query::query_rule` meets its contract: the code decides once the journey keeps its rule. Assumes nothing.
+-- `query::query_rule` meets its contract: the margin decides once the journey and the code keep their rules. Assumes nothing.
 use mathlib.Core.Path.{sym, _∙_}
 use borrow.Author.Tests.{not-true, not-false}
-use Rattle.query.proofs.Rules.{journey-breaks, code-decides-rule}
+use Rattle.query.proofs.Rules.{journey-breaks, code-breaks, margin-decides-rule}
 use borrow.Author.Needs.{needs}
 use Rattle.query.proofs.query_rule.Statement.{statement}
 use Rattle.query.proofs.query_rule.Tie as tie
@@ -16,7 +16,16 @@ code-rule-requires : tie.Need-code-rule-requires
 code-rule-requires c κs = search needs
 
 returns-2 : tie.Need-returns-2
-returns-2 c = c .code-rule .ensures ∙ code-decides-rule _ _ _ (sym (c .before .before .journey-rule .ensures) ∙ not-false _ (c .before .if1 .left))
+returns-2 c = code-breaks _ _ _ (sym (c .before .code-rule .ensures) ∙ not-true _ (c .if2 .taken))
+
+margin-rule-requires : tie.Need-margin-rule-requires
+margin-rule-requires c κs = search needs
+
+returns-3 : tie.Need-returns-3
+returns-3 c =
+    c .margin-rule .ensures
+    ∙ margin-decides-rule _ _ _ (sym (c .before .before .before .before .journey-rule .ensures) ∙ not-false _ (c .before .before .before .if1 .left))
+    (sym (c .before .before .code-rule .ensures) ∙ not-false _ (c .before .if2 .left))
 
 pub query-rule-spec : {M : Type 1} → statement M
-query-rule-spec = tie.close (tie.spec journey-rule-requires returns code-rule-requires returns-2)
+query-rule-spec = tie.close (tie.spec journey-rule-requires returns code-rule-requires returns-2 margin-rule-requires returns-3)

@@ -3,11 +3,14 @@ use mathlib.Core.Path.{ap, _∙_}
 use borrow.Author.Needs.{needs}
 use Rattle.file_layout.specs.Format.{versionOne}
 use Rattle.query.specs.declared.Query.{Query}
-use Rattle.query.specs.Query.{queryOf}
+use Rattle.query.specs.Query.{arrivalQuery}
 use Rattle.planner.specs.Outcome.{EarliestOutcome, earliestOutcome, earliestAnswer}
 use Rattle.trial.specs.Seen.{seen}
 use Rattle.trial.proofs.trial_earliest.Statement.{statement}
 use Rattle.trial.proofs.trial_earliest.Tie as tie
+
+cell-requires : tie.Need-cell-requires
+cell-requires c κs = search needs
 
 query-of-requires : tie.Need-query-of-requires
 query-of-requires c κs = search needs
@@ -27,9 +30,9 @@ same-length-2 c = search needs
 returns : tie.Need-returns
 returns c =
     let at = c .before .before .before .before .before .before in
-    let a = at .before .before .before .before .before .before .args in
+    let a = at .before .before .before .before .before .before .before .args in
     let found = at .earliest-safe-arrival in
-    let o : Query → EarliestOutcome = λ q. earliestOutcome versionOne (a .file .now) (queryOf (q .source) (q .target) (q .minute) 0) (a .work .now) in
+    let o : Query → EarliestOutcome = λ q. earliestOutcome versionOne (a .file .now) (arrivalQuery (q .source) (q .target) (q .minute)) (a .work .now) in
     let asked = at .before .before .query-of .ensures in (
       c .before .before .put-earliest .ensures
           ∙ ap (λ e. seen (earliestAnswer e) (a .answer .now)) (found .ensures .0 ∙ ap (λ q. o q .answer) asked),
@@ -40,6 +43,7 @@ pub trial-earliest-spec : {M : Type 1} → statement M
 trial-earliest-spec =
     tie.close
     (tie.spec
+    cell-requires
     query-of-requires
     earliest-safe-arrival-requires
     put-earliest-requires

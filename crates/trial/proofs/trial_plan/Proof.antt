@@ -1,21 +1,19 @@
--- `trial::trial_plan` meets its contract. Assumes nothing.
+-- `trial::trial_plan` meets its contract: the plan with the least margin. Assumes nothing.
+use Prim.Native.Nat.{ℕ}
 use mathlib.Core.Path.{ap, _∙_}
 use borrow.Author.Needs.{needs}
 use Rattle.file_layout.specs.Format.{versionOne}
-use Rattle.query.specs.declared.Query.{Query}
+use Rattle.query.specs.Query.{queryOf}
 use Rattle.planner.specs.Outcome.{PlanOutcome, planOutcome, planAnswer}
 use Rattle.trial.specs.Seen.{seen}
 use Rattle.trial.proofs.trial_plan.Statement.{statement}
 use Rattle.trial.proofs.trial_plan.Tie as tie
 
-query-of-requires : tie.Need-query-of-requires
-query-of-requires c κs = search needs
+cell-requires : tie.Need-cell-requires
+cell-requires c κs = search needs
 
-plan-requires : tie.Need-plan-requires
-plan-requires c κs = search needs
-
-put-planned-requires : tie.Need-put-planned-requires
-put-planned-requires c κs = search needs
+trial-plan-margin-requires : tie.Need-trial-plan-margin-requires
+trial-plan-margin-requires c κs = search needs
 
 same-length : tie.Need-same-length
 same-length c = search needs
@@ -28,18 +26,18 @@ same-length-3 c = search needs
 
 returns : tie.Need-returns
 returns c =
-    let at = c .before .before .before .before .before .before .before .before in
-    let a = at .before .before .before .before .before .before .before .before .args in
-    let planned = at .plan in
-    let o : Query → PlanOutcome = λ q. planOutcome versionOne (a .file .now) q (a .work .now) (a .rides .now) in
-    let asked = at .before .before .before .query-of .ensures in (
-      c .before .before .put-planned .ensures
-          ∙ ap (λ p. seen (planAnswer p) (a .answer .now)) (planned .ensures .0 ∙ ap (λ q. o q .answer) asked),
-      planned .ensures .1 ∙ ap (λ q. o q .work) asked,
-      planned .ensures .2 ∙ ap (λ q. o q .plan) asked,
+    let at = c .before .before .before .before .before .before in
+    let least = at .before .before .before .before in
+    let a = least .before .before .before .before .before .args in
+    let o : ℕ → PlanOutcome = λ margin. planOutcome versionOne (a .file .now) (queryOf (a .source) (a .target) (a .minute) (a .code) margin)
+    (a .work .now) (a .rides .now) in
+    let asked = least .cell .ensures in
+    let seen-with = at .trial-plan-margin .ensures in (
+      seen-with .0 ∙ ap (λ m. seen (planAnswer (o m .answer)) (a .answer .now)) asked,
+      seen-with .1 ∙ ap (λ m. o m .work) asked,
+      seen-with .2 ∙ ap (λ m. o m .plan) asked,
     )
 
 pub trial-plan-spec : {M : Type 1} → statement M
 trial-plan-spec =
-    tie.close
-    (tie.spec query-of-requires plan-requires put-planned-requires same-length same-length-2 same-length-3 returns)
+    tie.close (tie.spec cell-requires trial-plan-margin-requires same-length same-length-2 same-length-3 returns)

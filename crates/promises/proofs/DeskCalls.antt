@@ -1,0 +1,44 @@
+-- The booking desk's two calls, over their contracts: each asks the desk for a query, and one is the other with margin 1. Assumes nothing.
+use mathlib.Core.Path.{_≡_}
+use contract.Lifetimes.{Lfts}
+use denote.Ref.{now}
+use denote.Triple.Clauses.{AtExit}
+use borrow.Fn.Kinds.{Dens, resT, endedOf}
+use Rattle.query.specs.Query.{queryOf, leastMargin}
+use Rattle.sayurimpak.proofs.sayurimpak_plan.Kinds as kinds
+use Rattle.sayurimpak.proofs.sayurimpak_plan.Reads as reads
+use Rattle.sayurimpak.proofs.sayurimpak_plan_margin.Kinds as margin-kinds
+use Rattle.sayurimpak.proofs.sayurimpak_plan_margin.Reads as margin-reads
+use Rattle.promises.specs.Returned.{AsDesk}
+
+-- `sayurimpak_plan` asks with margin 1
+pub plan-asks : (κs : Lfts 2) (arguments : Dens κs kinds.ps) (answer : resT kinds.r κs .Denot) (ending : AtExit (endedOf 2 kinds.ps kinds.r) κs)
+    → reads.Post κs arguments answer ending
+    → AsDesk (now (arguments .0))
+    (queryOf (arguments .1 .0) (arguments .1 .1 .0) (arguments .1 .1 .1 .0) (arguments .1 .1 .1 .1 .0) leastMargin)
+    (now (arguments .1 .1 .1 .1 .1 .0)) answer (now (ending .1 .1 .1 .1 .1 .0))
+plan-asks κs arguments answer ending permitted = permitted
+
+-- `sayurimpak_plan_margin` asks with the margin that it is passed
+pub margin-asks : (κs : Lfts 2) (arguments : Dens κs margin-kinds.ps) (answer : resT margin-kinds.r κs .Denot)
+    (ending : AtExit (endedOf 2 margin-kinds.ps margin-kinds.r) κs) → margin-reads.Post κs arguments answer ending
+    → AsDesk (now (arguments .0))
+    (queryOf (arguments .1 .0) (arguments .1 .1 .0) (arguments .1 .1 .1 .0) (arguments .1 .1 .1 .1 .0) (arguments .1 .1 .1 .1 .1 .0))
+    (now (arguments .1 .1 .1 .1 .1 .1 .0)) answer (now (ending .1 .1 .1 .1 .1 .1 .0))
+margin-asks κs arguments answer ending permitted = permitted
+
+-- passed margin 1 and otherwise the same, `sayurimpak_plan_margin` answers as `sayurimpak_plan` does and leaves the same bytes
+pub plan-is-margin-one :
+    (κs κs' : Lfts 2) (arguments : Dens κs kinds.ps) (others : Dens κs' margin-kinds.ps) (answer : resT kinds.r κs .Denot)
+    (answer' : resT margin-kinds.r κs' .Denot) (ending : AtExit (endedOf 2 kinds.ps kinds.r) κs)
+    (ending' : AtExit (endedOf 2 margin-kinds.ps margin-kinds.r) κs') → reads.Post κs arguments answer ending
+    → margin-reads.Post κs' others answer' ending' → now (others .0) ≡ now (arguments .0) → others .1 .0 ≡ arguments .1 .0
+    → others .1 .1 .0 ≡ arguments .1 .1 .0 → others .1 .1 .1 .0 ≡ arguments .1 .1 .1 .0 → others .1 .1 .1 .1 .0 ≡ arguments .1 .1 .1 .1 .0
+    → others .1 .1 .1 .1 .1 .0 ≡ leastMargin → now (others .1 .1 .1 .1 .1 .1 .0) ≡ now (arguments .1 .1 .1 .1 .1 .0)
+    → (answer' ≡ answer) × (now (ending' .1 .1 .1 .1 .1 .1 .0) ≡ now (ending .1 .1 .1 .1 .1 .0))
+plan-is-margin-one κs κs' arguments others answer answer' ending ending' first second file source target minute code margin out =
+    let told = first .0 in
+    let told' = second .0 in
+    let left = first .1 in
+    let left' = second .1 in
+    (cc, cc)
