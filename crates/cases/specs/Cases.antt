@@ -10,7 +10,7 @@ use Rattle.file_layout.specs.CaseW.{caseW}
 use Rattle.file_encoding.specs.Encode.{encode}
 use Rattle.house.specs.HouseShare.{houseShare, houseAnswer}
 use Rattle.query.specs.declared.Query.{Query}
-use Rattle.query.specs.Query.{leastMargin, mostMargin, queryOf, withMargin}
+use Rattle.query.specs.Query.{leastMargin, mostMargin, withMargin, plainQuery, withCode}
 use Rattle.plans.specs.Chosen.{inTicks, scanned, worthOf}
 use Rattle.plans.specs.Plan.{chosenFor}
 use Rattle.plans.specs.Examples.{Case, wWith, w, wTwice, oneTrip, seldomLate}
@@ -67,7 +67,7 @@ chosenWith margin target t = map (λ v. v .ride .board) (chosenFor t (record { t
 
 -- W's query
 abbrev pub askedOfW : Query
-askedOfW = queryOf 0 2 590 0 leastMargin
+askedOfW = plainQuery 0 2 590
 
 -- W's plan, in three rides of which the last is row 3, with its bound; and its slice, three numbers of which stay
 abbrev pub wAnswer : ℕ → List ℕ
@@ -104,11 +104,11 @@ cases =
     ∷ record { answered = arrivalOf (wWith 639) askedOfW; expected = 8 ∷ 0 ∷ [] }
     -- 5: W with q 4: E 690, bound 690, same plan; 6: q 5: bound 715
     ∷ record { answered = arrivalOf w askedOfW; expected = 0 ∷ 0 ∷ 690 ∷ [] }
-    ∷ record { answered = planOf w (queryOf 0 2 590 4 leastMargin); expected = wAnswer 690 }
-    ∷ record { answered = sliceOf w (queryOf 0 2 590 4 leastMargin); expected = wSlice }
-    ∷ record { answered = planOf w (queryOf 0 2 590 5 leastMargin); expected = wAnswer 715 }
+    ∷ record { answered = planOf w (withCode 4 (plainQuery 0 2 590)); expected = wAnswer 690 }
+    ∷ record { answered = sliceOf w (withCode 4 (plainQuery 0 2 590)); expected = wSlice }
+    ∷ record { answered = planOf w (withCode 5 (plainQuery 0 2 590)); expected = wAnswer 715 }
     -- 8: T 601: refusal 8
-    ∷ record { answered = planOf w (queryOf 0 2 601 0 leastMargin); expected = 8 ∷ 0 ∷ [] }
+    ∷ record { answered = planOf w (plainQuery 0 2 601); expected = 8 ∷ 0 ∷ [] }
     -- 9: row 4 is on the sheet
     ∷ record { answered = planOf wTwice askedOfW; expected = wAnswer 0 }
     ∷ record {
@@ -116,7 +116,7 @@ cases =
       expected = 0 ∷ 0 ∷ 172800 ∷ 1 ∷ 1 ∷ 168960 ∷ 4 ∷ 4 ∷ 176640 ∷ 0 ∷ 0 ∷ 0 ∷ 0 ∷ 0 ∷ 0 ∷ [];
     }
     -- 11: 2,561 ticks
-    ∷ record { answered = planOf seldomLate (queryOf 0 2 0 0 leastMargin); expected = 0 ∷ 0 ∷ 1 ∷ 2561 ∷ 11 ∷ 0 ∷ [] }
+    ∷ record { answered = planOf seldomLate (plainQuery 0 2 0); expected = 0 ∷ 0 ∷ 1 ∷ 2561 ∷ 11 ∷ 0 ∷ [] }
     -- 12: pair (5,30): cumulative shares at 1, 2, 5, 6, 35 are 303, 682, 2,730, 3,106, 4,096; 36 is above M
     ∷ record {
       answered = joinedUp (map (λ minute. inNumbers (houseAnswer (houseShare 1 minute))) (1 ∷ 2 ∷ 5 ∷ 6 ∷ 35 ∷ 36 ∷ []));
@@ -130,7 +130,7 @@ cases =
     ∷ record { answered = planOf w (withMargin 2560 askedOfW); expected = wAnswer 0 }
     ∷ record { answered = planOf w (withMargin 2561 askedOfW); expected = 6 ∷ 0 ∷ [] }
     -- E1: the margin leaves out the boat that lands at 100, and yet E is 100 and the bound 200
-    ∷ record { answered = planOf fiveMinutes (queryOf 0 2 0 8 leastMargin); expected = 0 ∷ 0 ∷ 1 ∷ 25600 ∷ 100 ∷ 200 ∷ [] }
-    ∷ record { answered = planOf fiveMinutes (queryOf 0 2 0 8 mostMargin); expected = 0 ∷ 0 ∷ 1 ∷ 26880 ∷ 105 ∷ 200 ∷ [] }
-    ∷ record { answered = arrivalOf fiveMinutes (queryOf 0 2 0 8 mostMargin); expected = 0 ∷ 0 ∷ 100 ∷ [] }
+    ∷ record { answered = planOf fiveMinutes (withCode 8 (plainQuery 0 2 0)); expected = 0 ∷ 0 ∷ 1 ∷ 25600 ∷ 100 ∷ 200 ∷ [] }
+    ∷ record { answered = planOf fiveMinutes (withMargin mostMargin (withCode 8 (plainQuery 0 2 0))); expected = 0 ∷ 0 ∷ 1 ∷ 26880 ∷ 105 ∷ 200 ∷ [] }
+    ∷ record { answered = arrivalOf fiveMinutes (withMargin mostMargin (withCode 8 (plainQuery 0 2 0))); expected = 0 ∷ 0 ∷ 100 ∷ [] }
     ∷ []

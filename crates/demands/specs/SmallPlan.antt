@@ -7,7 +7,7 @@ use lib.ListN.{length}
 use Rattle.timetable.specs.Timetable.{Timetable}
 use Rattle.timetable.specs.Classes.{shareTotal}
 use Rattle.query.specs.declared.Query.{Query}
-use Rattle.query.specs.Query.{queryOf, leastMargin}
+use Rattle.query.specs.Query.{plainQuery, withMargin}
 use Rattle.plans.specs.Rides.{Ride, rideOf}
 use Rattle.plans.specs.Examples.{Case, query, planTold, row, onTime, timetable}
 use Rattle.plans.specs.Margins.{ticksLate}
@@ -60,7 +60,7 @@ smallCases =
     -- L: two of the three rides are boarded, in time or late
     ∷ record { answered = longestWay asked smallRides ∷ []; expected = 2 ∷ [] }
     -- with margin 1 two rides; with margin 10 the direct boat, later by (10 − 1) × 2 ticks: as much as two rides along a way can lose
-    ∷ record { answered = planTold seconds (queryOf 0 2 0 0 leastMargin); expected = 2 ∷ 25600 ∷ 100 ∷ 0 ∷ 0 ∷ 0 ∷ 25600 ∷ 2 ∷ 2 ∷ 25600 ∷ [] }
-    ∷ record { answered = planTold seconds (queryOf 0 2 0 0 10); expected = 1 ∷ 25618 ∷ 101 ∷ 0 ∷ 1 ∷ 1 ∷ 25618 ∷ [] }
-    ∷ record { answered = longestWay (queryOf 0 2 0 0 10) quickRides ∷ []; expected = 2 ∷ [] }
+    ∷ record { answered = planTold seconds (plainQuery 0 2 0); expected = 2 ∷ 25600 ∷ 100 ∷ 0 ∷ 0 ∷ 0 ∷ 25600 ∷ 2 ∷ 2 ∷ 25600 ∷ [] }
+    ∷ record { answered = planTold seconds (withMargin 10 (plainQuery 0 2 0)); expected = 1 ∷ 25618 ∷ 101 ∷ 0 ∷ 1 ∷ 1 ∷ 25618 ∷ [] }
+    ∷ record { answered = longestWay (withMargin 10 (plainQuery 0 2 0)) quickRides ∷ []; expected = 2 ∷ [] }
     ∷ []

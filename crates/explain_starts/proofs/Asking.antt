@@ -18,7 +18,7 @@ use Rattle.file_layout.specs.Check.{checkedAs}
 use Rattle.file_layout.specs.Decode.{decode}
 use Rattle.file_layout.proofs.Sound.{checked-gives}
 use Rattle.query.specs.declared.Query.{Query}
-use Rattle.query.specs.Query.{arrivalQuery, noQuery, queryRule}
+use Rattle.query.specs.Query.{plainQuery, noQuery, queryRule}
 use Rattle.query.proofs.Rules.{minute-decides, margin-decides-rule, no-code, margin-decides}
 use Rattle.plans.specs.Sound.{Timely}
 use Rattle.plans.specs.Plan.{earliest}
@@ -83,7 +83,7 @@ module _ {f : Format} {file : List ℕ} {h : Trailer} {source target : ℕ} {wor
 
   module _ (minute : ℕ) (inside : minute ≤ f .lastminute) where
     abbrev q : Query
-    q = arrivalQuery source target minute
+    q = plainQuery source target minute
 
     rule-kept : queryRule (h .stops) (f .lastminute) q ≡ true
     rule-kept =

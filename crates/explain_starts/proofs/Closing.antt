@@ -3,7 +3,6 @@ use Prim.Native.Nat.{ℕ, _-_, zero-le, _≤_, _<_}
 use native.Mathlib.Omega.{arith}
 use mathlib.Core.Path.{_≡_, refl, ap}
 use Rattle.timetable.specs.Timetable.{Timetable}
-use Rattle.query.specs.Query.{leastMargin}
 use Rattle.plans.proofs.EarliestSafe.{journey-earlier}
 use Rattle.explain_starts.specs.declared.Start.{Start}
 use Rattle.explain_starts.specs.declared.Start.the-variants.{Until, Never}
@@ -11,7 +10,7 @@ use Rattle.explain_starts.specs.Starts.{Starts, LastStart, until, never}
 
 module _ (t : Timetable) (source target : ℕ) where
   pub starts-earlier : {minute later : ℕ} → minute ≤ later → Starts t source target later → Starts t source target minute
-  starts-earlier before there = (there .0, journey-earlier t source target 0 leastMargin before (there .1))
+  starts-earlier before there = (there .0, journey-earlier t source target before (there .1))
 
   -- one can start at `low` and at no minute behind `high`
   pub record Closing (last low high : ℕ) : Type 0 where

@@ -9,7 +9,7 @@ use Rattle.file_layout.specs.declared.Format.{Format}
 use Rattle.file_layout.specs.declared.Trailer.{Trailer}
 use Rattle.file_layout.specs.declared.Checked.the-variants.{Sound}
 use Rattle.file_layout.specs.Check.{checkedAs}
-use Rattle.query.specs.Query.{arrivalQuery, QueryFits}
+use Rattle.query.specs.Query.{plainQuery, QueryFits}
 use Rattle.plans.specs.Journeys.{Journey}
 use Rattle.plan_rows.specs.Sections.{Plannable}
 use Rattle.explain_starts.specs.declared.Start.{Start}
@@ -17,7 +17,7 @@ use Rattle.explain_starts.specs.declared.Start.the-variants.{Until, Neve
 
 -- there is a safe journey from `source`, at or after `minute`, to `target`
 abbrev pub Starts : Timetable → (source target minute : ℕ) → Type 0
-Starts t source target minute = (end : ℕ) × Journey t (arrivalQuery source target minute) end
+Starts t source target minute = (end : ℕ) × Journey t (plainQuery source target minute) end
 
 -- of the minutes 0 to `last`: the last at which there is one, or that there is none at any of them
 pub data LastStart (t : Timetable) (source target last : ℕ) : Start → Type 0 where
@@ -35,5 +35,5 @@ pub record Tells (there : Type 0) (answer : Bool) : Type 0 where
 pub record StartFits (f : Format) (file : List ℕ) (trailer : Trailer) (source target : ℕ) (work : List ℕ) : Type 0 where
   pub plannable : Plannable f
   pub sound : checkedAs f file ≡ Sound trailer
-  pub fits : QueryFits (trailer .stops) (f .lastminute) (arrivalQuery source target 0)
+  pub fits : QueryFits (trailer .stops) (f .lastminute) (plainQuery source target 0)
   pub room : 4 * trailer .rows + 2500 ≤ length work

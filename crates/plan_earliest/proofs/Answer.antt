@@ -7,16 +7,17 @@ use Rattle.plans.specs.Plan.{earliest}
 use Rattle.plan_cells.specs.Cells.{cellOf}
 use Rattle.plan_rows.specs.declared.SectionPlaces.{SectionPlaces}
 use Rattle.plan_rows.specs.Reading.{rowsIn, timetableIn, FileReadable, Cut}
-use Rattle.query.specs.Query.{queryOf}
+use Rattle.query.specs.declared.Query.{Query}
 use Rattle.plan_earliest.specs.Swept.{Swept, EarliestReady}
 use Rattle.plan_earliest.proofs.Final.{SetOut, sets-sail, earliest-cell}
 use Rattle.plan_earliest.proofs.InFile.{seaworthy}
 
 pub answer-earliest :
-    (file : List ℕ) (s : SectionPlaces) → FileReadable file s → (source target minute first : ℕ) → source ≢ target → minute < 65536
-    → Cut (rowsIn file s) minute first → {start : List ℕ} → SetOut source minute start → {answer : ℕ}
-    → (Swept (timetableIn file s) source minute first start → EarliestReady (timetableIn file s) source minute target answer)
-    → (code margin : ℕ) → answer ≡ cellOf (earliest (timetableIn file s) (queryOf source target minute code margin))
-answer-earliest file s stand source target minute first apart small cut out found code margin =
-    earliest-cell (timetableIn file s) (seaworthy file s stand) (queryOf source target minute code margin) apart small
-    (found (sets-sail (timetableIn file s) (seaworthy file s stand) source minute first cut out))
+    (file : List ℕ) (s : SectionPlaces) → FileReadable file s → (q : Query) (first : ℕ) → q .source ≢ q .target → q .minute < 65536
+    → Cut (rowsIn file s) (q .minute) first → {start : List ℕ} → SetOut (q .source) (q .minute) start → {answer : ℕ}
+    → (Swept (timetableIn file s) (q .source) (q .minute) first start
+    → EarliestReady (timetableIn file s) (q .source) (q .minute) (q .target) answer)
+    → answer ≡ cellOf (earliest (timetableIn file s) q)
+answer-earliest file s stand q first apart small cut out found =
+    earliest-cell (timetableIn file s) (seaworthy file s stand) q apart small
+    (found (sets-sail (timetableIn file s) (seaworthy file s stand) (q .source) (q .minute) first cut out))

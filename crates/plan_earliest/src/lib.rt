@@ -8,7 +8,6 @@ ghost use Rattle.plans.specs.Plan.{earliest};
 ghost use Rattle.plan_cells.specs.Cells.{tripCells, pairCells, cellOf};
 ghost use Rattle.plan_cells.specs.Outside.{SameOutside};
 ghost use Rattle.plan_rows.specs.Reading.{rowsIn, tablesIn, timetableIn, tableCells, FileReadable, Cut, TablesHeld};
-ghost use Rattle.query.specs.Query.{queryOf};
 ghost use Rattle.plan_earliest.specs.Cells.{ready, landingOf, RowInCells, Boarded, Landed, RowSailed};
 ghost use Rattle.plan_earliest.specs.Swept.{Swept, EarliestReady};
 use numbers::cell;
@@ -22,32 +21,33 @@ use plan_rows::MAX_DELAY;
 use plan_rows::SectionPlaces;
 use plan_rows::can_board;
 use plan_rows::nth_row;
+use query::Query;
 use timetable::MOST_STOPS;
 use timetable::MOST_TRIPS;
 use timetable::Row;
 
-// The earliest safe arrival from `source` at `minute`, over the rows from `first` on; NONE if there
-// is none.
+// The earliest safe arrival that the query asks for, over the rows from `first` on; NONE if there is none.
 pub fn earliest_arrival(
     file: &[u8],
     s: SectionPlaces,
     tables: &[u32],
-    source: usize,
-    target: usize,
-    minute: usize,
+    q: Query,
     first: usize,
     work: &mut [u32],
 ) -> u32
-    requires { ⌜ FileReadable (now file) s × TablesHeld (now tables) (tablesIn (now file) s) × (source < mostStops) × (target < mostStops)
-        × (source ≢ target) × (minute < 65536) × Cut (rowsIn (now file) s) minute first × (pairCells ≤ length (now work)) ⌝ }
-    ensures { λ r. ⌜ ((code margin : ℕ) → r ≡ cellOf (earliest (timetableIn (now (file .entry)) s) (queryOf source target minute code margin)))
+    requires { ⌜ FileReadable (now file) s × TablesHeld (now tables) (tablesIn (now file) s) × (q .source < mostStops)
+        × (q .target < mostStops) × (q .source ≢ q .target) × (q .minute < 65536) × Cut (rowsIn (now file) s) (q .minute) first
+        × (pairCells ≤ length (now work)) ⌝ }
+    ensures { λ r. ⌜ (r ≡ cellOf (earliest (timetableIn (now (file .entry)) s) q))
         × SameOutside tripCells pairCells (now (work .entry)) (now (work .exit)) ⌝ }
 {
     fill(work, TRIP_CELLS, MOST_TRIPS, 0);
     fill(work, STOP_CELLS, MOST_STOPS, NONE);
-    work[STOP_CELLS + source] = cell(minute);
-    sail_until(file, s, tables, target, first, work);
-    work[STOP_CELLS + target]
+    let here = STOP_CELLS + q.source;
+    let there = STOP_CELLS + q.target;
+    work[here] = cell(q.minute);
+    sail_until(file, s, tables, q.target, first, work);
+    work[there]
 }
 
 // Row by row, until one departs when the target is reached already.

@@ -63,7 +63,7 @@ pub fn plan_in_room(
     let s = places_in(f, trailer);
     read_tables(file, s, &mut tables);
     let first = rows_before(file, s, q.minute);
-    let end = earliest_arrival(file, s, &tables, q.source, q.target, q.minute, first, work);
+    let end = earliest_arrival(file, s, &tables, q, first, work);
     if end == NONE {
         return no_plan(8);
     }
@@ -179,5 +179,5 @@ pub fn earliest_in_room(file: &[u8], f: Format, trailer: Trailer, q: Query, work
     let s = places_in(f, trailer);
     read_tables(file, s, &mut tables);
     let first = rows_before(file, s, q.minute);
-    earliest_arrival(file, s, &tables, q.source, q.target, q.minute, first, work)
+    earliest_arrival(file, s, &tables, q, first, work)
 }

@@ -11,7 +11,7 @@ use Rattle.file_layout.specs.declared.Trailer.{Trailer}
 use Rattle.file_layout.specs.Format.{versionOne}
 use Rattle.file_layout.specs.Decode.{decode, trailerOf, trailerAt, trailerStart, rowsFrom, rowAt, tablesFrom, tableAt, sharesFrom, blockEnd, tablesEnd}
 use Rattle.file_layout.specs.Check.{fileVerdict, sectionsVerdict, lengthRule, trailerRule, classVerdict, classesVerdict, joined, sectionsJoin}
-use Rattle.query.specs.Query.{queryOf, journeyRule, codeRule, marginRule, queryRule}
+use Rattle.query.specs.Query.{journeyRule, codeRule, marginRule, queryRule, plainQuery, withCode, withMargin}
 use Rattle.plans.specs.Chosen.{offInMinutes, nextOf, getOff, stayOn, leastOf, firstAt, leads, others, choose, bestOf, scan, scanned, worthOf}
 use Rattle.plans.specs.Plan.{earliest, planned, planBefore}
 use Rattle.plans.specs.Worth.{firstOpen}
@@ -20,16 +20,16 @@ use Rattle.planner.specs.Admission.{enough, workRoom, planRoom, noRoom, 
 use Rattle.planner.specs.Outcome.{cleared, refusedPlan, planAnswered, planOutcome, refusedEarliest, earliestAnswered, earliestOutcome}
 
 -- T above 10,079
-pub last-minute : (queryRule 2 (versionOne .lastminute) (queryOf 0 1 10079 0 1) ≡ true)
-    × (queryRule 2 (versionOne .lastminute) (queryOf 0 1 10080 0 1) ≡ false)
+pub last-minute : (queryRule 2 (versionOne .lastminute) (plainQuery 0 1 10079) ≡ true)
+    × (queryRule 2 (versionOne .lastminute) (plainQuery 0 1 10080) ≡ false)
 unfolding queryRule journeyRule codeRule marginRule
 last-minute = (refl, refl)
 
 -- a margin outside 1 to 2,560
-pub margin-line : (queryRule 2 (versionOne .lastminute) (queryOf 0 1 0 0 0) ≡ false)
-    × (queryRule 2 (versionOne .lastminute) (queryOf 0 1 0 0 1) ≡ true)
-    × (queryRule 2 (versionOne .lastminute) (queryOf 0 1 0 0 2560) ≡ true)
-    × (queryRule 2 (versionOne .lastminute) (queryOf 0 1 0 0 2561) ≡ false)
+pub margin-line : (queryRule 2 (versionOne .lastminute) (withMargin 0 (plainQuery 0 1 0)) ≡ false)
+    × (queryRule 2 (versionOne .lastminute) (plainQuery 0 1 0) ≡ true)
+    × (queryRule 2 (versionOne .lastminute) (withMargin 2560 (plainQuery 0 1 0)) ≡ true)
+    × (queryRule 2 (versionOne .lastminute) (withMargin 2561 (plainQuery 0 1 0)) ≡ false)
 unfolding queryRule journeyRule codeRule marginRule
 margin-line = (refl, refl, refl, refl)
 
@@ -60,9 +60,9 @@ oneRow =
     ∷ 0 ∷ 0 ∷ 0 ∷ 16 ∷ 1 ∷ 0 ∷ 2 ∷ 0 ∷ 1 ∷ 0 ∷ 1 ∷ 0 ∷ 0 ∷ 0 ∷ 0 ∷ 0 ∷ 12 ∷ 0 ∷ 0 ∷ 0 ∷ []
 
 -- n = 1: the first 2,504 work numbers are 0 and the rest unchanged, though the planning had no use for them
-pub four-a-row : (planOutcome versionOne oneRow (queryOf 1 0 0 0 1) (replicate 2506 7) (5 ∷ 5 ∷ 5 ∷ [])
+pub four-a-row : (planOutcome versionOne oneRow (plainQuery 1 0 0) (replicate 2506 7) (5 ∷ 5 ∷ 5 ∷ [])
     ≡ refusedPlan 8 0 (replicate 2504 0 ++ (7 ∷ 7 ∷ [])) (5 ∷ 5 ∷ 5 ∷ []))
-    × (earliestOutcome versionOne oneRow (queryOf 1 0 0 0 1) (replicate 2506 7) ≡ refusedEarliest 8 0 (replicate 2504 0 ++ (7 ∷ 7 ∷ [])))
+    × (earliestOutcome versionOne oneRow (plainQuery 1 0 0) (replicate 2506 7) ≡ refusedEarliest 8 0 (replicate 2504 0 ++ (7 ∷ 7 ∷ [])))
 unfolding planOutcome earliestOutcome admission callVerdict enough queryRule journeyRule codeRule marginRule fileVerdict sectionsVerdict lengthRule trailerRule
     classVerdict classesVerdict joined sectionsJoin decode trailerOf trailerAt trailerStart rowsFrom rowAt tablesFrom tableAt sharesFrom blockEnd
     tablesEnd u16At u32At sum sharesRule rowsVerdict rowVerdict ownRule departureRule tripRule follows lastOfTrip planAnswered answerFor sliceAfter
@@ -72,15 +72,15 @@ four-a-row = (refl, refl)
 
 -- n = 0: refusal 8; the first 2,500 work numbers are 0 and the rest unchanged, the plan slice not at all. 1 before 6 before 7, and no slice changes
 pub in-order :
-    (planOutcome versionOne shortest (queryOf 0 1 0 0 1) (replicate 2502 7) (5 ∷ []) ≡ refusedPlan 8 0 (replicate 2500 0 ++ (7 ∷ 7 ∷ [])) (5 ∷ []))
-    × (earliestOutcome versionOne shortest (queryOf 0 1 0 0 1) (replicate 2502 7) ≡ refusedEarliest 8 0 (replicate 2500 0 ++ (7 ∷ 7 ∷ [])))
-    × (planOutcome versionOne (take 19 shortest) (queryOf 0 1 0 17 1) (7 ∷ []) (5 ∷ []) ≡ refusedPlan 1 0 (7 ∷ []) (5 ∷ []))
-    × (planOutcome versionOne shortest (queryOf 0 1 0 17 1) (7 ∷ []) (5 ∷ []) ≡ refusedPlan 6 0 (7 ∷ []) (5 ∷ []))
-    × (planOutcome versionOne shortest (queryOf 0 1 10080 0 1) (7 ∷ []) (5 ∷ []) ≡ refusedPlan 6 0 (7 ∷ []) (5 ∷ []))
-    × (planOutcome versionOne shortest (queryOf 0 1 0 0 2561) (7 ∷ []) (5 ∷ []) ≡ refusedPlan 6 0 (7 ∷ []) (5 ∷ []))
-    × (planOutcome versionOne shortest (queryOf 0 1 10079 16 2560) (replicate 2499 7) (5 ∷ []) ≡ refusedPlan 7 0 (replicate 2499 7) (5 ∷ []))
-    × (earliestOutcome versionOne shortest (queryOf 0 2 0 0 1) (7 ∷ []) ≡ refusedEarliest 6 0 (7 ∷ []))
-    × (earliestOutcome versionOne shortest (queryOf 0 1 0 0 1) (7 ∷ []) ≡ refusedEarliest 7 0 (7 ∷ []))
+    (planOutcome versionOne shortest (plainQuery 0 1 0) (replicate 2502 7) (5 ∷ []) ≡ refusedPlan 8 0 (replicate 2500 0 ++ (7 ∷ 7 ∷ [])) (5 ∷ []))
+    × (earliestOutcome versionOne shortest (plainQuery 0 1 0) (replicate 2502 7) ≡ refusedEarliest 8 0 (replicate 2500 0 ++ (7 ∷ 7 ∷ [])))
+    × (planOutcome versionOne (take 19 shortest) (withCode 17 (plainQuery 0 1 0)) (7 ∷ []) (5 ∷ []) ≡ refusedPlan 1 0 (7 ∷ []) (5 ∷ []))
+    × (planOutcome versionOne shortest (withCode 17 (plainQuery 0 1 0)) (7 ∷ []) (5 ∷ []) ≡ refusedPlan 6 0 (7 ∷ []) (5 ∷ []))
+    × (planOutcome versionOne shortest (plainQuery 0 1 10080) (7 ∷ []) (5 ∷ []) ≡ refusedPlan 6 0 (7 ∷ []) (5 ∷ []))
+    × (planOutcome versionOne shortest (withMargin 2561 (plainQuery 0 1 0)) (7 ∷ []) (5 ∷ []) ≡ refusedPlan 6 0 (7 ∷ []) (5 ∷ []))
+    × (planOutcome versionOne shortest (withMargin 2560 (withCode 16 (plainQuery 0 1 10079))) (replicate 2499 7) (5 ∷ []) ≡ refusedPlan 7 0 (replicate 2499 7) (5 ∷ []))
+    × (earliestOutcome versionOne shortest (plainQuery 0 2 0) (7 ∷ []) ≡ refusedEarliest 6 0 (7 ∷ []))
+    × (earliestOutcome versionOne shortest (plainQuery 0 1 0) (7 ∷ []) ≡ refusedEarliest 7 0 (7 ∷ []))
 unfolding planOutcome earliestOutcome admission callVerdict enough queryRule journeyRule codeRule marginRule fileVerdict sectionsVerdict lengthRule trailerRule
     classVerdict classesVerdict joined sectionsJoin decode trailerOf trailerAt trailerStart rowsFrom tablesFrom tableAt sharesFrom blockEnd tablesEnd
     u16At u32At sum sharesRule rowsVerdict planAnswered answerFor sliceAfter planned planBefore earliestAnswered earliest worthOf firstOpen

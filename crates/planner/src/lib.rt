@@ -6,7 +6,7 @@ ghost use Rattle.timetable.specs.Limits.{mostRows, mostStops};
 ghost use Rattle.file_layout.specs.Check.{checkedAs};
 ghost use Rattle.file_layout.specs.Format.{Readable, versionOne};
 ghost use Rattle.file_layout.specs.declared.Checked.the-variants.{Sound};
-ghost use Rattle.query.specs.Query.{arrivalQuery};
+ghost use Rattle.query.specs.Query.{plainQuery};
 ghost use Rattle.plan_rows.specs.Sections.{Plannable};
 ghost use Rattle.planner.specs.Admission.{Admits, SmallRoom, admitted, callVerdict, enough as isEnough, faultNumber, needs, noRoom, planRoom, workRoom};
 ghost use Rattle.planner.specs.Outcome.{earliestOutcome, planOutcome};
@@ -207,8 +207,8 @@ pub fn earliest_safe_arrival(
     minute: usize,
     work: &mut [u32],
 ) -> Earliest
-    ensures { λ r. ⌜ (r ≡ earliestOutcome versionOne (now (file .entry)) (arrivalQuery source target minute) (now (work .entry)) .answer)
-        × (now (work .exit) ≡ earliestOutcome versionOne (now (file .entry)) (arrivalQuery source target minute) (now (work .entry)) .work) ⌝ }
+    ensures { λ r. ⌜ (r ≡ earliestOutcome versionOne (now (file .entry)) (plainQuery source target minute) (now (work .entry)) .answer)
+        × (now (work .exit) ≡ earliestOutcome versionOne (now (file .entry)) (plainQuery source target minute) (now (work .entry)) .work) ⌝ }
 {
     let q = Query {
         source,

@@ -14,7 +14,7 @@ use Rattle.laws.proofs.Tests.{ifb, T-true, true-T, cond-true, cond-false}
 use Rattle.timetable.specs.Timetable.{Timetable, rowOf}
 use Rattle.plans.specs.Sound.{Timely}
 use Rattle.query.specs.declared.Query.{Query}
-use Rattle.query.specs.Query.{queryOf}
+use Rattle.query.specs.Query.{plainQuery}
 use Rattle.plans.specs.Rides.{Ride, IsRide, landsBy, boards}
 use Rattle.plans.specs.Journeys.{Begins, Onward, leaves, changes, Journey, IsEarliest}
 use Rattle.plans.specs.Worth.{Valued, firstOpen}
@@ -187,9 +187,9 @@ journey-after t timely q end j =
     omega arith
 
 -- who can start later can start earlier: a later start never helps
-pub journey-earlier : (t : Timetable) (source target code margin : ℕ) {minute later end : ℕ} → minute ≤ later
-    → Journey t (queryOf source target later code margin) end → Journey t (queryOf source target minute code margin) end
-journey-earlier t source target code margin {minute} {later} before j =
+pub journey-earlier : (t : Timetable) (source target : ℕ) {minute later end : ℕ} → minute ≤ later
+    → Journey t (plainQuery source target later) end → Journey t (plainQuery source target minute) end
+journey-earlier t source target {minute} {later} before j =
     record {
       first = j .first;
       in-time = true-T (boards-earlier (j .first) source later minute before (T-true (j .in-time)));

@@ -7,7 +7,7 @@ use lib.ListN.{length}
 use Rattle.timetable.specs.Timetable.{Timetable}
 use Rattle.timetable.specs.declared.Row.{Row}
 use Rattle.query.specs.declared.Query.{Query}
-use Rattle.query.specs.Query.{queryOf, leastMargin}
+use Rattle.query.specs.Query.{plainQuery, withCode}
 use Rattle.plans.specs.Plan.{Plan, planned}
 use Rattle.plans.specs.Worth.{Valued}
 
@@ -31,7 +31,7 @@ told (some p) = length (p .rides) ∷ p .expected ∷ p .latest ∷ p .bound ∷
 
 -- with document 01's margin
 abbrev pub query : (source target minute code : ℕ) → Query
-query source target minute code = queryOf source target minute code leastMargin
+query source target minute code = withCode code (plainQuery source target minute)
 
 abbrev pub planTold : Timetable → Query → List ℕ
 planTold t q = told (planned t q)

@@ -5,7 +5,7 @@ use mathlib.Core.List.{List, [], _∷_}
 use Rattle.timetable.specs.Timetable.{Timetable}
 use Rattle.timetable.specs.Classes.{shareTotal}
 use Rattle.timetable.specs.declared.Row.{Row}
-use Rattle.query.specs.Query.{queryOf, leastMargin, mostMargin}
+use Rattle.query.specs.Query.{mostMargin, plainQuery, withCode, withMargin}
 use Rattle.plans.specs.Examples.{Case, planTold, row, onTime, timetable}
 
 -- a class so many ticks late in the mean: 16 of 4,096 landings a minute late are one tick
@@ -42,18 +42,18 @@ oneRide row worth latest bound = 1 ∷ worth ∷ latest ∷ bound ∷ row ∷ ro
 unfoldable pub marginCases : List Case
 marginCases =
     -- a row that gains exactly the margin is chosen; `<` for `≤` would leave it out
-    record { answered = planTold gainsTen (queryOf 0 2 0 0 10); expected = oneRide 0 25600 100 0 }
+    record { answered = planTold gainsTen (withMargin 10 (plainQuery 0 2 0)); expected = oneRide 0 25600 100 0 }
     -- one tick less is not; with margin 1 it is
-    ∷ record { answered = planTold gainsNine (queryOf 0 2 0 0 10); expected = oneRide 1 25609 101 0 }
-    ∷ record { answered = planTold gainsNine (queryOf 0 2 0 0 leastMargin); expected = oneRide 0 25600 100 0 }
+    ∷ record { answered = planTold gainsNine (withMargin 10 (plainQuery 0 2 0)); expected = oneRide 1 25609 101 0 }
+    ∷ record { answered = planTold gainsNine (plainQuery 0 2 0); expected = oneRide 0 25600 100 0 }
     -- in the same minute it replaces the other, alone on the sheet; one that gains less does not
-    ∷ record { answered = planTold (oneMinute 10) (queryOf 0 2 0 0 10); expected = oneRide 0 25600 100 0 }
-    ∷ record { answered = planTold (oneMinute 9) (queryOf 0 2 0 0 10); expected = oneRide 1 25609 101 0 }
+    ∷ record { answered = planTold (oneMinute 10) (withMargin 10 (plainQuery 0 2 0)); expected = oneRide 0 25600 100 0 }
+    ∷ record { answered = planTold (oneMinute 9) (withMargin 10 (plainQuery 0 2 0)); expected = oneRide 1 25609 101 0 }
     -- the stop's current first chosen row counts, not a later one
-    ∷ record { answered = planTold threeBoats (queryOf 0 2 0 0 10); expected = oneRide 1 25605 101 0 }
+    ∷ record { answered = planTold threeBoats (withMargin 10 (plainQuery 0 2 0)); expected = oneRide 1 25605 101 0 }
     -- a stop's first row is chosen, however much the margin
-    ∷ record { answered = planTold gainsTen (queryOf 0 2 20 0 mostMargin); expected = oneRide 1 25610 101 0 }
+    ∷ record { answered = planTold gainsTen (withMargin mostMargin (plainQuery 0 2 20)); expected = oneRide 1 25610 101 0 }
     -- the margin in E would bound by 105; bounded by 100 only the first boat is left
-    ∷ record { answered = planTold fiveMinutes (queryOf 0 2 0 4 mostMargin); expected = oneRide 0 25600 100 100 }
-    ∷ record { answered = planTold fiveMinutes (queryOf 0 2 0 0 mostMargin); expected = oneRide 1 26880 105 0 }
+    ∷ record { answered = planTold fiveMinutes (withMargin mostMargin (withCode 4 (plainQuery 0 2 0))); expected = oneRide 0 25600 100 100 }
+    ∷ record { answered = planTold fiveMinutes (withMargin mostMargin (plainQuery 0 2 0)); expected = oneRide 1 26880 105 0 }
     ∷ []

@@ -14,7 +14,7 @@ use Rattle.timetable.specs.Verdict.{Verdict, fine, fault}
 use Rattle.file_layout.specs.Format.{versionOne}
 use Rattle.file_layout.specs.Decode.{decode, trailerOf}
 use Rattle.query.specs.declared.Query.{Query}
-use Rattle.query.specs.Query.{arrivalQuery}
+use Rattle.query.specs.Query.{plainQuery}
 use Rattle.plans.specs.Sound.{Timely}
 use Rattle.plans.specs.Journeys.{Journey, IsEarliest}
 use Rattle.plans.specs.Plan.{earliest}
@@ -39,7 +39,7 @@ module _ (κs : Lfts 2) (arguments : Dens κs kinds.ps) (answer : resT kinds.r �
   t = decode versionOne file
 
   abbrev q : Query
-  q = arrivalQuery (arguments .1 .0) (arguments .1 .1 .0) (arguments .1 .1 .1 .0)
+  q = plainQuery (arguments .1 .0) (arguments .1 .1 .0) (arguments .1 .1 .1 .0)
 
   abbrev work : List ℕ
   work = now (arguments .1 .1 .1 .1 .0)

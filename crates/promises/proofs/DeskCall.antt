@@ -13,7 +13,7 @@ use Rattle.timetable.specs.Verdict.{Verdict, fine, fault, byVerdict}
 use Rattle.file_layout.specs.Format.{versionOne}
 use Rattle.file_layout.specs.Decode.{decode}
 use Rattle.query.specs.declared.Query.{Query}
-use Rattle.query.specs.Query.{queryOf, withMargin, leastMargin}
+use Rattle.query.specs.Query.{withCode, withMargin, leastMargin}
 use Rattle.plans.specs.Rides.{Ride}
 use Rattle.plans.specs.Journeys.{Journey}
 use Rattle.plans.specs.Worth.{Valued}
@@ -151,7 +151,7 @@ module _ (file : List ℕ) (q : Query) (out : List ℕ) (answer : ℕ) (out′ :
 
   -- so a bound never causes it: 10,008 exactly if there is none without a bound either
   pub eight-without-bound : verdict file q out ≡ fine
-      → (answer ≡ 10008) ↔ ((end : ℕ) → Journey (decode versionOne file) (queryOf (q .source) (q .target) (q .minute) 0 (q .margin)) end → ⊥)
+      → (answer ≡ 10008) ↔ ((end : ℕ) → Journey (decode versionOne file) (withCode 0 q) end → ⊥)
   eight-without-bound e =
       let exactly = eight-exactly e in (
         λ told end j. exactly .0 told end (record { first = j .first; in-time = j .in-time; onward = j .onward }),

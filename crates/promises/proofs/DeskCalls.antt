@@ -4,7 +4,7 @@ use contract.Lifetimes.{Lfts}
 use denote.Ref.{now}
 use denote.Triple.Clauses.{AtExit}
 use borrow.Fn.Kinds.{Dens, resT, endedOf}
-use Rattle.query.specs.Query.{queryOf, leastMargin}
+use Rattle.query.specs.Query.{leastMargin, plainQuery, withCode, withMargin}
 use Rattle.sayurimpak.proofs.sayurimpak_plan.Kinds as kinds
 use Rattle.sayurimpak.proofs.sayurimpak_plan.Reads as reads
 use Rattle.sayurimpak.proofs.sayurimpak_plan_margin.Kinds as margin-kinds
@@ -15,7 +15,7 @@ use Rattle.promises.specs.Returned.{AsDesk}
 pub plan-asks : (κs : Lfts 2) (arguments : Dens κs kinds.ps) (answer : resT kinds.r κs .Denot) (ending : AtExit (endedOf 2 kinds.ps kinds.r) κs)
     → reads.Post κs arguments answer ending
     → AsDesk (now (arguments .0))
-    (queryOf (arguments .1 .0) (arguments .1 .1 .0) (arguments .1 .1 .1 .0) (arguments .1 .1 .1 .1 .0) leastMargin)
+    (withCode (arguments .1 .1 .1 .1 .0) (plainQuery (arguments .1 .0) (arguments .1 .1 .0) (arguments .1 .1 .1 .0)))
     (now (arguments .1 .1 .1 .1 .1 .0)) answer (now (ending .1 .1 .1 .1 .1 .0))
 plan-asks κs arguments answer ending permitted = permitted
 
@@ -23,7 +23,7 @@ plan-asks κs arguments answer ending permitted = permitted
 pub margin-asks : (κs : Lfts 2) (arguments : Dens κs margin-kinds.ps) (answer : resT margin-kinds.r κs .Denot)
     (ending : AtExit (endedOf 2 margin-kinds.ps margin-kinds.r) κs) → margin-reads.Post κs arguments answer ending
     → AsDesk (now (arguments .0))
-    (queryOf (arguments .1 .0) (arguments .1 .1 .0) (arguments .1 .1 .1 .0) (arguments .1 .1 .1 .1 .0) (arguments .1 .1 .1 .1 .1 .0))
+    (withMargin (arguments .1 .1 .1 .1 .1 .0) (withCode (arguments .1 .1 .1 .1 .0) (plainQuery (arguments .1 .0) (arguments .1 .1 .0) (arguments .1 .1 .1 .0))))
     (now (arguments .1 .1 .1 .1 .1 .1 .0)) answer (now (ending .1 .1 .1 .1 .1 .1 .0))
 margin-asks κs arguments answer ending permitted = permitted
 

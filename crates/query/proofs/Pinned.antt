@@ -4,49 +4,49 @@ use mathlib.Core.Bool.{true, false}
 use mathlib.Core.List.{[], _∷_}
 use mathlib.Core.Path.{_≡_, refl}
 use Rattle.numbers.specs.Numbers.{u16At}
-use Rattle.query.specs.Query.{queryOf, journeyRule, codeRule, marginRule, queryRule, queryIn}
+use Rattle.query.specs.Query.{journeyRule, codeRule, marginRule, queryRule, queryIn, plainQuery, withCode, withMargin}
 
 -- a stop not below S, of three
-pub stops-line : (queryRule 3 600 (queryOf 2 0 0 0 1) ≡ true) × (queryRule 3 600 (queryOf 3 0 0 0 1) ≡ false)
-    × (queryRule 3 600 (queryOf 0 2 0 0 1) ≡ true) × (queryRule 3 600 (queryOf 0 3 0 0 1) ≡ false)
+pub stops-line : (queryRule 3 600 (plainQuery 2 0 0) ≡ true) × (queryRule 3 600 (plainQuery 3 0 0) ≡ false)
+    × (queryRule 3 600 (plainQuery 0 2 0) ≡ true) × (queryRule 3 600 (plainQuery 0 3 0) ≡ false)
 unfolding queryRule journeyRule codeRule marginRule
 stops-line = (refl, refl, refl, refl)
 
 -- source equals target
-pub apart-line : (queryRule 3 600 (queryOf 1 1 0 0 1) ≡ false) × (queryRule 3 600 (queryOf 1 2 0 0 1) ≡ true)
+pub apart-line : (queryRule 3 600 (plainQuery 1 1 0) ≡ false) × (queryRule 3 600 (plainQuery 1 2 0) ≡ true)
 unfolding queryRule journeyRule codeRule marginRule
 apart-line = (refl, refl)
 
 -- T above the last minute
-pub minute-line : (queryRule 3 600 (queryOf 0 2 600 0 1) ≡ true) × (queryRule 3 600 (queryOf 0 2 601 0 1) ≡ false)
+pub minute-line : (queryRule 3 600 (plainQuery 0 2 600) ≡ true) × (queryRule 3 600 (plainQuery 0 2 601) ≡ false)
 unfolding queryRule journeyRule codeRule marginRule
 minute-line = (refl, refl)
 
 -- q not 0 or 4 to 16
-pub code-line : (queryRule 3 600 (queryOf 0 2 0 0 1) ≡ true) × (queryRule 3 600 (queryOf 0 2 0 1 1) ≡ false)
-    × (queryRule 3 600 (queryOf 0 2 0 3 1) ≡ false) × (queryRule 3 600 (queryOf 0 2 0 4 1) ≡ true)
-    × (queryRule 3 600 (queryOf 0 2 0 16 1) ≡ true) × (queryRule 3 600 (queryOf 0 2 0 17 1) ≡ false)
+pub code-line : (queryRule 3 600 (plainQuery 0 2 0) ≡ true) × (queryRule 3 600 (withCode 1 (plainQuery 0 2 0)) ≡ false)
+    × (queryRule 3 600 (withCode 3 (plainQuery 0 2 0)) ≡ false) × (queryRule 3 600 (withCode 4 (plainQuery 0 2 0)) ≡ true)
+    × (queryRule 3 600 (withCode 16 (plainQuery 0 2 0)) ≡ true) × (queryRule 3 600 (withCode 17 (plainQuery 0 2 0)) ≡ false)
 unfolding queryRule journeyRule codeRule marginRule
 code-line = (refl, refl, refl, refl, refl, refl)
 
 -- a margin of 0 or above 2,560, as a host may pass it
-pub margin-line : (queryRule 3 600 (queryOf 0 2 0 0 0) ≡ false) × (queryRule 3 600 (queryOf 0 2 0 0 1) ≡ true)
-    × (queryRule 3 600 (queryOf 0 2 0 0 2560) ≡ true) × (queryRule 3 600 (queryOf 0 2 0 0 2561) ≡ false)
-    × (queryRule 3 600 (queryOf 0 2 0 0 65536) ≡ false)
+pub margin-line : (queryRule 3 600 (withMargin 0 (plainQuery 0 2 0)) ≡ false) × (queryRule 3 600 (plainQuery 0 2 0) ≡ true)
+    × (queryRule 3 600 (withMargin 2560 (plainQuery 0 2 0)) ≡ true) × (queryRule 3 600 (withMargin 2561 (plainQuery 0 2 0)) ≡ false)
+    × (queryRule 3 600 (withMargin 65536 (plainQuery 0 2 0)) ≡ false)
 unfolding queryRule journeyRule codeRule marginRule
 margin-line = (refl, refl, refl, refl, refl)
 
 -- source, target, T, q as u16, in 8 bytes; 7 and 9 bytes ask from a stop to itself
-pub bytes-line : (queryIn (0 ∷ 0 ∷ 2 ∷ 0 ∷ 78 ∷ 2 ∷ 5 ∷ 0 ∷ []) ≡ queryOf 0 2 590 5 1)
-    × (queryIn (1 ∷ 1 ∷ 2 ∷ 2 ∷ 3 ∷ 3 ∷ 4 ∷ 4 ∷ []) ≡ queryOf 257 514 771 1028 1)
-    × (queryIn (0 ∷ 0 ∷ 2 ∷ 0 ∷ 78 ∷ 2 ∷ 5 ∷ []) ≡ queryOf 0 0 0 0 1)
-    × (queryIn (0 ∷ 0 ∷ 2 ∷ 0 ∷ 78 ∷ 2 ∷ 5 ∷ 0 ∷ 0 ∷ []) ≡ queryOf 0 0 0 0 1)
+pub bytes-line : (queryIn (0 ∷ 0 ∷ 2 ∷ 0 ∷ 78 ∷ 2 ∷ 5 ∷ 0 ∷ []) ≡ withCode 5 (plainQuery 0 2 590))
+    × (queryIn (1 ∷ 1 ∷ 2 ∷ 2 ∷ 3 ∷ 3 ∷ 4 ∷ 4 ∷ []) ≡ withCode 1028 (plainQuery 257 514 771))
+    × (queryIn (0 ∷ 0 ∷ 2 ∷ 0 ∷ 78 ∷ 2 ∷ 5 ∷ []) ≡ plainQuery 0 0 0)
+    × (queryIn (0 ∷ 0 ∷ 2 ∷ 0 ∷ 78 ∷ 2 ∷ 5 ∷ 0 ∷ 0 ∷ []) ≡ plainQuery 0 0 0)
 unfolding queryIn u16At
 bytes-line = (refl, refl, refl, refl)
 
 -- in 10 bytes the last two are the margin; 11 ask from a stop to itself
-pub margin-bytes-line : (queryIn (0 ∷ 0 ∷ 2 ∷ 0 ∷ 78 ∷ 2 ∷ 5 ∷ 0 ∷ 1 ∷ 2 ∷ []) ≡ queryOf 0 2 590 5 513)
-    × (queryIn (0 ∷ 0 ∷ 2 ∷ 0 ∷ 78 ∷ 2 ∷ 5 ∷ 0 ∷ 0 ∷ 0 ∷ []) ≡ queryOf 0 2 590 5 0)
-    × (queryIn (0 ∷ 0 ∷ 2 ∷ 0 ∷ 78 ∷ 2 ∷ 5 ∷ 0 ∷ 1 ∷ 2 ∷ 0 ∷ []) ≡ queryOf 0 0 0 0 1)
+pub margin-bytes-line : (queryIn (0 ∷ 0 ∷ 2 ∷ 0 ∷ 78 ∷ 2 ∷ 5 ∷ 0 ∷ 1 ∷ 2 ∷ []) ≡ withMargin 513 (withCode 5 (plainQuery 0 2 590)))
+    × (queryIn (0 ∷ 0 ∷ 2 ∷ 0 ∷ 78 ∷ 2 ∷ 5 ∷ 0 ∷ 0 ∷ 0 ∷ []) ≡ withMargin 0 (withCode 5 (plainQuery 0 2 590)))
+    × (queryIn (0 ∷ 0 ∷ 2 ∷ 0 ∷ 78 ∷ 2 ∷ 5 ∷ 0 ∷ 1 ∷ 2 ∷ 0 ∷ []) ≡ plainQuery 0 0 0)
 unfolding queryIn u16At
 margin-bytes-line = (refl, refl, refl)

@@ -11,7 +11,7 @@ use borrow.Author.Tests.{ltb-true, leb-true, eqb-true, eqb-false, lt-ltb, le-ltb
 use Rattle.laws.proofs.Tests.{both-left, both-right, either, cond-true, cond-false}
 use Rattle.numbers.specs.Numbers.{u16At}
 use Rattle.query.specs.declared.Query.{Query}
-use Rattle.query.specs.Query.{queryOf, journeyRule, fewestQuarters, mostQuarters, codeRule, queryRule, leastMargin, mostMargin, marginRule, QueryFits, queryBytes, marginBytes, readWith, noQuery, queryIn}
+use Rattle.query.specs.Query.{journeyRule, fewestQuarters, mostQuarters, codeRule, queryRule, leastMargin, mostMargin, marginRule, QueryFits, queryBytes, marginBytes, fourNumbers, withMargin, noQuery, queryIn}
 
 -- a conjunction with a false part is false
 broken : (b : Bool) → (b && false) ≡ false
@@ -111,20 +111,20 @@ code-most {stops} {last} {q} fits = elim (fits .code) [ inl p ↦ (let z : q .co
 
 -- what 8 bytes, 10 bytes and any other bytes ask
 module _ (bytes : List ℕ) where
-  pub eight-bytes : length bytes ≡ queryBytes → readWith bytes leastMargin ≡ queryIn bytes
+  pub eight-bytes : length bytes ≡ queryBytes → fourNumbers bytes ≡ queryIn bytes
   unfolding queryIn
-  eight-bytes e = sym (cond-true (readWith bytes leastMargin) _ (eq-eqb _ _ e))
+  eight-bytes e = sym (cond-true (fourNumbers bytes) _ (eq-eqb _ _ e))
 
-  pub ten-bytes : length bytes ≡ marginBytes → readWith bytes (u16At bytes 8) ≡ queryIn bytes
+  pub ten-bytes : length bytes ≡ marginBytes → withMargin (u16At bytes 8) (fourNumbers bytes) ≡ queryIn bytes
   unfolding queryIn
   ten-bytes e =
-      sym (cond-false (readWith bytes leastMargin) _ (ne-eqb (length bytes) queryBytes (λ k. let z : ⊥ = omega arith in z))
-      ∙ cond-true (readWith bytes (u16At bytes 8)) noQuery (eq-eqb _ _ e))
+      sym (cond-false (fourNumbers bytes) _ (ne-eqb (length bytes) queryBytes (λ k. let z : ⊥ = omega arith in z))
+      ∙ cond-true (withMargin (u16At bytes 8) (fourNumbers bytes)) noQuery (eq-eqb _ _ e))
 
   pub other-length : length bytes ≢ queryBytes → length bytes ≢ marginBytes → noQuery ≡ queryIn bytes
   unfolding queryIn
   other-length eight ten =
-      sym (cond-false (readWith bytes leastMargin) _ (ne-eqb _ _ eight) ∙ cond-false (readWith bytes (u16At bytes 8)) noQuery (ne-eqb _ _ ten))
+      sym (cond-false (fourNumbers bytes) _ (ne-eqb _ _ eight) ∙ cond-false (withMargin (u16At bytes 8) (fourNumbers bytes)) noQuery (ne-eqb _ _ ten))
 
   -- `query` neither of 8 bytes nor of 10 is 6 in its usual place, for every file
   pub other-length-refused : length bytes ≢ queryBytes → length bytes ≢ marginBytes → (stops last : ℕ)

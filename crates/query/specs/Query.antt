@@ -9,14 +9,24 @@ use lib.ListN.{length}
 use Rattle.numbers.specs.Numbers.{u16At}
 use Rattle.query.specs.declared.Query.{Query}
 
--- source, target, minute T, bound code q and margin
-abbrev pub queryOf : (source target minute code margin : ℕ) → Query
-queryOf source target minute code margin =
-    record { source = source; target = target; minute = minute; code = code; margin = margin }
+-- E1: a margin of 1 to 2,560 ticks; margin 1 is document 01's rule
+abbrev pub leastMargin : ℕ
+leastMargin = 1
 
--- the same query with another margin
+abbrev pub mostMargin : ℕ
+mostMargin = 2560
+
+-- from a stop to another, at minute T or later, with no bound and the least margin; the earliest safe arrival is asked so
+abbrev pub plainQuery : (source target minute : ℕ) → Query
+plainQuery source target minute = record { source = source; target = target; minute = minute; code = 0; margin = leastMargin }
+
+-- the same with bound code q
+abbrev pub withCode : (code : ℕ) → Query → Query
+withCode code q = record { source = q .source; target = q .target; minute = q .minute; code = code; margin = q .margin }
+
+-- the same with another margin
 abbrev pub withMargin : (margin : ℕ) → Query → Query
-withMargin margin q = queryOf (q .source) (q .target) (q .minute) (q .code) margin
+withMargin margin q = record { source = q .source; target = q .target; minute = q .minute; code = q .code; margin = margin }
 
 -- both stops are below S and differ, and T is not past the last minute
 unfoldable pub journeyRule : (stops last : ℕ) → Query → Bool
@@ -33,23 +43,12 @@ mostQuarters = 16
 unfoldable pub codeRule : Query → Bool
 codeRule q = eqb (q .code) 0 || (leb fewestQuarters (q .code) && leb (q .code) mostQuarters)
 
--- E1: a margin of 1 to 2,560 ticks; margin 1 is document 01's rule
-abbrev pub leastMargin : ℕ
-leastMargin = 1
-
-abbrev pub mostMargin : ℕ
-mostMargin = 2560
-
 unfoldable pub marginRule : Query → Bool
 marginRule q = leb leastMargin (q .margin) && leb (q .margin) mostMargin
 
 -- all three, else 6; without a bound code q is 0 and without a margin it is 1, which keep their rules
 unfoldable pub queryRule : (stops last : ℕ) → Query → Bool
 queryRule stops last q = journeyRule stops last q && codeRule q && marginRule q
-
--- what the earliest safe arrival is asked with: no bound, and the least margin
-abbrev pub arrivalQuery : (source target minute : ℕ) → Query
-arrivalQuery source target minute = queryOf source target minute 0 leastMargin
 
 -- a query that keeps its rule
 pub record QueryFits (stops last : ℕ) (q : Query) : Type 0 where
@@ -67,16 +66,16 @@ queryBytes = 8
 abbrev pub marginBytes : ℕ
 marginBytes = 10
 
--- the four numbers that every query has, with a margin
-abbrev pub readWith : List ℕ → (margin : ℕ) → Query
-readWith bytes margin = queryOf (u16At bytes 0) (u16At bytes 2) (u16At bytes 4) (u16At bytes 6) margin
+-- the four numbers that every query has
+abbrev pub fourNumbers : List ℕ → Query
+fourNumbers bytes = withCode (u16At bytes 6) (plainQuery (u16At bytes 0) (u16At bytes 2) (u16At bytes 4))
 
 -- bytes of any other length ask from a stop to itself, which no file answers but by 6
 abbrev pub noQuery : Query
-noQuery = queryOf 0 0 0 0 leastMargin
+noQuery = plainQuery 0 0 0
 
 -- A query of 10 bytes ends with the margin, one of 8 means 1
 unfoldable pub queryIn : List ℕ → Query
 queryIn bytes =
-    cond (eqb (length bytes) queryBytes) (readWith bytes leastMargin)
-    (cond (eqb (length bytes) marginBytes) (readWith bytes (u16At bytes 8)) noQuery)
+    cond (eqb (length bytes) queryBytes) (fourNumbers bytes)
+    (cond (eqb (length bytes) marginBytes) (withMargin (u16At bytes 8) (fourNumbers bytes)) noQuery)

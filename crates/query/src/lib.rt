@@ -2,7 +2,7 @@
 ghost use mathlib.Core.Path.{_≡_};
 ghost use Prim.Native.Nat.{_≤_};
 ghost use lib.ListN.{length};
-ghost use Rattle.query.specs.Query.{codeRule, journeyRule, marginRule, queryBytes, queryIn, queryOf, queryRule, readWith};
+ghost use Rattle.query.specs.Query.{codeRule, fourNumbers, journeyRule, marginRule, plainQuery, queryBytes, queryIn, queryRule, withCode, withMargin};
 use numbers::number;
 use numbers::u16_at;
 
@@ -32,7 +32,7 @@ pub const MARGIN_BYTES: usize = 10;
 
 // The query that a host's five numbers ask.
 pub fn query_of(source: u32, target: u32, minute: u32, code: u32, margin: u32) -> Query
-    ensures { λ r. ⌜ r ≡ queryOf source target minute code margin ⌝ }
+    ensures { λ r. ⌜ r ≡ withMargin margin (withCode code (plainQuery source target minute)) ⌝ }
 {
     Query {
         source: number(source),
@@ -65,7 +65,7 @@ pub fn query_in(bytes: &[u8]) -> Query
 // The four numbers that every query has, with a margin.
 fn read_with(bytes: &[u8], margin: usize) -> Query
     requires { ⌜ queryBytes ≤ length (now bytes) ⌝ }
-    ensures { λ r. ⌜ r ≡ readWith (now (bytes .entry)) margin ⌝ }
+    ensures { λ r. ⌜ r ≡ withMargin margin (fourNumbers (now (bytes .entry))) ⌝ }
 {
     Query {
         source: u16_at(bytes, 0),

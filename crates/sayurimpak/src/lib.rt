@@ -3,7 +3,7 @@ ghost use mathlib.Core.Path.{_≡_};
 ghost use Prim.Native.Nat.{_/_, min};
 ghost use lib.ListN.{length};
 ghost use Rattle.file_layout.specs.Format.{versionOne};
-ghost use Rattle.query.specs.Query.{leastMargin, queryOf};
+ghost use Rattle.query.specs.Query.{plainQuery, withCode, withMargin};
 ghost use Rattle.sayurimpak.specs.Desk.{deskOutcome};
 ghost use Rattle.sayurimpak.specs.Given.{given, Fitting};
 use numbers::cell;
@@ -27,8 +27,8 @@ pub extern "C" fn sayurimpak_plan(
     code: u32,
     out: &mut [u8],
 ) -> u32
-    ensures { λ r. ⌜ (r ≡ deskOutcome versionOne (now (file .entry)) (queryOf source target minute code leastMargin) (now (out .entry)) .answer)
-        × (now (out .exit) ≡ deskOutcome versionOne (now (file .entry)) (queryOf source target minute code leastMargin) (now (out .entry)) .bytes) ⌝ }
+    ensures { λ r. ⌜ (r ≡ deskOutcome versionOne (now (file .entry)) (withCode code (plainQuery source target minute)) (now (out .entry)) .answer)
+        × (now (out .exit) ≡ deskOutcome versionOne (now (file .entry)) (withCode code (plainQuery source target minute)) (now (out .entry)) .bytes) ⌝ }
 {
     sayurimpak_plan_margin(file, source, target, minute, code, cell(LEAST_MARGIN), out)
 }
@@ -44,8 +44,8 @@ pub extern "C" fn sayurimpak_plan_margin(
     margin: u32,
     out: &mut [u8],
 ) -> u32
-    ensures { λ r. ⌜ (r ≡ deskOutcome versionOne (now (file .entry)) (queryOf source target minute code margin) (now (out .entry)) .answer)
-        × (now (out .exit) ≡ deskOutcome versionOne (now (file .entry)) (queryOf source target minute code margin) (now (out .entry)) .bytes) ⌝ }
+    ensures { λ r. ⌜ (r ≡ deskOutcome versionOne (now (file .entry)) (withMargin margin (withCode code (plainQuery source target minute))) (now (out .entry)) .answer)
+        × (now (out .exit) ≡ deskOutcome versionOne (now (file .entry)) (withMargin margin (withCode code (plainQuery source target minute))) (now (out .entry)) .bytes) ⌝ }
 {
     let q = query_of(source, target, minute, code, margin);
     let mut work = work_room();

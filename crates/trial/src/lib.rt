@@ -4,7 +4,7 @@ ghost use mathlib.Core.Path.{_≡_};
 ghost use Rattle.file_layout.specs.Check.{answerOf, checked};
 ghost use Rattle.house.specs.HouseShare.{houseShare, houseAnswer};
 ghost use Rattle.file_layout.specs.Format.{versionOne};
-ghost use Rattle.query.specs.Query.{arrivalQuery, leastMargin, queryOf};
+ghost use Rattle.query.specs.Query.{plainQuery, withCode, withMargin};
 ghost use Rattle.planner.specs.Outcome.{planOutcome, planAnswer, earliestOutcome, earliestAnswer};
 ghost use Rattle.trial.specs.Seen.{inSix, seen};
 use file_check::check;
@@ -55,10 +55,10 @@ pub extern "C" fn trial_plan(
     answer: &mut [u32],
 )
     ensures { λ r. ⌜ (now (answer .exit) ≡ seen
-        (planAnswer (planOutcome versionOne (now (file .entry)) (queryOf source target minute code leastMargin) (now (work .entry)) (now (rides .entry)) .answer))
+        (planAnswer (planOutcome versionOne (now (file .entry)) (withCode code (plainQuery source target minute)) (now (work .entry)) (now (rides .entry)) .answer))
         (now (answer .entry)))
-        × (now (work .exit) ≡ planOutcome versionOne (now (file .entry)) (queryOf source target minute code leastMargin) (now (work .entry)) (now (rides .entry)) .work)
-        × (now (rides .exit) ≡ planOutcome versionOne (now (file .entry)) (queryOf source target minute code leastMargin) (now (work .entry)) (now (rides .entry)) .plan) ⌝ }
+        × (now (work .exit) ≡ planOutcome versionOne (now (file .entry)) (withCode code (plainQuery source target minute)) (now (work .entry)) (now (rides .entry)) .work)
+        × (now (rides .exit) ≡ planOutcome versionOne (now (file .entry)) (withCode code (plainQuery source target minute)) (now (work .entry)) (now (rides .entry)) .plan) ⌝ }
 {
     trial_plan_margin(
         file,
@@ -87,10 +87,10 @@ pub extern "C" fn trial_plan_margin(
     answer: &mut [u32],
 )
     ensures { λ r. ⌜ (now (answer .exit) ≡ seen
-        (planAnswer (planOutcome versionOne (now (file .entry)) (queryOf source target minute code margin) (now (work .entry)) (now (rides .entry)) .answer))
+        (planAnswer (planOutcome versionOne (now (file .entry)) (withMargin margin (withCode code (plainQuery source target minute))) (now (work .entry)) (now (rides .entry)) .answer))
         (now (answer .entry)))
-        × (now (work .exit) ≡ planOutcome versionOne (now (file .entry)) (queryOf source target minute code margin) (now (work .entry)) (now (rides .entry)) .work)
-        × (now (rides .exit) ≡ planOutcome versionOne (now (file .entry)) (queryOf source target minute code margin) (now (work .entry)) (now (rides .entry)) .plan) ⌝ }
+        × (now (work .exit) ≡ planOutcome versionOne (now (file .entry)) (withMargin margin (withCode code (plainQuery source target minute))) (now (work .entry)) (now (rides .entry)) .work)
+        × (now (rides .exit) ≡ planOutcome versionOne (now (file .entry)) (withMargin margin (withCode code (plainQuery source target minute))) (now (work .entry)) (now (rides .entry)) .plan) ⌝ }
 {
     let q = query_of(source, target, minute, code, margin);
     let planned = plan(file, q, work, rides);
@@ -108,9 +108,9 @@ pub extern "C" fn trial_earliest(
     answer: &mut [u32],
 )
     ensures { λ r. ⌜ (now (answer .exit) ≡ seen
-        (earliestAnswer (earliestOutcome versionOne (now (file .entry)) (arrivalQuery source target minute) (now (work .entry)) .answer))
+        (earliestAnswer (earliestOutcome versionOne (now (file .entry)) (plainQuery source target minute) (now (work .entry)) .answer))
         (now (answer .entry)))
-        × (now (work .exit) ≡ earliestOutcome versionOne (now (file .entry)) (arrivalQuery source target minute) (now (work .entry)) .work) ⌝ }
+        × (now (work .exit) ≡ earliestOutcome versionOne (now (file .entry)) (plainQuery source target minute) (now (work .entry)) .work) ⌝ }
 {
     let q = query_of(source, target, minute, 0, cell(LEAST_MARGIN));
     let found = earliest_safe_arrival(file, q.source, q.target, q.minute, work);

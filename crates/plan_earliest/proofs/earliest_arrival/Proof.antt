@@ -15,11 +15,14 @@ fill-requires c κs = search needs
 fill-requires-2 : tie.Need-fill-requires-2
 fill-requires-2 c κs = search needs
 
+add-here : tie.Need-add-here
+add-here c = search needs
+
+add-there : tie.Need-add-there
+add-there c = search needs
+
 cell-requires : tie.Need-cell-requires
 cell-requires c κs = search needs
-
-add-work : tie.Need-add-work
-add-work c = search needs
 
 mul-work : tie.Need-mul-work
 mul-work c = search needs
@@ -29,29 +32,26 @@ slice-write-work c = search needs
 
 -- the places on the way: the entry, and where the sweep starts
 abbrev entry : tie.After-sail-until-arg → tie.Start
-entry c = c .before .before .before .before .before .before .before .before .before .before .before .before .before
+entry c = c .before .before .before .before .before .before .before .before .before .before .before .before .before .before .before
 
 abbrev sweep : tie.After-slice-known5 → tie.After-sail-until-arg
 sweep c = c .before .before .before .before
 
-blank : (c : tie.After-sail-until-arg) → Blank (entry c .args .work .now) (c .before .before .before .before .fill2 .last .0)
+blank : (c : tie.After-sail-until-arg) → Blank (entry c .args .work .now) (c .before .before .before .before .before .before .fill2 .last .0)
 blank c =
-    let stops-filled = c .before .before .before .before in
+    let stops-filled = c .before .before .before .before .before .before in
     blanked (entry c .pre .7) (stops-filled .before .before .before .before .fill .ensures) (stops-filled .fill2 .ensures)
 
 sail-until-requires : tie.Need-sail-until-requires
 sail-until-requires c κs =
     let a = entry c in
-    let start = start-behind (blank c) (a .args .source) (a .pre .2) (c .before .cell .ensures) in (
+    let start = start-behind (blank c) (a .args .q .source) (a .pre .2) (c .before .cell .ensures) in (
       a .pre .0,
       a .pre .1,
       a .pre .3,
       omega (arith, a .pre .6 .inside, a .pre .0 .rows-count),
       omega (arith, a .pre .7, start .same-length),
     )
-
-add-result : tie.Need-add-result
-add-result c = search needs
 
 mul-result : tie.Need-mul-result
 mul-result c = search needs
@@ -61,7 +61,7 @@ behind :
     (c : tie.After-slice-known5) → SameOutside tripCells pairCells (entry (sweep c) .args .work .now) (c .before .before .before .sail-until .last .1 .1 .1 .1 .1 .0)
 behind c =
     let a = entry (sweep c) in
-    outside-then (start-behind (blank (sweep c)) (a .args .source) (a .pre .2) (sweep c .before .cell .ensures))
+    outside-then (start-behind (blank (sweep c)) (a .args .q .source) (a .pre .2) (sweep c .before .cell .ensures))
     (c .before .before .before .sail-until .ensures .0)
 
 slice-read-result : tie.Need-slice-read-result
@@ -75,10 +75,9 @@ same-length c = behind c .same-length
 returns : tie.Need-returns
 returns c =
     let a = entry (sweep c) in
-    let out = set-out (blank (sweep c)) (a .args .source) (a .pre .2) (sweep c .before .cell .ensures) in
-    let found = c .before .before .before .sail-until .ensures .1 (a .args .source) (a .args .minute) in (
-      answer-earliest (a .args .file .now) (a .args .s) (a .pre .0) (a .args .source) (a .args .target) (a .args .minute) (a .args .first)
-          (a .pre .4) (a .pre .5) (a .pre .6) out found,
+    let out = set-out (blank (sweep c)) (a .args .q .source) (a .pre .2) (sweep c .before .cell .ensures) in
+    let found = c .before .before .before .sail-until .ensures .1 (a .args .q .source) (a .args .q .minute) in (
+      answer-earliest (a .args .file .now) (a .args .s) (a .pre .0) (a .args .q) (a .args .first) (a .pre .4) (a .pre .5) (a .pre .6) out found,
       behind c,
     )
 
@@ -88,12 +87,12 @@ earliest-arrival-spec =
     (tie.spec
     fill-requires
     fill-requires-2
+    add-here
+    add-there
     cell-requires
-    add-work
     mul-work
     slice-write-work
     sail-until-requires
-    add-result
     mul-result
     slice-read-result
     same-length

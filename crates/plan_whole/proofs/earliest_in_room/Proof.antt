@@ -56,7 +56,7 @@ returns c =
     let a = begun at in
     let s = at .before .before .before .before .places-in in
     let r = c .before .before .earliest-arrival .ensures in (
-      r .0 (a .args .q .code) (a .args .q .margin) ∙ ap cellOf (sym
+      r .0 ∙ ap cellOf (sym
           (earliest-there (a .args .f) (a .args .file .now) (a .args .trailer) (a .args .q) (a .pre .0) (s .result) (s .ensures))),
       r .1,
     )

@@ -43,7 +43,7 @@ told : (c : tie.After-earliest-arrival)
     → c .earliest-arrival .result
     ≡ cellOf (earliest (timetableIn (begun (laid-out c) .args .file .now) (laid-out c .before .before .before .before .places-in .result))
     (begun (laid-out c) .args .q))
-told c = c .earliest-arrival .ensures .0 (begun (laid-out c) .args .q .code) (begun (laid-out c) .args .q .margin)
+told c = c .earliest-arrival .ensures .0
 
 -- E does not lie before T, and is a minute of 16 bits
 arrival-fits : (c : tie.After-rows-before) (e : ℕ)
@@ -65,10 +65,10 @@ arrived c real =
 -- cells behind those that finding E uses are as they were
 kept : (c : tie.After-earliest-arrival)
     → KeptBehind (used (begun (laid-out c) .args .trailer .rows)) (begun (laid-out c) .args .work .now)
-    (c .earliest-arrival .last .1 .1 .1 .1 .1 .1 .1 .0)
+    (c .earliest-arrival .last .1 .1 .1 .1 .1 .0)
 kept c =
     kept-later 2400 (used (begun (laid-out c) .args .trailer .rows)) (begun (laid-out c) .args .work .now)
-    (c .earliest-arrival .last .1 .1 .1 .1 .1 .1 .1 .0) (omega arith)
+    (c .earliest-arrival .last .1 .1 .1 .1 .1 .0) (omega arith)
     (c .earliest-arrival .ensures .1)
 
 places-in-requires : tie.Need-places-in-requires
@@ -140,7 +140,7 @@ plan-within-requires c κs =
       laid (laid-out at),
       subst (Reaches (a .args .q .minute)) (sym (bounded .bound-of .ensures .0)) (bound-reaches (a .args .q) (bounded .before .number .result)),
       bounded .bound-of .ensures .1,
-      (let z : used (s .result .rows) ≤ length (at .earliest-arrival .last .1 .1 .1 .1 .1 .1 .1 .0) = omega
+      (let z : used (s .result .rows) ≤ length (at .earliest-arrival .last .1 .1 .1 .1 .1 .0) = omega
           (arith, a .pre .1, rows, at .earliest-arrival .ensures .1) in z),
       omega (arith, a .pre .2, rows),
     )
@@ -168,9 +168,9 @@ returns-2 c =
     (at .earliest-arrival .result) found)
     in (
       subst (λ (o : Option Plan). Answers o (p .result) (a .args .plan .now) (p .last .1 .1 .1 .1 .1 .1 .1 .0)) same (p .ensures .0),
-      kept-both (used (a .args .trailer .rows)) (a .args .work .now) (at .earliest-arrival .last .1 .1 .1 .1 .1 .1 .1 .0)
+      kept-both (used (a .args .trailer .rows)) (a .args .work .now) (at .earliest-arrival .last .1 .1 .1 .1 .1 .0)
           (p .last .1 .1 .1 .1 .1 .1 .0) (kept at)
-          (subst (λ n. KeptBehind (used n) (at .earliest-arrival .last .1 .1 .1 .1 .1 .1 .1 .0) (p .last .1 .1 .1 .1 .1 .1 .0)) rows (p .ensures .1)),
+          (subst (λ n. KeptBehind (used n) (at .earliest-arrival .last .1 .1 .1 .1 .1 .0) (p .last .1 .1 .1 .1 .1 .1 .0)) rows (p .ensures .1)),
     )
 
 pub plan-in-room-spec : {M : Type 1} → statement M

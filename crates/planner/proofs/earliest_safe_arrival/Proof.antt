@@ -3,7 +3,7 @@ use mathlib.Core.Path.{_≡_, sym, ap, subst, _∙_}
 use lib.ListN.{length}
 use Rattle.file_layout.specs.Format.{versionOne}
 use Rattle.file_layout.proofs.Sound.{version-one-readable}
-use Rattle.query.specs.Query.{arrivalQuery}
+use Rattle.query.specs.Query.{plainQuery}
 use Rattle.plan_rows.proofs.Standing.{version-one-plannable}
 use Rattle.planner.specs.Admission.{SmallRoom, workRoom, noRoom, admitted}
 use Rattle.planner.proofs.Admitting.{admission-tells, admitted-tells, work-small, none-small}
@@ -15,11 +15,11 @@ use Rattle.planner.proofs.earliest_safe_arrival.Tie as tie
 -- the admission at work's length
 told : (c : tie.After-admit) →
     let a = c .before .before .before .before .args in
-    c .admit .result ≡ admitted versionOne (a .file .now) (arrivalQuery (a .source) (a .target) (a .minute)) (workRoom (length (a .work .now))) noRoom
+    c .admit .result ≡ admitted versionOne (a .file .now) (plainQuery (a .source) (a .target) (a .minute)) (workRoom (length (a .work .now))) noRoom
 told c =
     let a = c .before .before .before .before .args in
     c .admit .ensures
-    ∙ ap (λ r. admitted versionOne (a .file .now) (arrivalQuery (a .source) (a .target) (a .minute)) r noRoom) (c .before .work-needs .ensures)
+    ∙ ap (λ r. admitted versionOne (a .file .now) (plainQuery (a .source) (a .target) (a .minute)) r noRoom) (c .before .work-needs .ensures)
 
 work-needs-requires : tie.Need-work-needs-requires
 work-needs-requires c κs = search needs
@@ -37,7 +37,7 @@ earliest-admitted-requires : tie.Need-earliest-admitted-requires
 earliest-admitted-requires c κs =
     let at = c .before .before .before .before in
     let a = at .before .before .before .before .args in
-    admitted-tells versionOne (a .file .now) (arrivalQuery (a .source) (a .target) (a .minute)) (workRoom (length (a .work .now))) noRoom
+    admitted-tells versionOne (a .file .now) (plainQuery (a .source) (a .target) (a .minute)) (workRoom (length (a .work .now))) noRoom
     _ version-one-plannable (sym (told at) ∙ c .before .before .admission2 .given .1)
 
 returns : tie.Need-returns
@@ -45,7 +45,7 @@ returns c =
     let at = c .before .before .before in
     let a = at .before .before .before .before .args in
     let k = c .before .admission .given in
-    let q = arrivalQuery (a .source) (a .target) (a .minute) in
+    let q = plainQuery (a .source) (a .target) (a .minute) in
     refused-as-earliest versionOne (a .file .now) q (a .work .now) (k .0 .0) (k .0 .1 .0)
     (admission-tells versionOne (a .file .now) q (workRoom (length (a .work .now))) noRoom (k .0 .0) (k .0 .1 .0) (sym (told at) ∙ k .1))
 

@@ -1,6 +1,6 @@
 -- `query::query_in` meets its contract: 8 bytes, 10 bytes, or any other length. Assumes nothing.
 use mathlib.Core.Path.{ap, _∙_}
-use Rattle.query.specs.Query.{readWith}
+use Rattle.query.specs.Query.{fourNumbers, withMargin}
 use Rattle.query.proofs.Rules.{eight-bytes, ten-bytes, other-length}
 use borrow.Author.Needs.{needs}
 use Rattle.query.proofs.query_in.Statement.{statement}
@@ -19,7 +19,10 @@ read-with-requires-2 : tie.Need-read-with-requires-2
 read-with-requires-2 c κs = search needs
 
 returns-2 : tie.Need-returns-2
-returns-2 c = c .read-with2 .ensures ∙ ap (readWith _) (c .before .u16-at .ensures .0) ∙ ten-bytes _ (c .before .before .if2 .taken)
+returns-2 c =
+    let bytes = c .before .before .before .before .before .args .bytes .now in
+    c .read-with2 .ensures ∙ ap (λ margin. withMargin margin (fourNumbers bytes)) (c .before .u16-at .ensures .0)
+    ∙ ten-bytes bytes (c .before .before .if2 .taken)
 
 returns-3 : tie.Need-returns-3
 returns-3 c = other-length _ (c .before .if1 .left) (c .if2 .left)

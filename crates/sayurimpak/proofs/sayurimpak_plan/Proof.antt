@@ -3,7 +3,7 @@ use Prim.Native.Nat.{ℕ}
 use mathlib.Core.Path.{ap, _∙_}
 use borrow.Author.Needs.{needs}
 use Rattle.file_layout.specs.Format.{versionOne}
-use Rattle.query.specs.Query.{queryOf}
+use Rattle.query.specs.Query.{plainQuery, withCode, withMargin}
 use Rattle.sayurimpak.specs.Desk.{DeskOutcome, deskOutcome}
 use Rattle.sayurimpak.proofs.sayurimpak_plan.Statement.{statement}
 use Rattle.sayurimpak.proofs.sayurimpak_plan.Tie as tie
@@ -22,7 +22,7 @@ returns c =
     let at = c .before .before in
     let least = at .before .before in
     let a = least .before .before .before .args in
-    let o : ℕ → DeskOutcome = λ margin. deskOutcome versionOne (a .file .now) (queryOf (a .source) (a .target) (a .minute) (a .code) margin)
+    let o : ℕ → DeskOutcome = λ margin. deskOutcome versionOne (a .file .now) (withMargin margin (withCode (a .code) (plainQuery (a .source) (a .target) (a .minute))))
     (a .out .now) in
     let asked = least .cell .ensures in
     let desk = at .sayurimpak-plan-margin .ensures in

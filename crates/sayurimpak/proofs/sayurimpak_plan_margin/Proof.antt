@@ -9,7 +9,7 @@ use lib.Seq.{length-take-le, length-front}
 use Rattle.file_layout.specs.Format.{versionOne}
 use Rattle.file_layout.proofs.Sound.{version-one-readable}
 use Rattle.query.specs.declared.Query.{Query}
-use Rattle.query.specs.Query.{queryOf}
+use Rattle.query.specs.Query.{plainQuery, withCode, withMargin}
 use Rattle.planner.specs.Outcome.{PlanOutcome, planOutcome}
 use Rattle.sayurimpak.specs.Desk.{deskOutcome}
 use Rattle.sayurimpak.specs.Given.{given, Fitting}
@@ -51,7 +51,7 @@ lent-length c =
 as-desk : (c : tie.After-give-arg) →
     let a = begun c .args in
     given (answered c .plan .result) (left c ++ behind c) (a .out .now)
-    ≡ deskOutcome versionOne (a .file .now) (queryOf (a .source) (a .target) (a .minute) (a .code) (a .margin)) (a .out .now)
+    ≡ deskOutcome versionOne (a .file .now) (withMargin (a .margin) (withCode (a .code) (plainQuery (a .source) (a .target) (a .minute)))) (a .out .now)
 as-desk c =
     let a = begun c .args in
     let work = lending c .before .before .work-room in

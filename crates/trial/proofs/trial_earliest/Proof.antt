@@ -3,7 +3,7 @@ use mathlib.Core.Path.{ap, _∙_}
 use borrow.Author.Needs.{needs}
 use Rattle.file_layout.specs.Format.{versionOne}
 use Rattle.query.specs.declared.Query.{Query}
-use Rattle.query.specs.Query.{arrivalQuery}
+use Rattle.query.specs.Query.{plainQuery}
 use Rattle.planner.specs.Outcome.{EarliestOutcome, earliestOutcome, earliestAnswer}
 use Rattle.trial.specs.Seen.{seen}
 use Rattle.trial.proofs.trial_earliest.Statement.{statement}
@@ -32,7 +32,7 @@ returns c =
     let at = c .before .before .before .before .before .before in
     let a = at .before .before .before .before .before .before .before .args in
     let found = at .earliest-safe-arrival in
-    let o : Query → EarliestOutcome = λ q. earliestOutcome versionOne (a .file .now) (arrivalQuery (q .source) (q .target) (q .minute)) (a .work .now) in
+    let o : Query → EarliestOutcome = λ q. earliestOutcome versionOne (a .file .now) (plainQuery (q .source) (q .target) (q .minute)) (a .work .now) in
     let asked = at .before .before .query-of .ensures in (
       c .before .before .put-earliest .ensures
           ∙ ap (λ e. seen (earliestAnswer e) (a .answer .now)) (found .ensures .0 ∙ ap (λ q. o q .answer) asked),

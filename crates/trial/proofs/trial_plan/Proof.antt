@@ -3,7 +3,7 @@ use Prim.Native.Nat.{ℕ}
 use mathlib.Core.Path.{ap, _∙_}
 use borrow.Author.Needs.{needs}
 use Rattle.file_layout.specs.Format.{versionOne}
-use Rattle.query.specs.Query.{queryOf}
+use Rattle.query.specs.Query.{plainQuery, withCode, withMargin}
 use Rattle.planner.specs.Outcome.{PlanOutcome, planOutcome, planAnswer}
 use Rattle.trial.specs.Seen.{seen}
 use Rattle.trial.proofs.trial_plan.Statement.{statement}
@@ -29,7 +29,7 @@ returns c =
     let at = c .before .before .before .before .before .before in
     let least = at .before .before .before .before in
     let a = least .before .before .before .before .before .args in
-    let o : ℕ → PlanOutcome = λ margin. planOutcome versionOne (a .file .now) (queryOf (a .source) (a .target) (a .minute) (a .code) margin)
+    let o : ℕ → PlanOutcome = λ margin. planOutcome versionOne (a .file .now) (withMargin margin (withCode (a .code) (plainQuery (a .source) (a .target) (a .minute))))
     (a .work .now) (a .rides .now) in
     let asked = least .cell .ensures in
     let seen-with = at .trial-plan-margin .ensures in (
