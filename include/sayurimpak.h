@@ -111,7 +111,7 @@ enum sayurimpak_refusal {
 /* Room that no file exceeds: 12 bytes a row, at most 2,000 rows. */
 #define SAYURIMPAK_MOST_BYTES 24000u
 
-/* Stack that a call needs, with room to spare: some 82,500 bytes were measured. */
+/* Stack that a call needs, with room to spare: some 83,500 bytes were measured. */
 #define SAYURIMPAK_STACK_BYTES 131072u
 
 /* Bytes of a ride in `out`, and where its three numbers start. */

@@ -17,9 +17,10 @@ use Rattle.plan_scan.specs.Stores.{rowWorth}
 use Rattle.plan_stacks.specs.Regions.{below}
 use Rattle.plan_scan.specs.Regions.{countAt}
 use Rattle.plan_scan.specs.Scanned.{scanIn, ScanHeld}
-use Rattle.plan_scan.specs.Held.{PairsHeld, StackHeld, Held}
+use Rattle.plan_scan.specs.Held.{PairsHeld, StackHeld, LimitsHeld, Held}
 use Rattle.plan_stacks.proofs.Regions.{below-later}
 use Rattle.plan_scan.proofs.Regions.{below-count}
+use Rattle.plan_scan.proofs.Limits.{noLimits, no-limits}
 use Rattle.plan_scan.proofs.TimetableTo.{climbing}
 
 abbrev nothing : Scan
@@ -30,11 +31,11 @@ module _ (file : List ℕ) (s : SectionPlaces) (goal : Goal) (first end : ℕ) (
   unfolding scan
   scan-none = ap (scan (inTicks goal) (tablesIn file s) end) (slice-empty end (rowsIn file s))
 
-  -- no row has been weighed: no trip has a next row, the stacks are empty
+  -- no row has been weighed: no trip has a next row, the stacks are empty, any worth lies below the limits
   pub held-begins :
       (w : List ℕ) → ((trip : ℕ) → trip < mostTrips → getD w (tripCells + trip) 0 ≡ s .rows) → rowWorth w (s .rows) ≡ missing
       → ((stop : ℕ) → stop < mostStops → startPair w stop ≡ suc (s .rows) + below (λ k. countAt k (slice first end (rowsIn file s))) stop)
-      → ((stop : ℕ) → stop < mostStops → stackSize w stop ≡ 0) → Held file s goal first end end w
+      → ((stop : ℕ) → stop < mostStops → stackSize w stop ≡ 0) → Held file s goal first end end w noLimits
   unfolding nextOf atStop stackAt
   held-begins w no-next last starts empty =
       record {
@@ -55,10 +56,11 @@ module _ (file : List ℕ) (s : SectionPlaces) (goal : Goal) (first end : ℕ) (
               room = (let e = empty stop h in omega arith);
               holds = ap (stackAt w (stackStart w stop)) (empty stop h);
             });
+        limits-held = subst (λ (sc : Scan). LimitsHeld noLimits (goal .margin) (sc .chosen)) (sym scan-none) (no-limits (goal .margin));
       }
 
-  pub held-ends : (w : List ℕ) → first ≤ end → Held file s goal first end first w → ScanHeld w (s .rows) first end (scanIn file s goal first end)
-  held-ends w low held =
+  pub held-ends : (w limits : List ℕ) → first ≤ end → Held file s goal first end first w limits → ScanHeld w (s .rows) first end (scanIn file s goal first end)
+  held-ends w limits low held =
       record {
         pair-holds = held .pairs-held .weighed;
         stack-holds = λ stop h. held .stacks-held stop h .holds;

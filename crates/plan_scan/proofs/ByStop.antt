@@ -1,5 +1,5 @@
 -- The chosen rides of one stop: what choosing one more row does to them. Assumes nothing.
-use Prim.Native.Nat.{ℕ, _+_, _≤_, _<_}
+use Prim.Native.Nat.{ℕ, _≤_, _<_}
 use mathlib.Core.Bool.{true, false, cond, not, _&&_}
 use mathlib.Core.List.{List, [], _∷_, List·Memᴰ, List·Memᴰ·head, List·Memᴰ·tail, List·Memᴰ·not-nil}
 use mathlib.Core.Logic.{_≢_}
@@ -7,7 +7,7 @@ use mathlib.Core.Option.{Option, none, some}
 use mathlib.Core.Path.{_≡_, refl, sym, ap, subst, _∙_}
 use native.Mathlib.Omega.{arith}
 use lib.Dec.{eqb}
-use borrow.Author.Tests.{eqb-true, eqb-false, eq-eqb, ne-eqb, le-leb, lt-leb}
+use borrow.Author.Tests.{eqb-true, eqb-false, eq-eqb, ne-eqb}
 use Rattle.laws.proofs.Members.{head-or-later}
 use Rattle.laws.proofs.Tests.{ifb, both-left, both-right, cond-true, cond-false}
 use Rattle.plans.specs.Rides.{Ride}
@@ -75,11 +75,11 @@ others-absent r (v ∷ vs) apart =
     (eqb-true (v .ride .departs) (r .departs) (both-right (eqb (v .ride .from) (r .from)) (eqb (v .ride .departs) (r .departs)) e))))
     (λ e _. others-stay r v vs e ∙ ap (λ (l : List Valued). v ∷ l) (others-absent r vs (λ x m. apart x (List·Memᴰ·tail m)))) refl
 
-abbrev headOf : List Valued → Option Valued
+abbrev pub headOf : List Valued → Option Valued
 headOf [] = none
 headOf (v ∷ vs) = some v
 
-first-at : (vs : List Valued) (s : ℕ) → firstAt vs s ≡ headOf (atStop s vs)
+pub first-at : (vs : List Valued) (s : ℕ) → firstAt vs s ≡ headOf (atStop s vs)
 unfolding firstAt atStop
 first-at [] s = refl
 first-at (v ∷ vs) s =
@@ -103,6 +103,12 @@ pub choose-elsewhere :
     → atStop s (choose aim best chosen) ≡ atStop s chosen
 choose-elsewhere aim best chosen s away = elsewhere-by aim s (choice aim best chosen) away
 
+pub first-elsewhere :
+    (aim : Aim) (best : Option Valued) (chosen : List Valued) (s : ℕ) → ((v : Valued) → best ≡ some v → v .ride .from ≢ s)
+    → firstAt (choose aim best chosen) s ≡ firstAt chosen s
+first-elsewhere aim best chosen s away =
+    first-at (choose aim best chosen) s ∙ ap headOf (choose-elsewhere aim best chosen s away) ∙ sym (first-at chosen s)
+
 target-by :
     (aim : Aim) {chosen new : List Valued} {best : Option Valued} → Choice aim chosen best new → ((v : Valued) → best ≡ some v → v .ride .from ≡ aim .target)
     → new ≡ chosen
@@ -119,46 +125,41 @@ pub choose-none : (aim : Aim) (chosen : List Valued) → choose aim none chosen 
 unfolding choose
 choose-none aim chosen = refl
 
+first-here : (v : Valued) (vs : List Valued) → firstAt (v ∷ vs) (v .ride .from) ≡ some v
+unfolding firstAt
+first-here v vs = cond-true (some v) (firstAt vs (v .ride .from)) (eq-eqb (v .ride .from) (v .ride .from) refl)
+
 module _ (aim : Aim) (chosen : List Valued) (v : Valued) (away : v .ride .from ≢ aim .target) where
-  leading : leads (aim .margin) (v .worth) (headOf (atStop (v .ride .from) chosen)) ≡ true → choose aim (some v) chosen ≡ v ∷ others (v .ride) chosen
+  by-lead :
+      choose aim (some v) chosen
+      ≡ cond (leads (aim .margin) (v .worth) (firstAt chosen (v .ride .from))) (v ∷ others (v .ride) chosen) chosen
   unfolding choose
-  leading e =
-      cond-true (v ∷ others (v .ride) chosen) chosen
-      (ap (λ b. not b && leads (aim .margin) (v .worth) (firstAt chosen (v .ride .from))) (ne-eqb (v .ride .from) (aim .target) away)
-      ∙ ap (leads (aim .margin) (v .worth)) (first-at chosen (v .ride .from)) ∙ e)
+  by-lead =
+      ap (λ b. cond (not b && leads (aim .margin) (v .worth) (firstAt chosen (v .ride .from))) (v ∷ others (v .ride) chosen) chosen)
+      (ne-eqb (v .ride .from) (aim .target) away)
 
-  led : leads (aim .margin) (v .worth) (headOf (atStop (v .ride .from) chosen)) ≡ false → choose aim (some v) chosen ≡ chosen
-  unfolding choose
-  led e =
-      cond-false (v ∷ others (v .ride) chosen) chosen
-      (ap (λ b. not b && leads (aim .margin) (v .worth) (firstAt chosen (v .ride .from))) (ne-eqb (v .ride .from) (aim .target) away)
-      ∙ ap (leads (aim .margin) (v .worth)) (first-at chosen (v .ride .from)) ∙ e)
+  pub not-led : leads (aim .margin) (v .worth) (firstAt chosen (v .ride .from)) ≡ false → choose aim (some v) chosen ≡ chosen
+  not-led e = by-lead ∙ cond-false (v ∷ others (v .ride) chosen) chosen e
 
-  joined :
-      (l : List Valued) → atStop (v .ride .from) chosen ≡ l → leads (aim .margin) (v .worth) (headOf l) ≡ true
-      → atStop (v .ride .from) (choose aim (some v) chosen) ≡ v ∷ others (v .ride) l
-  joined l e lead =
-      ap (atStop (v .ride .from)) (leading (subst (λ (k : List Valued). leads (aim .margin) (v .worth) (headOf k) ≡ true) (sym e) lead))
-      ∙ at-stop-here (v .ride .from) v (others (v .ride) chosen) refl
-      ∙ ap (λ (k : List Valued). v ∷ k) (at-others (v .ride) chosen (v .ride .from) ∙ ap (others (v .ride)) e)
+  module _ (lead : leads (aim .margin) (v .worth) (firstAt chosen (v .ride .from)) ≡ true) where
+    led : choose aim (some v) chosen ≡ v ∷ others (v .ride) chosen
+    led = by-lead ∙ cond-true (v ∷ others (v .ride) chosen) chosen lead
 
-  -- the stop has no chosen ride yet
-  pub own-alone : atStop (v .ride .from) chosen ≡ [] → atStop (v .ride .from) (choose aim (some v) chosen) ≡ v ∷ []
-  unfolding leads
-  own-alone e = joined [] e refl ∙ ap (λ (k : List Valued). v ∷ k) (none-gone (v .ride))
+    -- it is its stop's first chosen ride
+    pub own-first : firstAt (choose aim (some v) chosen) (v .ride .from) ≡ some v
+    own-first = ap (λ (l : List Valued). firstAt l (v .ride .from)) led ∙ first-here v (others (v .ride) chosen)
 
-  module _ (u : Valued) (rest : List Valued) (e : atStop (v .ride .from) chosen ≡ u ∷ rest) where
-    -- it gains less than the margin on its first chosen ride
-    pub own-kept : u .worth < v .worth + aim .margin → atStop (v .ride .from) (choose aim (some v) chosen) ≡ u ∷ rest
-    unfolding leads
-    own-kept h = ap (atStop (v .ride .from)) (led (subst (λ (k : List Valued). leads (aim .margin) (v .worth) (headOf k) ≡ false) (sym e) (lt-leb (v .worth + aim .margin) (u .worth) h))) ∙ e
+    own-joined : (l : List Valued) → atStop (v .ride .from) chosen ≡ l → atStop (v .ride .from) (choose aim (some v) chosen) ≡ v ∷ others (v .ride) l
+    own-joined l e =
+        ap (atStop (v .ride .from)) led ∙ at-stop-here (v .ride .from) v (others (v .ride) chosen) refl
+        ∙ ap (λ (k : List Valued). v ∷ k) (at-others (v .ride) chosen (v .ride .from) ∙ ap (others (v .ride)) e)
 
-    module _ (below : v .worth + aim .margin ≤ u .worth) (later : (x : Valued) → List·Memᴰ x rest → u .ride .departs < x .ride .departs)
-        (rising : v .ride .departs ≤ u .ride .departs) where
-      own-joined : atStop (v .ride .from) (choose aim (some v) chosen) ≡ v ∷ others (v .ride) (u ∷ rest)
-      unfolding leads
-      own-joined = joined (u ∷ rest) e (le-leb (v .worth + aim .margin) (u .worth) below)
+    -- the stop has no chosen ride yet
+    pub own-alone : atStop (v .ride .from) chosen ≡ [] → atStop (v .ride .from) (choose aim (some v) chosen) ≡ v ∷ []
+    own-alone e = own-joined [] e ∙ ap (λ (k : List Valued). v ∷ k) (none-gone (v .ride))
 
+    module _ (u : Valued) (rest : List Valued) (e : atStop (v .ride .from) chosen ≡ u ∷ rest)
+        (later : (x : Valued) → List·Memᴰ x rest → u .ride .departs < x .ride .departs) (rising : v .ride .departs ≤ u .ride .departs) where
       rest-stays : others (v .ride) rest ≡ rest
       rest-stays =
           others-absent (v .ride) rest (λ x m _ q. let behind' : u .ride .departs < x .ride .departs = later x m in omega arith)
@@ -167,14 +168,14 @@ module _ (aim : Aim) (chosen : List Valued) (v : Valued) (away : v .ride .from �
       pub own-replaces : u .ride .from ≡ v .ride .from → u .ride .departs ≡ v .ride .departs
           → atStop (v .ride .from) (choose aim (some v) chosen) ≡ v ∷ rest
       own-replaces there then =
-          own-joined
+          own-joined (u ∷ rest) e
           ∙ ap (λ (k : List Valued). v ∷ k) (others-gone (v .ride) u rest
           (ap (λ b. b && eqb (u .ride .departs) (v .ride .departs)) (eq-eqb (u .ride .from) (v .ride .from) there) ∙ eq-eqb (u .ride .departs) (v .ride .departs) then)
           ∙ rest-stays)
 
       pub own-ahead : u .ride .departs ≢ v .ride .departs → atStop (v .ride .from) (choose aim (some v) chosen) ≡ v ∷ (u ∷ rest)
       own-ahead then =
-          own-joined
+          own-joined (u ∷ rest) e
           ∙ ap (λ (k : List Valued). v ∷ k) (others-absent (v .ride) (u ∷ rest)
           (λ x m _. head-or-later (x .ride .departs ≢ v .ride .departs) m
           (λ q d. then (ap (λ (y : Valued). y .ride .departs) (sym q) ∙ d))

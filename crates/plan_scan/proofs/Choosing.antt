@@ -1,5 +1,6 @@
--- Choosing one more row: each stop's stack holds the stop's chosen rides again. Assumes nothing.
-use Prim.Native.Nat.{ℕ, suc, _+_, _*_, _/_, _≤_, _<_}
+-- Choosing one more row: each stop's stack holds the stop's chosen rides again, and the limits theirs. Assumes nothing.
+use Prim.Native.Nat.{ℕ, suc, _+_, _-_, _*_, _/_, _≤_, _<_}
+use mathlib.Core.Bool.{true}
 use mathlib.Core.List.{List, [], _∷_, map, List·Memᴰ, List·Memᴰ·head}
 use mathlib.Core.Logic.{_≢_, _⊎_, inl, inr}
 use mathlib.Core.Option.{Option, none, some}
@@ -7,27 +8,29 @@ use mathlib.Core.Path.{_≡_, refl, sym, ap, ap₂, subst, _∙_}
 use native.Mathlib.Nat.{mul-add-div, div-eq-of-lt}
 use native.Mathlib.Omega.{arith}
 use lib.Dec.{eqb, ltb}
-use lib.ListN.{length, getD}
+use lib.ListN.{length, getD, set, length-set}
 use borrow.Author.Tests.{eqb-true, eqb-false, ltb-true, ltb-false}
 use Rattle.timetable.specs.Limits.{mostStops}
 use Rattle.laws.proofs.Tests.{ifb}
 use Rattle.timetable.specs.declared.Row.{Row}
 use Rattle.plans.specs.Worth.{Valued}
-use Rattle.plans.specs.Chosen.{Aim, choose}
+use Rattle.plans.specs.Chosen.{Aim, firstAt, leads, choose}
 use Rattle.plans.proofs.Order.{Ordered}
-use Rattle.plan_stacks.specs.Stacks.{keyStep, Entry, keyOf, stackAt, stackStart, stackSize, startPair, entryDeparture, entryWorth}
+use Rattle.plan_stacks.specs.Stacks.{keyStep, Entry, keyOf, stackAt, stackStart, stackSize, startPair, entryDeparture}
 use Rattle.plan_cells.specs.Cells.{missing, pairCell}
+use Rattle.plan_cells.proofs.Outside.{set-cell}
 use Rattle.plan_stacks.specs.Chosen.{atStop, entryOf, EntryFits}
 use Rattle.plan_stacks.proofs.AtStop.{at-stop-member}
-use Rattle.plan_scan.specs.Stores.{stored, rowWorth, Chose, worthless, alone, not-below, replaces, ahead}
+use Rattle.plan_scan.specs.Stores.{stored, rowWorth, Stacked, alone, replaces, ahead, Chose, passed, taken}
 use Rattle.plan_stacks.specs.Regions.{below}
 use Rattle.plan_scan.specs.Regions.{countAt}
 use Rattle.plan_scan.specs.Scanned.{PairHolds}
-use Rattle.plan_scan.specs.Held.{StackHeld}
+use Rattle.plan_scan.specs.Held.{StackHeld, limitOf, LimitsHeld}
 use Rattle.plan_stacks.proofs.Entries.{entry, stack-kept, stack-none, Top, stack-top}
 use Rattle.plan_stacks.proofs.Regions.{below-later}
 use Rattle.plan_scan.proofs.Regions.{count-here, count-more}
-use Rattle.plan_scan.proofs.ByStop.{at-from, choose-elsewhere, choose-none, own-alone, own-kept, own-replaces, own-ahead}
+use Rattle.plan_scan.proofs.ByStop.{at-from, choose-elsewhere, first-elsewhere, choose-none, not-led, own-first, own-alone, own-replaces, own-ahead}
+use Rattle.plan_scan.proofs.Limits.{below-leads, above-behind, limit-most}
 use Rattle.plan_scan.proofs.Rising.{at-ordered, departs-later}
 use Rattle.plan_scan.proofs.PairsHeld.{Holds, pair-holds}
 use Rattle.plan_stacks.proofs.Stored.{stored-start, stored-size, stored-other, stored-stack, stored-own-size}
@@ -48,13 +51,30 @@ key-departure departs row key small e =
     ap (λ x. x / keyStep) e ∙ mul-add-div (let z : 0 < keyStep = omega arith in z) departs row
     ∙ (let none' : row / keyStep ≡ 0 = div-eq-of-lt small in let z : departs + row / keyStep ≡ departs = omega arith in z)
 
-worth-none : (best : Option Valued) (a b : ℕ) → Holds a b best → a ≡ missing → best ≡ none
-worth-none none a b h e = refl
-worth-none (some v) a b h e = absurd (let z : ⊥ = omega (arith, h .0, h .2) in z)
-
 worth-some : (best : Option Valued) (a b : ℕ) → Holds a b best → (a ≡ missing → ⊥) → (v : Valued) × (best ≡ some v) × (a ≡ v .worth)
 worth-some none a b h has = absurd (has h)
 worth-some (some v) a b h has = (v, refl, h .0)
+
+-- a worth that is no less than its stop's limit
+passed-by :
+    (aim : Aim) (best : Option Valued) (chosen : List Valued) (stop worth leave : ℕ) → Holds worth leave best → stop ≢ aim .target
+    → ((v : Valued) → best ≡ some v → v .ride .from ≡ stop) → limitOf (aim .margin) (firstAt chosen stop) ≤ worth → choose aim best chosen ≡ chosen
+passed-by aim none chosen stop worth leave h away there above = choose-none aim chosen
+passed-by aim (some v) chosen stop worth leave h away there above =
+    not-led aim chosen v (λ q. away (sym (there v refl) ∙ q))
+    (above-behind (aim .margin) (v .worth) (firstAt chosen (v .ride .from)) (h .2)
+    (subst (λ s. limitOf (aim .margin) (firstAt chosen s) ≤ v .worth) (sym (there v refl)) (omega (arith, h .0))))
+
+-- a row that is not chosen leaves its stop's stack as it is
+pub stack-passed :
+    (row : Row) (w : List ℕ) (from : ℕ) (all rest : List Row) (old new : List Valued) (stop : ℕ) → new ≡ old → StackHeld w from all rest old stop
+    → StackHeld w from all (row ∷ rest) new stop
+stack-passed row w from all rest old new stop same held =
+    record {
+      start = held .start;
+      room = (let few = held .room in let more = count-more stop row rest in omega arith);
+      holds = held .holds ∙ ap (λ (l : List Valued). map entryOf (atStop stop l)) (sym same);
+    }
 
 module _ (row : Row) (i : ℕ) (aim : Aim) (best : Option Valued) (chosen : List Valued) (c : Choosable row i aim best chosen) (w : List ℕ)
     (from : ℕ) (all rest : List Row) (held : (stop : ℕ) → stop < mostStops → StackHeld w from all rest chosen stop)
@@ -102,20 +122,6 @@ module _ (row : Row) (i : ℕ) (aim : Aim) (best : Option Valued) (chosen : List
   elsewhere : (v : Valued) (stop : ℕ) → (row .board ≡ stop → ⊥) → best ≡ some v → v .ride .from ≢ stop
   elsewhere v stop ne e q = ne (sym (c .stop v e) ∙ q)
 
-  -- nothing was stored
-  kept : atStop (row .board) (choose aim best chosen) ≡ atStop (row .board) chosen → (stop : ℕ) → stop < mostStops
-      → StackHeld w from all (row ∷ rest) (choose aim best chosen) stop
-  kept same stop h =
-      let old = held stop h in
-      record {
-        start = old .start;
-        room = (let few = old .room in let more = count-more stop row rest in omega arith);
-        holds = old .holds ∙ ap (map entryOf)
-            (ifb (λ b. eqb (row .board) stop ≡ b → atStop stop chosen ≡ atStop stop (choose aim best chosen)) (eqb (row .board) stop)
-            (λ e _. subst (λ k. atStop k chosen ≡ atStop k (choose aim best chosen)) (eqb-true (row .board) stop e) (sym same))
-            (λ e _. sym (choose-elsewhere aim best chosen stop (λ v. elsewhere v stop (eqb-false (row .board) stop e)))) refl);
-      }
-
   -- the row's entry was stored k pairs behind the start
   put : (k : ℕ) → k ≤ stackSize w (row .board)
       → entry (keyOf (row .departure) i) (rowWorth w i) ∷ stackAt w (stackStart w (row .board)) k ≡ map entryOf (atStop (row .board) (choose aim best chosen))
@@ -143,16 +149,39 @@ module _ (row : Row) (i : ℕ) (aim : Aim) (best : Option Valued) (chosen : List
             ∙ old .holds ∙ ap (map entryOf) (sym (choose-elsewhere aim best chosen stop (λ v. elsewhere v stop ne)));
       }) refl
 
-  module _ (holds : PairHolds w i best) where
-    -- the row has no worth
-    none-chosen : rowWorth w i ≡ missing → atStop (row .board) (choose aim best chosen) ≡ atStop (row .board) chosen
-    none-chosen e =
-        ap (atStop (row .board)) (ap (λ (o : Option Valued). choose aim o chosen)
-        (worth-none best (getD w (pairCell i) 0) (getD w (pairCell i + 1) 0) (pair-holds w i best holds) e) ∙ choose-none aim chosen)
+  module _ (holds : PairHolds w i best) (limits : List ℕ) (limited : LimitsHeld limits (aim .margin) chosen) where
+    own-limit : getD limits (row .board) 0 ≡ limitOf (aim .margin) (firstAt chosen (row .board))
+    own-limit = limited .limit (row .board) (c .board)
 
-    module _ (v : Valued) (is : best ≡ some v) (worth : rowWorth w i ≡ v .worth) where
+    not-chosen : getD limits (row .board) 0 ≤ rowWorth w i → choose aim best chosen ≡ chosen
+    not-chosen above =
+        passed-by aim best chosen (row .board) (getD w (pairCell i) 0) (getD w (pairCell i + 1) 0) (pair-holds w i best holds) (c .away) (c .stop)
+        (omega (arith, own-limit))
+
+    module _ (lower : rowWorth w i < getD limits (row .board) 0) where
+      has-worth : rowWorth w i ≡ missing → ⊥
+      has-worth e = let most = limit-most (aim .margin) chosen (row .board) (c .fits) in omega (arith, own-limit)
+
+      -- the worth that the row has
+      found : (v : Valued) × (best ≡ some v) × (rowWorth w i ≡ v .worth)
+      found = worth-some best (getD w (pairCell i) 0) (getD w (pairCell i + 1) 0) (pair-holds w i best holds) has-worth
+
+      abbrev v : Valued
+      v = found .0
+
+      is : best ≡ some v
+      is = found .1
+
+      worth : rowWorth w i ≡ v .worth
+      worth = found .2
+
       own-away : v .ride .from ≢ aim .target
       own-away q = c .away (sym (c .stop v is) ∙ q)
+
+      own-leads : leads (aim .margin) (v .worth) (firstAt chosen (v .ride .from)) ≡ true
+      own-leads =
+          below-leads (aim .margin) (v .worth) (firstAt chosen (v .ride .from))
+          (subst (λ s. v .worth < limitOf (aim .margin) (firstAt chosen s)) (sym (c .stop v is)) (omega (arith, worth, own-limit)))
 
       at-own : (l : List Valued) → atStop (row .board) chosen ≡ l → atStop (v .ride .from) chosen ≡ l
       at-own l e = ap (λ s. atStop s chosen) (c .stop v is) ∙ e
@@ -175,7 +204,7 @@ module _ (row : Row) (i : ℕ) (aim : Aim) (best : Option Valued) (chosen : List
           let stack : stackAt w (stackStart w (row .board)) 0 ≡ map entryOf (atStop (row .board) chosen) =
           subst (λ n. stackAt w (stackStart w (row .board)) n ≡ map entryOf (atStop (row .board) chosen)) size (own .holds) in
           let none' : atStop (row .board) chosen ≡ [] = stack-none w (stackStart w (row .board)) (atStop (row .board) chosen) stack in
-          put 0 (omega arith) (topped 0 [] (stack ∙ ap (map entryOf) none') (own-alone aim chosen v own-away (at-own [] none')))
+          put 0 (omega arith) (topped 0 [] (stack ∙ ap (map entryOf) none') (own-alone aim chosen v own-away own-leads (at-own [] none')))
 
       module _ (k : ℕ) (size : stackSize w (row .board) ≡ suc k) where
         stack : stackAt w (stackStart w (row .board)) (suc k) ≡ map entryOf (atStop (row .board) chosen)
@@ -183,9 +212,6 @@ module _ (row : Row) (i : ℕ) (aim : Aim) (best : Option Valued) (chosen : List
 
         top : Top w (stackStart w (row .board)) k (atStop (row .board) chosen)
         top = stack-top w (stackStart w (row .board)) k (atStop (row .board) chosen) stack
-
-        top-worth : entryWorth w (stackStart w (row .board)) k ≡ top .first .worth
-        top-worth = top .worth
 
         top-member : (x : Valued) → List·Memᴰ x (top .first ∷ top .rest) → List·Memᴰ x chosen × (x .ride .from ≡ row .board)
         top-member x m =
@@ -208,62 +234,70 @@ module _ (row : Row) (i : ℕ) (aim : Aim) (best : Option Valued) (chosen : List
         rises : v .ride .departs ≤ top .first .ride .departs
         rises = subst (λ x. x ≤ top .first .ride .departs) (sym (c .minute v is)) (c .rising (top .first) (first-member .0))
 
-        not-chosen : entryWorth w (stackStart w (row .board)) k < rowWorth w i + aim .margin
-            → atStop (row .board) (choose aim best chosen) ≡ atStop (row .board) chosen
-        not-chosen h =
-            to-own (top .first ∷ top .rest)
-            (own-kept aim chosen v own-away (top .first) (top .rest) (at-own (top .first ∷ top .rest) (top .all)) (omega (arith, top-worth)))
-            ∙ sym (top .all)
+        replace-put : entryDeparture w (stackStart w (row .board)) k ≡ row .departure
+            → (stop : ℕ) → stop < mostStops → StackHeld (stored row i k w) from all (row ∷ rest) (choose aim best chosen) stop
+        replace-put same =
+            put k (omega arith)
+            (topped k (top .rest) (top .below)
+            (own-replaces aim chosen v own-away own-leads (top .first) (top .rest) (at-own (top .first ∷ top .rest) (top .all)) later rises
+            (first-member .1 ∙ sym (c .stop v is)) (sym top-departs ∙ same ∙ sym (c .minute v is))))
 
-        module _ (less : rowWorth w i + aim .margin ≤ entryWorth w (stackStart w (row .board)) k) where
-          below-first : v .worth + aim .margin ≤ top .first .worth
-          below-first = omega (arith, top-worth)
+        ahead-put : (entryDeparture w (stackStart w (row .board)) k ≡ row .departure → ⊥)
+            → (stop : ℕ) → stop < mostStops → StackHeld (stored row i (suc k) w) from all (row ∷ rest) (choose aim best chosen) stop
+        ahead-put other =
+            put (suc k) (omega arith)
+            (topped (suc k) (top .first ∷ top .rest) (stack ∙ ap (map entryOf) (top .all))
+            (own-ahead aim chosen v own-away own-leads (top .first) (top .rest) (at-own (top .first ∷ top .rest) (top .all)) later rises
+            (λ q. other (top-departs ∙ q ∙ c .minute v is))))
 
-          replace-put : entryDeparture w (stackStart w (row .board)) k ≡ row .departure
-              → (stop : ℕ) → stop < mostStops → StackHeld (stored row i k w) from all (row ∷ rest) (choose aim best chosen) stop
-          replace-put same =
-              put k (omega arith)
-              (topped k (top .rest) (top .below)
-              (own-replaces aim chosen v own-away (top .first) (top .rest) (at-own (top .first ∷ top .rest) (top .all)) below-first later rises
-              (first-member .1 ∙ sym (c .stop v is)) (sym top-departs ∙ same ∙ sym (c .minute v is))))
+      stacks-stored :
+          (w' : List ℕ) → Stacked row i w w' → (stop : ℕ) → stop < mostStops → StackHeld w' from all (row ∷ rest) (choose aim best chosen) stop
+      stacks-stored w' (alone size q) stop h =
+          subst (λ (l : List ℕ). StackHeld l from all (row ∷ rest) (choose aim best chosen) stop) (sym q) (first-put size stop h)
+      stacks-stored w' (replaces k size same q) stop h =
+          subst (λ (l : List ℕ). StackHeld l from all (row ∷ rest) (choose aim best chosen) stop) (sym q) (replace-put k size same stop h)
+      stacks-stored w' (ahead k size other q) stop h =
+          subst (λ (l : List ℕ). StackHeld l from all (row ∷ rest) (choose aim best chosen) stop) (sym q) (ahead-put k size other stop h)
 
-          ahead-put : (entryDeparture w (stackStart w (row .board)) k ≡ row .departure → ⊥)
-              → (stop : ℕ) → stop < mostStops → StackHeld (stored row i (suc k) w) from all (row ∷ rest) (choose aim best chosen) stop
-          ahead-put other =
-              put (suc k) (omega arith)
-              (topped (suc k) (top .first ∷ top .rest) (stack ∙ ap (map entryOf) (top .all))
-              (own-ahead aim chosen v own-away (top .first) (top .rest) (at-own (top .first ∷ top .rest) (top .all)) below-first later rises
-              (λ q. other (top-departs ∙ q ∙ c .minute v is))))
+      -- the row is its stop's first chosen ride
+      first-now : (stop : ℕ) → row .board ≡ stop → firstAt (choose aim best chosen) stop ≡ some v
+      first-now stop here =
+          ap₂ (λ (s : ℕ) (o : Option Valued). firstAt (choose aim o chosen) s) (sym here ∙ sym (c .stop v is)) is ∙ own-first aim chosen v own-away own-leads
 
-    -- the worth that the row has
-    found : (rowWorth w i ≡ missing → ⊥) → (v : Valued) × (best ≡ some v) × (rowWorth w i ≡ v .worth)
-    found has = worth-some best (getD w (pairCell i) 0) (getD w (pairCell i + 1) 0) (pair-holds w i best holds) has
+      limits-stored : LimitsHeld (set limits (row .board) (rowWorth w i + 1 - aim .margin)) (aim .margin) (choose aim best chosen)
+      limits-stored =
+          record {
+            count = length-set limits (row .board) (rowWorth w i + 1 - aim .margin) ∙ limited .count;
+            limit = λ stop h.
+                set-cell (λ x. x ≡ limitOf (aim .margin) (firstAt (choose aim best chosen) stop)) limits (row .board) stop (rowWorth w i + 1 - aim .margin)
+                (let few = limited .count in let small = c .board in omega arith)
+                (λ here. ap (λ x. x + 1 - aim .margin) worth ∙ ap (limitOf (aim .margin)) (sym (first-now stop here)))
+                (λ ne. limited .limit stop h ∙ ap (limitOf (aim .margin)) (sym (first-elsewhere aim best chosen stop (λ u. elsewhere u stop ne))));
+          }
 
-    pub stacks-chosen :
-        (w' : List ℕ) → Chose row i (aim .margin) w w' → (stop : ℕ) → stop < mostStops → StackHeld w' from all (row ∷ rest) (choose aim best chosen) stop
-    stacks-chosen w' (worthless e q) stop h =
-        subst (λ (l : List ℕ). StackHeld l from all (row ∷ rest) (choose aim best chosen) stop) (sym q) (kept (none-chosen e) stop h)
-    stacks-chosen w' (alone has size q) stop h =
-        let f = found has in
-        subst (λ (l : List ℕ). StackHeld l from all (row ∷ rest) (choose aim best chosen) stop) (sym q) (first-put (f .0) (f .1) (f .2) size stop h)
-    stacks-chosen w' (not-below has k size less q) stop h =
-        let f = found has in
-        subst (λ (l : List ℕ). StackHeld l from all (row ∷ rest) (choose aim best chosen) stop) (sym q)
-        (kept (not-chosen (f .0) (f .1) (f .2) k size less) stop h)
-    stacks-chosen w' (replaces has k size less same q) stop h =
-        let f = found has in
-        subst (λ (l : List ℕ). StackHeld l from all (row ∷ rest) (choose aim best chosen) stop)
-        (sym q) (replace-put (f .0) (f .1) (f .2) k size less same stop h)
-    stacks-chosen w' (ahead has k size less other q) stop h =
-        let f = found has in
-        subst (λ (l : List ℕ). StackHeld l from all (row ∷ rest) (choose aim best chosen) stop) (sym q)
-        (ahead-put (f .0) (f .1) (f .2) k size less other stop h)
+    module _ (w' limits' : List ℕ) where
+      pub stacks-chosen :
+          Chose row i (aim .margin) w limits w' limits' → (stop : ℕ) → stop < mostStops → StackHeld w' from all (row ∷ rest) (choose aim best chosen) stop
+      stacks-chosen (passed above q _) stop h =
+          subst (λ (l : List ℕ). StackHeld l from all (row ∷ rest) (choose aim best chosen) stop) (sym q)
+          (stack-passed row w from all rest chosen (choose aim best chosen) stop (not-chosen above) (held stop h))
+      stacks-chosen (taken lower on-top _) stop h = stacks-stored lower w' on-top stop h
+
+      pub limits-chosen : Chose row i (aim .margin) w limits w' limits' → LimitsHeld limits' (aim .margin) (choose aim best chosen)
+      limits-chosen (passed above _ q) =
+          subst (λ (l : List ℕ). LimitsHeld l (aim .margin) (choose aim best chosen)) (sym q)
+          (subst (λ (l : List Valued). LimitsHeld limits (aim .margin) l) (sym (not-chosen above)) limited)
+      limits-chosen (taken lower _ q) =
+          subst (λ (l : List ℕ). LimitsHeld l (aim .margin) (choose aim best chosen)) (sym q) (limits-stored lower)
 
   -- what a store leaves of the other cells
+  stacked-at : (w' : List ℕ) → Stacked row i w w' → (k : ℕ) × (k ≤ stackSize w (row .board)) × (w' ≡ stored row i k w)
+  stacked-at w' (alone size q) = (0, (let z : 0 ≤ stackSize w (row .board) = omega arith in z), q)
+  stacked-at w' (replaces k size same q) = (k, (let z : k ≤ stackSize w (row .board) = omega arith in z), q)
+  stacked-at w' (ahead k size other q) = (suc k, (let z : suc k ≤ stackSize w (row .board) = omega arith in z), q)
+
   pub chose-or-stored :
-      (w' : List ℕ) → Chose row i (aim .margin) w w' → (w' ≡ w) ⊎ ((k : ℕ) × (k ≤ stackSize w (row .board)) × (w' ≡ stored row i k w))
-  chose-or-stored w' (worthless e q) = inl q
-  chose-or-stored w' (alone has size q) = inr (0, (let z : 0 ≤ stackSize w (row .board) = omega arith in z), q)
-  chose-or-stored w' (not-below has k size less q) = inl q
-  chose-or-stored w' (replaces has k size less same q) = inr (k, (let z : k ≤ stackSize w (row .board) = omega arith in z), q)
-  chose-or-stored w' (ahead has k size less other q) = inr (suc k, (let z : suc k ≤ stackSize w (row .board) = omega arith in z), q)
+      (limits w' limits' : List ℕ) → Chose row i (aim .margin) w limits w' limits'
+      → (w' ≡ w) ⊎ ((k : ℕ) × (k ≤ stackSize w (row .board)) × (w' ≡ stored row i k w))
+  chose-or-stored limits w' limits' (passed above q _) = inl q
+  chose-or-stored limits w' limits' (taken lower on-top _) = inr (stacked-at w' on-top)

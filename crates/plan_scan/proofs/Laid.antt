@@ -19,6 +19,7 @@ use Rattle.plan_scan.specs.Regions.{countAt, Counted}
 use Rattle.plan_scan.specs.Held.{Held}
 use Rattle.plan_stacks.proofs.Regions.{below-same}
 use Rattle.plan_scan.proofs.Regions.{below-count}
+use Rattle.plan_scan.proofs.Limits.{noLimits}
 use Rattle.plan_scan.proofs.Bounds.{held-begins}
 
 -- no trip has a next row, no stop a size
@@ -76,7 +77,7 @@ module _ (file : List ℕ) (s : SectionPlaces) (goal : Goal) (first end : ℕ) (
         (outside-then (outside-wider (omega arith) (omega arith) (parted .outside))
         (outside-set w₄ (pairCell (s .rows)) missing (omega arith) (omega arith)))
 
-    pub laid-held : Held file s goal first end end closed
+    pub laid-held : Held file s goal first end end closed noLimits
     laid-held =
         held-begins file s goal first end stand inside closed
         (λ trip h. beside (tripCells + trip) (omega arith) ∙ parted .outside .ahead (tripCells + trip) (omega arith)

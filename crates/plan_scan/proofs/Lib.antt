@@ -3,6 +3,7 @@ pub mod Regions
 pub mod Counting
 pub mod Ways
 pub mod ByStop
+pub mod Limits
 pub mod Rising
 pub mod Worths
 pub mod TimetableTo

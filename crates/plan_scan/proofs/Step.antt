@@ -1,6 +1,6 @@
 -- One turn of the scan: a row is weighed, then chosen or not, and the cells hold what the scan says from that row on.
 use Prim.Native.Nat.{ℕ, suc, _+_, _-_, _*_, _≤_, _<_}
-use mathlib.Core.List.{List, _∷_, map}
+use mathlib.Core.List.{List, _∷_}
 use mathlib.Core.Logic.{_≢_, _⊎_, inl, inr}
 use mathlib.Core.Option.{Option, none, some}
 use mathlib.Core.Path.{_≡_, refl, sym, ap, subst, _∙_}
@@ -20,20 +20,19 @@ use Rattle.plan_stacks.specs.Stacks.{stackStart, stackSize, startPair}
 use Rattle.plan_rows.specs.declared.SectionPlaces.{SectionPlaces}
 use Rattle.plan_rows.specs.Reading.{rowsIn, tablesIn, FileReadable, TablesHeld, RowFits}
 use Rattle.plans.specs.declared.Goal.{Goal}
-use Rattle.plan_stacks.specs.Chosen.{entryOf, atStop}
 use Rattle.plan_landing.specs.Landing.{Ready, rideOff}
 use Rattle.plan_scan.specs.Stores.{stored, rowWorth, Weighs, Chose, Weighable, Pushable}
 use Rattle.plan_stacks.specs.Regions.{below}
 use Rattle.plan_scan.specs.Regions.{countAt}
 use Rattle.plan_scan.specs.Scanned.{scanIn, bestIn, PairHolds}
-use Rattle.plan_scan.specs.Held.{PairsHeld, StackHeld, Held}
+use Rattle.plan_scan.specs.Held.{PairsHeld, StackHeld, LimitsHeld, Held}
 use Rattle.plan_stacks.proofs.Regions.{below-later}
 use Rattle.plan_scan.proofs.Regions.{count-slice, count-few, count-here, count-more, below-count}
 use Rattle.plan_scan.proofs.ByStop.{choose-target}
 use Rattle.plan_scan.proofs.PairsHeld.{inFront, pairs-kept, pairs-weighed, weighs-other}
 use Rattle.plan_stacks.proofs.Entries.{stack-kept}
 use Rattle.plan_stacks.proofs.Stored.{stored-other, outside-stored}
-use Rattle.plan_scan.proofs.Choosing.{Choosable, stacks-chosen, chose-or-stored}
+use Rattle.plan_scan.proofs.Choosing.{Choosable, stack-passed, stacks-chosen, limits-chosen, chose-or-stored}
 use Rattle.plan_scan.proofs.TimetableTo.{bestRow, ownRide, scan-step, best-step, BoardsRow, best-boards-row, scan-ordered, climbing, chosen-fits, rising-behind, off-fits}
 
 -- a part of a scan with one row in front
@@ -85,9 +84,9 @@ module _ (file : List ℕ) (s : SectionPlaces) (goal : Goal) (first end : ℕ) (
         omega (arith, regions-end)
 
     -- the row can be got off
-    pub ready : (tables : List ℕ) → TablesHeld tables (tablesIn file s) → Held file s goal first end (suc i) w
+    pub ready : (tables : List ℕ) → TablesHeld tables (tablesIn file s) → (limits : List ℕ) → Held file s goal first end (suc i) w limits
         → Ready (rowAt i) tables w (sharesOf (tablesIn file s) (rowAt i .class)) (after (suc i) .chosen)
-    ready tables held-tables held =
+    ready tables held-tables limits held =
         let shares = stand .shares-fit (rowAt i .class) (fits .class) in
         let stack = held .stacks-held (rowAt i .land) (fits .land) in
         record {
@@ -111,7 +110,7 @@ module _ (file : List ℕ) (s : SectionPlaces) (goal : Goal) (first end : ℕ) (
     unfolding offInTicks arrivalWorth changeWorth
     off-same = refl
 
-    module _ (w' : List ℕ) (held : Held file s goal first end (suc i) w)
+    module _ (w' limits : List ℕ) (held : Held file s goal first end (suc i) w limits)
         (weighs : Weighs (rowAt i) i (cellOf (offInTicks goal (ownRide file s i) (after (suc i) .chosen))) w w') where
       pub pairs-after : PairsHeld w' (s .rows) i end (after i)
       pairs-after =
@@ -146,23 +145,19 @@ module _ (file : List ℕ) (s : SectionPlaces) (goal : Goal) (first end : ℕ) (
 
     -- a row that boards at the target is not chosen
     pub held-unchosen :
-        rowAt i .board ≡ goal .target → PairsHeld w (s .rows) i end (after i)
+        (limits : List ℕ) → rowAt i .board ≡ goal .target → PairsHeld w (s .rows) i end (after i)
         → ((stop : ℕ) → stop < mostStops → StackHeld w (suc (s .rows)) (slice first end rows) (slice (suc i) end rows) (after (suc i) .chosen) stop)
-        → Held file s goal first end i w
-    held-unchosen there pairs-held stacks =
+        → LimitsHeld limits (goal .margin) (after (suc i) .chosen) → Held file s goal first end i w limits
+    held-unchosen limits there pairs-held stacks limited =
         let same : after i .chosen ≡ after (suc i) .chosen =
         ap (λ (sc : Scan). sc .chosen) (scan-step file s goal end stand inside i high)
         ∙ choose-target (inTicks goal) (bestRow file s goal end i) (after (suc i) .chosen) (λ v e. best-there v e .stop ∙ there) in
         record {
           pairs-held = pairs-held;
           stacks-held = λ stop h.
-              let old = stacks stop h in
               subst (λ (l : List Row). StackHeld w (suc (s .rows)) (slice first end rows) l (after i .chosen) stop) (sym (front i high))
-              (record {
-                start = old .start;
-                room = (let few = old .room in let more = count-more stop (rowAt i) (slice (suc i) end rows) in omega arith);
-                holds = old .holds ∙ ap (λ (l : List Valued). map entryOf (atStop stop l)) (sym same);
-              });
+              (stack-passed (rowAt i) w (suc (s .rows)) (slice first end rows) (slice (suc i) end rows) (after (suc i) .chosen) (after i .chosen) stop same (stacks stop h));
+          limits-held = subst (λ (l : List Valued). LimitsHeld limits (goal .margin) l) (sym same) limited;
         }
 
     module _ (away : rowAt i .board ≢ goal .target)
@@ -215,11 +210,11 @@ module _ (file : List ℕ) (s : SectionPlaces) (goal : Goal) (first end : ℕ) (
           ∙ ap (λ k. getD (record { trip = rowAt i .trip; best = bestRow file s goal end i } ∷ after (suc i) .weighed) k (record { trip = 0; best = none }) .best) none')
           (pairs-held .weighed i (let z : i ≤ i = omega arith in z) high)
 
-      module _ (w' : List ℕ) (chose : Chose (rowAt i) i (goal .margin) w w') where
+      module _ (limits w' limits' : List ℕ) (chose : Chose (rowAt i) i (goal .margin) w limits w' limits') where
         or-stored : (w' ≡ w) ⊎ ((k : ℕ) × (k ≤ stackSize w (rowAt i .board)) × (w' ≡ stored (rowAt i) i k w))
         or-stored =
             chose-or-stored (rowAt i) i (inTicks goal) (bestRow file s goal end i) (after (suc i) .chosen) choosable w (suc (s .rows))
-            (slice first end rows) (slice (suc i) end rows) stacks suffix regions-room w' chose
+            (slice first end rows) (slice (suc i) end rows) stacks suffix regions-room limits w' limits' chose
 
         pairs-stay : PairsHeld w (s .rows) i end (after i) → (w' ≡ w) ⊎ ((k : ℕ) × (k ≤ stackSize w (rowAt i .board)) × (w' ≡ stored (rowAt i) i k w))
             → PairsHeld w' (s .rows) i end (after i)
@@ -232,8 +227,8 @@ module _ (file : List ℕ) (s : SectionPlaces) (goal : Goal) (first end : ℕ) (
             (λ k h. stored-other w (rowAt i .board) (f .0) (rowAt i .departure) i (rowWorth w i) small k (λ e. omega arith) (λ e. omega arith) (λ e. omega arith))
             (λ k a b. stored-other w (rowAt i .board) (f .0) (rowAt i .departure) i (rowWorth w i) small k (λ e. omega arith) (λ e. omega arith) (λ e. omega arith)))
 
-        pub held-chosen : PairsHeld w (s .rows) i end (after i) → Held file s goal first end i w'
-        held-chosen pairs-held =
+        pub held-chosen : PairsHeld w (s .rows) i end (after i) → LimitsHeld limits (goal .margin) (after (suc i) .chosen) → Held file s goal first end i w' limits'
+        held-chosen pairs-held limited =
             let now : after i .chosen ≡ choose (inTicks goal) (bestRow file s goal end i) (after (suc i) .chosen) =
             ap (λ (sc : Scan). sc .chosen) (scan-step file s goal end stand inside i high) in
             record {
@@ -242,7 +237,10 @@ module _ (file : List ℕ) (s : SectionPlaces) (goal : Goal) (first end : ℕ) (
                   subst (λ (l : List Row). StackHeld w' (suc (s .rows)) (slice first end rows) l (after i .chosen) stop) (sym (front i high))
                   (subst (λ (l : List Valued). StackHeld w' (suc (s .rows)) (slice first end rows) (rowAt i ∷ slice (suc i) end rows) l stop) (sym now)
                   (stacks-chosen (rowAt i) i (inTicks goal) (bestRow file s goal end i) (after (suc i) .chosen) choosable w (suc (s .rows))
-                  (slice first end rows) (slice (suc i) end rows) stacks suffix regions-room (own-best pairs-held) w' chose stop h));
+                  (slice first end rows) (slice (suc i) end rows) stacks suffix regions-room (own-best pairs-held) limits limited w' limits' chose stop h));
+              limits-held = subst (λ (l : List Valued). LimitsHeld limits' (goal .margin) l) (sym now)
+                  (limits-chosen (rowAt i) i (inTicks goal) (bestRow file s goal end i) (after (suc i) .chosen) choosable w (suc (s .rows))
+                  (slice first end rows) (slice (suc i) end rows) stacks suffix regions-room (own-best pairs-held) limits limited w' limits' chose);
             }
 
         stays-inside : (w' ≡ w) ⊎ ((k : ℕ) × (k ≤ stackSize w (rowAt i .board)) × (w' ≡ stored (rowAt i) i k w)) → SameOutside tripCells (used (s .rows)) w w'

@@ -1,12 +1,12 @@
 -- What the steps of the scan store in the lent cells.
-use Prim.Native.Nat.{ℕ, suc, _+_, _*_, _≤_, _<_}
+use Prim.Native.Nat.{ℕ, suc, _+_, _-_, _*_, _≤_, _<_}
 use mathlib.Core.List.{List}
 use mathlib.Core.Path.{_≡_}
 use lib.ListN.{length, getD, set}
 use Rattle.timetable.specs.declared.Row.{Row}
 use Rattle.timetable.specs.Limits.{mostStops, mostTrips}
-use Rattle.plan_cells.specs.Cells.{tripCells, missing, pairCell, paired}
-use Rattle.plan_stacks.specs.Stacks.{keyOf, stackStart, stackSize, entryDeparture, entryWorth, withTop}
+use Rattle.plan_cells.specs.Cells.{tripCells, pairCell, paired}
+use Rattle.plan_stacks.specs.Stacks.{keyOf, stackStart, stackSize, entryDeparture, withTop}
 
 -- the pair of the trip's next row
 abbrev pub nextPair : List ℕ → ℕ → ℕ
@@ -34,21 +34,22 @@ rowWorth w i = getD w (pairCell i) 0
 abbrev pub stored : Row → (i k : ℕ) → List ℕ → List ℕ
 stored row i k w = withTop w (row .board) k (row .departure) i (rowWorth w i)
 
--- a row whose worth plus the margin is at most that of its stop's first chosen row goes on the stack; in the same minute it replaces that row
-pub data Chose (row : Row) (i margin : ℕ) (w w' : List ℕ) : Type 0 where
-  worthless : rowWorth w i ≡ missing → w' ≡ w → Chose row i margin w w'
-  alone : (rowWorth w i ≡ missing → ⊥) → stackSize w (row .board) ≡ 0 → w' ≡ stored row i 0 w → Chose row i margin w w'
-  not-below :
-      (rowWorth w i ≡ missing → ⊥) → (k : ℕ) → stackSize w (row .board) ≡ suc k
-      → entryWorth w (stackStart w (row .board)) k < rowWorth w i + margin → w' ≡ w → Chose row i margin w w'
+-- a chosen row goes on the stack; in the same minute as the top it replaces that row
+pub data Stacked (row : Row) (i : ℕ) (w w' : List ℕ) : Type 0 where
+  alone : stackSize w (row .board) ≡ 0 → w' ≡ stored row i 0 w → Stacked row i w w'
   replaces :
-      (rowWorth w i ≡ missing → ⊥) → (k : ℕ) → stackSize w (row .board) ≡ suc k
-      → rowWorth w i + margin ≤ entryWorth w (stackStart w (row .board)) k → entryDeparture w (stackStart w (row .board)) k ≡ row .departure
-      → w' ≡ stored row i k w → Chose row i margin w w'
+      (k : ℕ) → stackSize w (row .board) ≡ suc k → entryDeparture w (stackStart w (row .board)) k ≡ row .departure → w' ≡ stored row i k w
+      → Stacked row i w w'
   ahead :
-      (rowWorth w i ≡ missing → ⊥) → (k : ℕ) → stackSize w (row .board) ≡ suc k
-      → rowWorth w i + margin ≤ entryWorth w (stackStart w (row .board)) k → (entryDeparture w (stackStart w (row .board)) k ≡ row .departure → ⊥)
-      → w' ≡ stored row i (suc k) w → Chose row i margin w w'
+      (k : ℕ) → stackSize w (row .board) ≡ suc k → (entryDeparture w (stackStart w (row .board)) k ≡ row .departure → ⊥)
+      → w' ≡ stored row i (suc k) w → Stacked row i w w'
+
+-- a row is chosen if its worth lies below its stop's limit, and then sets the limit for the rows ahead of it
+pub data Chose (row : Row) (i margin : ℕ) (w limits w' limits' : List ℕ) : Type 0 where
+  passed : getD limits (row .board) 0 ≤ rowWorth w i → w' ≡ w → limits' ≡ limits → Chose row i margin w limits w' limits'
+  taken :
+      rowWorth w i < getD limits (row .board) 0 → Stacked row i w w' → limits' ≡ set limits (row .board) (rowWorth w i + 1 - margin)
+      → Chose row i margin w limits w' limits'
 
 -- the cells that weighing and choosing a row touch are lent
 pub record Weighable (row : Row) (i : ℕ) (w : List ℕ) : Type 0 where

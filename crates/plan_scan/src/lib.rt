@@ -1,7 +1,6 @@
 // Document 01, "Expected arrival in ticks", and document 02, E1: worth, leaving row and chosen rows, by one scan backward.
 ghost use mathlib.Core.Path.{_≡_};
 ghost use Prim.Native.Nat.{ℕ, _+_, _-_, _≤_, _<_};
-ghost use lib.Dec.{leb};
 ghost use lib.ListN.{length};
 ghost use lib.Seq.{slice};
 ghost use Rattle.timetable.specs.Limits.{mostStops};
@@ -50,12 +49,13 @@ pub fn scan_back(
         × SameOutside tripCells (used (s .rows)) (now (work .entry)) (now (work .exit)) ⌝ }
 {
     let none = PAIR_CELLS + 2 * s.rows;
+    let mut limits = [NONE; MOST_STOPS];
     fill(work, TRIP_CELLS, MOST_TRIPS, cell(s.rows));
     fill(work, SIZE_CELLS, MOST_STOPS, 0);
     count_boardings(file, s, first, end, work);
     part_stacks(s.rows + 1, work);
     work[none] = NONE;
-    weigh_rows(file, s, tables, goal, first, end, work);
+    weigh_rows(file, s, tables, goal, first, end, work, &mut limits);
 }
 
 // How many rows board at each stop.
@@ -81,10 +81,11 @@ fn weigh_rows(
     first: usize,
     end: usize,
     work: &mut [u32],
+    limits: &mut [u32],
 )
     requires { ⌜ FileReadable (now file) s × TablesHeld (now tables) (tablesIn (now file) s) × (first ≤ end) × (end ≤ s .rows)
-        × (used (s .rows) ≤ length (now work)) × Held (now file) s goal first end end (now work) ⌝ }
-    ensures { λ r. ⌜ Held (now (file .entry)) s goal first end first (now (work .exit))
+        × (used (s .rows) ≤ length (now work)) × Held (now file) s goal first end end (now work) (now limits) ⌝ }
+    ensures { λ r. ⌜ Held (now (file .entry)) s goal first end first (now (work .exit)) (now (limits .exit))
         × SameOutside tripCells (used (s .rows)) (now (work .entry)) (now (work .exit)) ⌝ }
 {
     let mut i = end;
@@ -94,7 +95,7 @@ fn weigh_rows(
         let off = getting_off(row, tables, goal, work);
         weigh_row(row, i, off, work);
         if row.board != goal.target {
-            choose(row, i, goal.margin, work);
+            choose(row, i, goal.margin, work, limits);
         }
     }
 }
@@ -118,40 +119,33 @@ fn weigh_row(row: Row, i: usize, off: u32, work: &mut [u32])
     }
 }
 
-// A row whose worth plus the margin is at most that of its stop's first chosen row goes on the stack; in
-// the same minute it replaces that row.
-fn choose(row: Row, i: usize, margin: usize, work: &mut [u32])
-    requires { ⌜ Pushable row i (now work) ⌝ }
-    ensures { λ r. ⌜ Chose row i margin (now (work .entry)) (now (work .exit)) ⌝ }
+// A row whose worth lies below its stop's limit goes on the stack; in the same minute as the top it
+// replaces that row. A stop's limit is NONE until a row is chosen there: any worth lies below it, and "no
+// worth" does not. From then on it is the worth of the stop's first chosen row, and one, less the margin.
+fn choose(row: Row, i: usize, margin: usize, work: &mut [u32], limits: &mut [u32])
+    requires { ⌜ Pushable row i (now work) × (row .board < length (now limits)) ⌝ }
+    ensures { λ r. ⌜ Chose row i margin (now (work .entry)) (now (limits .entry)) (now (work .exit)) (now (limits .exit)) ⌝ }
 {
+    let stop = row.board;
     let worth = work[PAIR_CELLS + 2 * i];
-    let stack = stack_of(work, row.board);
-    if worth == NONE {
+    if limits[stop] <= worth {
         return;
     }
+    limits[stop] = cell(limit(number(worth) + 1, margin));
+    let stack = stack_of(work, stop);
     if stack.size == 0 {
-        push(work, row.board, stack, row.departure, i, worth);
+        push(work, stop, stack, row.departure, i, worth);
         return;
     }
     let first = top(work, stack);
-    if !gains(worth, first.worth, margin) {
-        return;
-    }
     if first.departure == row.departure {
         replace_top(work, stack, row.departure, i, worth);
     } else {
-        push(work, row.board, stack, row.departure, i, worth);
+        push(work, stop, stack, row.departure, i, worth);
     }
 }
 
-// A worth plus the margin is at most that of the first chosen row: the worth lies below a limit that is
-// known before it, 0 where the margin is more than that row is worth.
-fn gains(worth: u32, first: u32, margin: usize) -> bool
-    ensures { λ r. ⌜ r ≡ leb (worth + margin) first ⌝ }
-{
-    number(worth) < limit(number(first) + 1, margin)
-}
-
+// No worth lies below 0: where the margin is more than a chosen row is worth, no row ahead of it gains it.
 fn limit(end: usize, margin: usize) -> usize
     ensures { λ r. ⌜ r ≡ end - margin ⌝ }
 {

@@ -11,6 +11,7 @@ use Rattle.plan_cells.specs.Outside.{SameOutside}
 use Rattle.plan_cells.proofs.Outside.{outside-then}
 use Rattle.plan_stacks.specs.Stacks.{stackSize}
 use Rattle.plan_scan.specs.Held.{Held}
+use Rattle.plan_scan.proofs.Limits.{noLimits}
 use Rattle.plan_scan.proofs.Bounds.{held-ends}
 use Rattle.plan_scan.proofs.Laid.{emptied, no-sizes, no-next, parts-fit, laid-stays, laid-held}
 use Rattle.plan_scan.proofs.scan_back.Statement.{statement}
@@ -95,7 +96,7 @@ closed-here c = set (c .part-stacks .last .1 .0) (pairCell (begun (emptied-at c)
 abbrev counted-cells : tie.After-part-stacks → List ℕ
 counted-cells c = c .before .before .before .before .before .count-boardings .last .1 .1 .1 .1 .0
 
-laid-here : (c : tie.After-part-stacks) → let a = begun (emptied-at c) .args in Held (a .file .now) (a .s) (a .goal) (a .first) (a .end) (a .end) (closed-here c)
+laid-here : (c : tie.After-part-stacks) → let a = begun (emptied-at c) .args in Held (a .file .now) (a .s) (a .goal) (a .first) (a .end) (a .end) (closed-here c) noLimits
 unfolding closed-here
 laid-here c =
     let f = emptied-at c in
@@ -118,32 +119,36 @@ stays-here c =
 room-closed : (c : tie.After-part-stacks) → used (begun (emptied-at c) .args .s .rows) ≤ length (closed-here c)
 room-closed c = omega (arith, begun (emptied-at c) .pre .4, stays-here c .same-length)
 
+slice-aggregate-weigh-rows : tie.Need-slice-aggregate-weigh-rows
+slice-aggregate-weigh-rows c = search needs
+
 weigh-rows-requires : tie.Need-weigh-rows-requires
 unfolding closed-here
 weigh-rows-requires c κs =
-    let parted = c .before .before .before in
+    let parted = c .before .before .before .before in
     let a = begun (emptied-at parted) in
     (a .pre .0, a .pre .1, a .pre .2, a .pre .3, room-closed parted, laid-here parted)
 
-abbrev parted-at : tie.After-slice-known6 → tie.After-part-stacks
-parted-at c = c .before .before .before .before .before .before
+abbrev parted-at : tie.After-weigh-rows → tie.After-part-stacks
+parted-at c = c .before .before .before .before .before
 
-scanned-stays : (c : tie.After-slice-known6)
+scanned-stays : (c : tie.After-weigh-rows)
     → let a = begun (emptied-at (parted-at c)) .args in
-    SameOutside tripCells (used (a .s .rows)) (a .work .now) (c .before .before .weigh-rows .last .1 .1 .1 .1 .1 .1 .0)
+    SameOutside tripCells (used (a .s .rows)) (a .work .now) (c .weigh-rows .last .1 .1 .1 .1 .1 .1 .0)
 unfolding closed-here
-scanned-stays c = outside-then (stays-here (parted-at c)) (c .before .before .weigh-rows .ensures .1)
+scanned-stays c = outside-then (stays-here (parted-at c)) (c .weigh-rows .ensures .1)
 
 same-length : tie.Need-same-length
-same-length c = scanned-stays c .same-length
+same-length c = scanned-stays (c .before .before .before) .same-length
 
 returns : tie.Need-returns
 returns c =
-    let a = begun (emptied-at (parted-at c)) in
-    let weighed = c .before .before .weigh-rows in (
+    let scanned = c .before .before .before in
+    let a = begun (emptied-at (parted-at scanned)) in
+    let weighed = scanned .weigh-rows .last .1 .1 .1 .1 .1 .1 in (
       held-ends (a .args .file .now) (a .args .s) (a .args .goal) (a .args .first) (a .args .end) (a .pre .0) (a .pre .3)
-          (weighed .last .1 .1 .1 .1 .1 .1 .0) (a .pre .2) (weighed .ensures .0),
-      scanned-stays c,
+          (weighed .0) (weighed .1 .0) (a .pre .2) (scanned .weigh-rows .ensures .0),
+      scanned-stays scanned,
     )
 
 pub scan-back-spec : {M : Type 1} → statement M
@@ -160,6 +165,7 @@ scan-back-spec =
     part-stacks-requires
     mul-work
     slice-write-work
+    slice-aggregate-weigh-rows
     weigh-rows-requires
     same-length
     returns)

@@ -1,6 +1,6 @@
 -- `plan_scan::weigh_rows` meets its contract: the cells hold the scan from row i on. Assumes nothing.
 use Prim.Native.Nat.{suc, _-_, _≤_, _<_}
-use mathlib.Core.Path.{_≡_, subst}
+use mathlib.Core.Path.{_≡_, sym, subst, _∙_}
 use native.Mathlib.Omega.{arith}
 use lib.ListN.{length}
 use Rattle.plan_cells.specs.Cells.{tripCells, used}
@@ -12,125 +12,149 @@ use Rattle.plan_scan.proofs.weigh_rows.Statement.{statement}
 use Rattle.plan_scan.proofs.weigh_rows.Tie as tie
 
 abbrev Inv-loop : tie.InvT-loop
-Inv-loop file s tables goal first end work₀ i₀ work i =
-    (first ≤ i) × (i ≤ end) × Held file s goal first end i work × SameOutside tripCells (used (s .rows)) work₀ work
+Inv-loop file s tables goal first end work₀ limits₀ i₀ work limits i =
+    (first ≤ i) × (i ≤ end) × Held file s goal first end i work limits × SameOutside tripCells (used (s .rows)) work₀ work
 
 abbrev μ-loop : tie.MeasureT-loop
-μ-loop file s tables goal first end work₀ i₀ work i = i
+μ-loop file s tables goal first end work₀ limits₀ i₀ work limits i = i
 
 loop-holds : tie.Need-loop-holds Inv-loop μ-loop
 loop-holds c =
-    let a = c .before .before .before in (a .pre .2, (let z : a .args .end ≤ a .args .end = omega arith in z), a .pre .5, outside-same tripCells (used (a .args .s .rows)) (a .args .work .now))
+    let a = c .before .before .before .before in (a .pre .2, (let z : a .args .end ≤ a .args .end = omega arith in z), a .pre .5, outside-same tripCells (used (a .args .s .rows)) (a .args .work .now))
 
 sub-i : tie.Need-sub-i Inv-loop μ-loop
 sub-i c = omega arith
 
 nth-row-requires : tie.Need-nth-row-requires Inv-loop μ-loop
-nth-row-requires c κs = (c .before .before .before .before .before .pre .0, omega arith)
+nth-row-requires c κs = (c .before .before .before .before .before .before .pre .0, omega arith)
+
+-- places on the way: the entry, where the row is read, where it is weighed
+abbrev begun : tie.After-nth-row Inv-loop μ-loop → tie.Start Inv-loop μ-loop
+begun c = c .before .before .before .before .before .before .before
+
+abbrev row-read : tie.After-weigh-row Inv-loop μ-loop → tie.After-nth-row Inv-loop μ-loop
+row-read c = c .before .before .before .before
+
+abbrev row-weighed : tie.After-struct-known2 Inv-loop μ-loop → tie.After-weigh-row Inv-loop μ-loop
+row-weighed c = c .before .before .before .before
 
 -- the cells as the row finds them
 held-here :
     (c : tie.After-nth-row Inv-loop μ-loop)
-    → let a = c .before .before .before .before .before .before .args in
+    → let a = begun c .args in
     let l = c .before .before .loop in
-    Held (a .file .now) (a .s) (a .goal) (a .first) (a .end) (suc (l .i - 1)) (l .work)
+    Held (a .file .now) (a .s) (a .goal) (a .first) (a .end) (suc (l .i - 1)) (l .work) (l .limits)
 held-here c =
-    let a = c .before .before .before .before .before .before .args in
+    let a = begun c .args in
     let l = c .before .before .loop in
     let next : l .i ≡ suc (l .i - 1) = omega (arith, c .before .loop-test .taken) in
-    subst (λ k. Held (a .file .now) (a .s) (a .goal) (a .first) (a .end) k (l .work)) next (l .inv .2)
+    subst (λ k. Held (a .file .now) (a .s) (a .goal) (a .first) (a .end) k (l .work) (l .limits)) next (l .inv .2)
 
-room-here :
-    (c : tie.After-nth-row Inv-loop μ-loop) → used (c .before .before .before .before .before .before .args .s .rows) ≤ length (c .before .before .loop .work)
-room-here c = omega (arith, c .before .before .before .before .before .before .pre .4, c .before .before .loop .inv .3 .same-length)
+room-here : (c : tie.After-nth-row Inv-loop μ-loop) → used (begun c .args .s .rows) ≤ length (c .before .before .loop .work)
+room-here c = omega (arith, begun c .pre .4, c .before .before .loop .inv .3 .same-length)
 
-first-here :
-    (c : tie.After-nth-row Inv-loop μ-loop) → c .before .before .before .before .before .before .args .first ≤ c .before .before .loop .i - 1
+first-here : (c : tie.After-nth-row Inv-loop μ-loop) → begun c .args .first ≤ c .before .before .loop .i - 1
 first-here c = omega (arith, c .before .loop-test .taken)
 
-end-here : (c : tie.After-nth-row Inv-loop μ-loop) → c .before .before .loop .i - 1 < c .before .before .before .before .before .before .args .end
+end-here : (c : tie.After-nth-row Inv-loop μ-loop) → c .before .before .loop .i - 1 < begun c .args .end
 end-here c = omega (arith, c .before .loop-test .taken, c .before .before .loop .inv .1)
 
 getting-off-requires : tie.Need-getting-off-requires Inv-loop μ-loop
 getting-off-requires c κs =
-    let a = c .before .before .before .before .before .before .before in
-    let l = c .before .before .before .loop in
-    turn-some-ready (a .args .file .now) (a .args .s) (a .args .goal) (a .args .first) (a .args .end) (a .pre .0) (a .pre .3) (l .i - 1) (first-here (c .before))
-    (end-here (c .before)) (l .work) (room-here (c .before)) (c .before .nth-row .result) (c .before .nth-row .ensures .0) (held-here (c .before))
+    let n = c .before in
+    let a = begun n in
+    let l = n .before .before .loop in
+    turn-some-ready (a .args .file .now) (a .args .s) (a .args .goal) (a .args .first) (a .args .end) (a .pre .0) (a .pre .3) (l .i - 1) (first-here n)
+    (end-here n) (l .work) (l .limits) (room-here n) (n .nth-row .result) (n .nth-row .ensures .0) (held-here n)
     (a .args .tables .now) (a .pre .1)
 
 weigh-row-requires : tie.Need-weigh-row-requires Inv-loop μ-loop
 weigh-row-requires c κs =
-    let a = c .before .before .before .before .before .before .before .before .before in
-    let l = c .before .before .before .before .before .loop in
-    turn-weighable (a .args .file .now) (a .args .s) (a .args .goal) (a .args .first) (a .args .end) (a .pre .0) (a .pre .3) (l .i - 1) (first-here (c .before .before .before))
-    (end-here (c .before .before .before)) (l .work) (room-here (c .before .before .before)) (c .before .before .before .nth-row .result) (c .before .before .before .nth-row .ensures .0) (held-here (c .before .before .before))
+    let n = c .before .before .before in
+    let a = begun n in
+    let l = n .before .before .loop in
+    turn-weighable (a .args .file .now) (a .args .s) (a .args .goal) (a .args .first) (a .args .end) (a .pre .0) (a .pre .3) (l .i - 1) (first-here n)
+    (end-here n) (l .work) (l .limits) (room-here n) (n .nth-row .result) (n .nth-row .ensures .0) (held-here n)
 
 -- the row is weighed
 weighed-here :
     (c : tie.After-weigh-row Inv-loop μ-loop)
-    → let a = c .before .before .before .before .before .before .before .before .before .before .args in
-    let l = c .before .before .before .before .before .before .loop in
-    Weighed (a .file .now) (a .s) (a .goal) (a .first) (a .end) (l .i - 1) (l .work) (c .weigh-row .last .1 .1 .1 .0)
+    → let a = begun (row-read c) .args in
+    let l = row-read c .before .before .loop in
+    Weighed (a .file .now) (a .s) (a .goal) (a .first) (a .end) (l .i - 1) (l .work) (c .weigh-row .last .1 .1 .1 .0) (l .limits)
 weighed-here c =
-    let a = c .before .before .before .before .before .before .before .before .before .before in
-    let l = c .before .before .before .before .before .before .loop in
-    turn-weighed (a .args .file .now) (a .args .s) (a .args .goal) (a .args .first) (a .args .end) (a .pre .0) (a .pre .3) (l .i - 1) (first-here (c .before .before .before .before))
-    (end-here (c .before .before .before .before)) (l .work) (room-here (c .before .before .before .before)) (c .before .before .before .before .nth-row .result) (c .before .before .before .before .nth-row .ensures .0) (held-here (c .before .before .before .before))
+    let n = row-read c in
+    let a = begun n in
+    let l = n .before .before .loop in
+    turn-weighed (a .args .file .now) (a .args .s) (a .args .goal) (a .args .first) (a .args .end) (a .pre .0) (a .pre .3) (l .i - 1) (first-here n)
+    (end-here n) (l .work) (l .limits) (room-here n) (n .nth-row .result) (n .nth-row .ensures .0) (held-here n)
     (a .args .tables .now) (a .pre .1) (c .before .before .getting-off .result) (c .before .before .getting-off .ensures) (c .weigh-row .last .1 .1 .1 .0) (c .weigh-row .ensures)
 
 choose-requires : tie.Need-choose-requires Inv-loop μ-loop
 choose-requires c κs =
-    let a = c .before .before .before .before .before .before .before .before .before .before .before .before .before .before .before .before in
-    let l = c .before .before .before .before .before .before .before .before .before .before .before .before .loop in
-    turn-pushable (a .args .file .now) (a .args .s) (a .args .goal) (a .args .first) (a .args .end) (a .pre .0) (a .pre .3) (l .i - 1) (first-here (c .before .before .before .before .before .before .before .before .before .before))
-    (end-here (c .before .before .before .before .before .before .before .before .before .before)) (l .work) (room-here (c .before .before .before .before .before .before .before .before .before .before)) (c .before .before .before .before .before .before .before .before .before .before .nth-row .result) (c .before .before .before .before .before .before .before .before .before .before .nth-row .ensures .0)
-    (c .before .before .before .before .before .before .weigh-row .last .1 .1 .1 .0) (weighed-here (c .before .before .before .before .before .before)) (c .before .if1 .taken)
+    let then = c .before .before in
+    let w = row-weighed (then .before) in
+    let n = row-read w in
+    let a = begun n in
+    let l = n .before .before .loop in
+    let pushable = turn-pushable (a .args .file .now) (a .args .s) (a .args .goal) (a .args .first) (a .args .end) (a .pre .0) (a .pre .3) (l .i - 1) (first-here n)
+    (end-here n) (l .work) (l .limits) (room-here n) (n .nth-row .result) (n .nth-row .ensures .0)
+    (w .weigh-row .last .1 .1 .1 .0) (weighed-here w) (then .if1 .taken) in
+    (pushable, omega (arith, pushable .board, l .inv .2 .limits-held .count))
 
 loop-less : tie.Need-loop-less Inv-loop μ-loop
-loop-less c = omega (arith, c .before .before .before .before .before .before .before .before .before .before .before .before .before .before .loop-test .taken)
+loop-less c =
+    let n = row-read (row-weighed (c .before .before .before .before .before .before .before .before)) in omega (arith, n .before .loop-test .taken)
 
 loop-again : tie.Need-loop-again Inv-loop μ-loop
 loop-again c =
-    let a = c .before .before .before .before .before .before .before .before .before .before .before .before .before .before .before .before .before .before .before in
-    let l = c .before .before .before .before .before .before .before .before .before .before .before .before .before .before .before .loop in
-    let w = c .before .before .before .before .before .before .before .before .before .weigh-row .last .1 .1 .1 .0 in
-    let chosen = c .before .before .choose .last .1 .1 .1 .0 in (
-      first-here (c .before .before .before .before .before .before .before .before .before .before .before .before .before),
-      (let z = end-here (c .before .before .before .before .before .before .before .before .before .before .before .before .before) in omega arith),
-      turn-chosen (a .args .file .now) (a .args .s) (a .args .goal) (a .args .first) (a .args .end) (a .pre .0) (a .pre .3) (l .i - 1) (first-here (c .before .before .before .before .before .before .before .before .before .before .before .before .before))
-          (end-here (c .before .before .before .before .before .before .before .before .before .before .before .before .before)) (l .work) (room-here (c .before .before .before .before .before .before .before .before .before .before .before .before .before)) (c .before .before .before .before .before .before .before .before .before .before .before .before .before .nth-row .result) (c .before .before .before .before .before .before .before .before .before .before .before .before .before .nth-row .ensures .0)
-          w (weighed-here (c .before .before .before .before .before .before .before .before .before)) (c .before .before .before .before .if1 .taken) chosen (c .before .before .choose .ensures),
+    let chosen = c .before .before .before .before in
+    let then = chosen .before .before .before in
+    let w = row-weighed (then .before) in
+    let n = row-read w in
+    let a = begun n in
+    let l = n .before .before .loop in (
+      first-here n,
+      (let z = end-here n in omega arith),
+      turn-chosen (a .args .file .now) (a .args .s) (a .args .goal) (a .args .first) (a .args .end) (a .pre .0) (a .pre .3) (l .i - 1) (first-here n)
+          (end-here n) (l .work) (l .limits) (room-here n) (n .nth-row .result) (n .nth-row .ensures .0)
+          (w .weigh-row .last .1 .1 .1 .0) (weighed-here w) (then .if1 .taken) (chosen .choose .last .1 .1 .1 .0) (chosen .choose .last .1 .1 .1 .1 .0) (chosen .choose .ensures),
       outside-then (l .inv .3)
-          (turn-stays (a .args .file .now) (a .args .s) (a .args .goal) (a .args .first) (a .args .end) (a .pre .0) (a .pre .3) (l .i - 1) (first-here (c .before .before .before .before .before .before .before .before .before .before .before .before .before))
-          (end-here (c .before .before .before .before .before .before .before .before .before .before .before .before .before)) (l .work) (room-here (c .before .before .before .before .before .before .before .before .before .before .before .before .before)) (c .before .before .before .before .before .before .before .before .before .before .before .before .before .nth-row .result) (c .before .before .before .before .before .before .before .before .before .before .before .before .before .nth-row .ensures .0)
-          w (weighed-here (c .before .before .before .before .before .before .before .before .before)) (c .before .before .before .before .if1 .taken) chosen (c .before .before .choose .ensures)),
+          (turn-stays (a .args .file .now) (a .args .s) (a .args .goal) (a .args .first) (a .args .end) (a .pre .0) (a .pre .3) (l .i - 1) (first-here n)
+          (end-here n) (l .work) (l .limits) (room-here n) (n .nth-row .result) (n .nth-row .ensures .0)
+          (w .weigh-row .last .1 .1 .1 .0) (weighed-here w) (then .if1 .taken) (chosen .choose .last .1 .1 .1 .0) (chosen .choose .last .1 .1 .1 .1 .0) (chosen .choose .ensures)),
     )
 
 loop-less-2 : tie.Need-loop-less-2 Inv-loop μ-loop
-loop-less-2 c = omega (arith, c .before .before .before .before .before .before .before .before .before .before .loop-test .taken)
+loop-less-2 c = let n = row-read (row-weighed (c .before)) in omega (arith, n .before .loop-test .taken)
 
 loop-again-2 : tie.Need-loop-again-2 Inv-loop μ-loop
 loop-again-2 c =
-    let a = c .before .before .before .before .before .before .before .before .before .before .before .before .before .before .before in
-    let l = c .before .before .before .before .before .before .before .before .before .before .before .loop in
-    let w = c .before .before .before .before .before .weigh-row .last .1 .1 .1 .0 in (
-      first-here (c .before .before .before .before .before .before .before .before .before),
-      (let z = end-here (c .before .before .before .before .before .before .before .before .before) in omega arith),
-      turn-unchosen (a .args .file .now) (a .args .s) (a .args .goal) (a .args .first) (a .args .end) (a .pre .0) (a .pre .3) (l .i - 1) (first-here (c .before .before .before .before .before .before .before .before .before))
-          (end-here (c .before .before .before .before .before .before .before .before .before)) (l .work) (room-here (c .before .before .before .before .before .before .before .before .before)) (c .before .before .before .before .before .before .before .before .before .nth-row .result) (c .before .before .before .before .before .before .before .before .before .nth-row .ensures .0)
-          w (weighed-here (c .before .before .before .before .before)) (c .if1 .left),
-      outside-then (l .inv .3) (weighed-here (c .before .before .before .before .before) .stays),
+    let w = row-weighed (c .before) in
+    let n = row-read w in
+    let a = begun n in
+    let l = n .before .before .loop in (
+      first-here n,
+      (let z = end-here n in omega arith),
+      turn-unchosen (a .args .file .now) (a .args .s) (a .args .goal) (a .args .first) (a .args .end) (a .pre .0) (a .pre .3) (l .i - 1) (first-here n)
+          (end-here n) (l .work) (l .limits) (room-here n) (n .nth-row .result) (n .nth-row .ensures .0)
+          (w .weigh-row .last .1 .1 .1 .0) (weighed-here w) (c .if1 .left),
+      outside-then (l .inv .3) (weighed-here w .stays),
     )
 
 same-length : tie.Need-same-length Inv-loop μ-loop
 same-length c = c .before .loop .inv .3 .same-length
 
+same-length-2 : tie.Need-same-length-2 Inv-loop μ-loop
+same-length-2 c =
+    c .before .loop .inv .2 .limits-held .count ∙ sym (c .before .before .before .before .before .before .pre .5 .limits-held .count)
+
 returns : tie.Need-returns Inv-loop μ-loop
 returns c =
-    let a = c .before .before .before .before .before .args in
-    let all : c .before .loop .i ≡ a .first = omega arith in
-    (subst (λ k. Held (a .file .now) (a .s) (a .goal) (a .first) (a .end) k (c .before .loop .work)) all (c .before .loop .inv .2), c .before .loop .inv .3)
+    let a = c .before .before .before .before .before .before .args in
+    let l = c .before .loop in
+    let all : l .i ≡ a .first = omega arith in
+    (subst (λ k. Held (a .file .now) (a .s) (a .goal) (a .first) (a .end) k (l .work) (l .limits)) all (l .inv .2), l .inv .3)
 
 pub weigh-rows-spec : {M : Type 1} → statement M
 weigh-rows-spec =
@@ -149,4 +173,5 @@ weigh-rows-spec =
     loop-less-2
     loop-again-2
     same-length
+    same-length-2
     returns)
