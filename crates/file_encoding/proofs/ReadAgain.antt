@@ -11,7 +11,7 @@ use Rattle.file_layout.specs.declared.Trailer.{Trailer}
 use Rattle.numbers.specs.Bytes.{Bytes}
 use Rattle.numbers.specs.Numbers.{u16At, u32At, u16Bytes, u32Bytes}
 use Rattle.file_layout.specs.Decode.{trailerAt, rowAt, rowsFrom, sharesFrom, tableAt, blockEnd, tablesFrom, tablesEnd}
-use Rattle.file_encoding.specs.Encode.{rowBytes, rowsBytes, sharesBytes, tableBytes, tablesBytes}
+use Rattle.file_encoding.specs.Encode.{rowBytes, rowsBytes, sharesBytes, tableBytes, tablesBytes, bytesOfTrailer}
 use Rattle.file_layout.proofs.Blocks.{shares-length, tables-forward}
 use Rattle.numbers.proofs.Bytes.{u16-again, u32-again}
 
@@ -69,12 +69,6 @@ tables-again s at (suc k) b h =
     append-assoc (tableBytes (tableAt s at)) (tablesBytes (tablesFrom s next k)) (drop (tablesEnd s next k) s)
     ∙ ap (λ (l : List ℕ). tableBytes (tableAt s at) ++ l) (tables-again s next k b h)
     ∙ table-again s at b (omega (arith, tables-forward s next k))
-
--- the trailer's bytes from its numbers
-unfoldable pub bytesOfTrailer : Trailer → List ℕ
-bytesOfTrailer h =
-    u16Bytes (h .version) ++ (u16Bytes (h .stops) ++ (u16Bytes (h .rows) ++ (u16Bytes (h .classes)
-    ++ (u32Bytes (h .rowstart) ++ u32Bytes (h .tablestart)))))
 
 pub trailer-reread : (s : List ℕ) (at : ℕ) → Bytes s → at + 16 ≡ length s → bytesOfTrailer (trailerAt s at) ≡ drop at s
 unfolding bytesOfTrailer trailerAt

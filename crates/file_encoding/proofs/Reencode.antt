@@ -15,14 +15,14 @@ use Rattle.file_layout.specs.Check.{joined, sectionsVerdict, checkedAs, checked
 use Rattle.numbers.specs.Bytes.{Bytes}
 use Rattle.numbers.specs.Numbers.{u16At}
 use Rattle.file_layout.specs.Decode.{trailerStart, trailerOf, rowsFrom, blockEnd, tablesFrom, tablesEnd, decode}
-use Rattle.file_encoding.specs.Encode.{rowsBytes, tablesBytes, trailerBytes, encode}
+use Rattle.file_encoding.specs.Encode.{rowsBytes, tablesBytes, bytesOfTrailer, trailerBytes, encode}
 use Rattle.file_encoding.specs.Writable.{Plain, trailerFor}
 use Rattle.file_layout.proofs.Blocks.{tables-length, tables-forward}
 use Rattle.file_layout.proofs.FileRows.{rows-length}
 use Rattle.file_layout.proofs.TrailerSound.{trailer-gives, joined-gives, sections-tests}
 use Rattle.file_encoding.proofs.Encode.{same-trailer}
 use Rattle.file_layout.proofs.Sound.{sound-checked, file-tests, version-one-readable}
-use Rattle.file_encoding.proofs.ReadAgain.{rows-again, tables-again, bytesOfTrailer, trailer-reread}
+use Rattle.file_encoding.proofs.ReadAgain.{rows-again, tables-again, trailer-reread}
 
 -- a trailer whose numbers are those of its sections, rows first
 pub record RowsFirst (f : Format) (s : List ℕ) : Type 0 where

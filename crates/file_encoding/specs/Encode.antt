@@ -5,6 +5,7 @@ use lib.ListN.{length}
 use Rattle.timetable.specs.Timetable.{Timetable, maximumDelay}
 use Rattle.timetable.specs.declared.Row.{Row}
 use Rattle.file_layout.specs.declared.Format.{Format}
+use Rattle.file_layout.specs.declared.Trailer.{Trailer}
 use Rattle.numbers.specs.Numbers.{u16Bytes, u32Bytes}
 
 unfoldable pub rowBytes : Row → List ℕ
@@ -27,6 +28,12 @@ tableBytes shares = u16Bytes (maximumDelay shares) ++ sharesBytes shares
 unfoldable pub tablesBytes : List (List ℕ) → List ℕ
 tablesBytes [] = []
 tablesBytes (shares ∷ tables) = tableBytes shares ++ tablesBytes tables
+
+-- the trailer's bytes from its numbers
+unfoldable pub bytesOfTrailer : Trailer → List ℕ
+bytesOfTrailer h =
+    u16Bytes (h .version) ++ (u16Bytes (h .stops) ++ (u16Bytes (h .rows) ++ (u16Bytes (h .classes)
+    ++ (u32Bytes (h .rowstart) ++ u32Bytes (h .tablestart)))))
 
 -- rows stand at 0, tables where they end
 unfoldable pub trailerBytes : Format → Timetable → List ℕ

@@ -3,7 +3,7 @@ use Prim.Native.Nat.{ℕ, zero, suc, _+_, _*_, _≤_, _<_}
 use mathlib.Core.List.{List, [], _∷_, _++_, append-assoc, append-nil}
 use mathlib.Core.Path.{_≡_, refl, sym, ap, _∙_}
 use native.Mathlib.Omega.{arith}
-use lib.ListN.{length, getD, set, take, drop, length-append, length-drop}
+use lib.ListN.{length, getD, take, drop, length-append, length-drop}
 use lib.Seq.{sets, sets-eq, take-suc, take-at, drop-append-add, drop-drop, length-take-le}
 use Rattle.numbers.specs.Numbers.{u16Bytes, u32Bytes}
 use Rattle.numbers.specs.Bytes.{bytesOf}
@@ -33,7 +33,7 @@ unfolding bytesOf
 put-none numbers out = refl
 
 -- bytes behind a front that is put already
-put-behind : (front more out : List ℕ) → length front + length more ≤ length out
+pub put-behind : (front more out : List ℕ) → length front + length more ≤ length out
     → sets (over front out) (length front) more ≡ over (front ++ more) out
 put-behind front more out h =
     sets-eq more (over front out) (length front) (simp (length-append, length-drop) (omega arith))
@@ -60,12 +60,3 @@ pub length-put : (numbers out : List ℕ) (i : ℕ) → i ≤ length numbers →
     → length (over (bytesOf (take i numbers)) out) ≡ length out
 length-put numbers out i l h =
     simp (length-append, length-drop) (omega (arith, length-front-bytes numbers i l))
-
--- stores counted from the first one's place
-pub four-stores : (out : List ℕ) (at a b c d : ℕ)
-    → set (set (set (set out at a) (at + 1) b) (at + 2) c) (at + 3) d ≡ sets out at (a ∷ b ∷ c ∷ d ∷ [])
-four-stores out at a b c d =
-    let one : at + 1 ≡ suc at = omega arith in
-    let two : at + 2 ≡ suc (suc at) = omega arith in
-    let three : at + 3 ≡ suc (suc (suc at)) = omega arith in
-    rw (one, two, three)

@@ -1,4 +1,4 @@
--- Document 01, "What every contract settles": any two outcomes that the casts, the readers of bytes and their writer permit coincide. Assumes nothing.
+-- Document 01, "What every contract settles": any two outcomes that casts, readers of bytes and their writers permit coincide. Assumes nothing.
 use mathlib.Core.Path.{_≡_, sym, _∙_}
 use contract.Lifetimes.{Lfts}
 use denote.Ref.{now}
@@ -19,6 +19,10 @@ use Rattle.numbers.proofs.u32_at.Kinds as u32-kinds
 use Rattle.numbers.proofs.u32_at.Reads as u32-reads
 use Rattle.numbers.proofs.put_numbers.Kinds as kinds
 use Rattle.numbers.proofs.put_numbers.Reads as reads
+use Rattle.numbers.proofs.put_u16.Kinds as put-u16-kinds
+use Rattle.numbers.proofs.put_u16.Reads as put-u16-reads
+use Rattle.numbers.proofs.put_u32.Kinds as put-u32-kinds
+use Rattle.numbers.proofs.put_u32.Reads as put-u32-reads
 
 pub put-numbers-settled :
     (κs : Lfts 2) (arguments : Dens κs kinds.ps) (one other : resT kinds.r κs .Denot)
@@ -26,6 +30,20 @@ pub put-numbers-settled :
     → reads.Post κs arguments one ending → reads.Post κs arguments other another
     → now (ending .1 .1 .0) ≡ now (another .1 .1 .0)
 put-numbers-settled κs arguments one other ending another first second = first ∙ sym second
+
+pub put-u16-settled :
+    (κs : Lfts 1) (arguments : Dens κs put-u16-kinds.ps) (one other : resT put-u16-kinds.r κs .Denot)
+    (ending another : AtExit (endedOf 1 put-u16-kinds.ps put-u16-kinds.r) κs)
+    → put-u16-reads.Post κs arguments one ending → put-u16-reads.Post κs arguments other another
+    → now (ending .1 .1 .0) ≡ now (another .1 .1 .0)
+put-u16-settled κs arguments one other ending another first second = first ∙ sym second
+
+pub put-u32-settled :
+    (κs : Lfts 1) (arguments : Dens κs put-u32-kinds.ps) (one other : resT put-u32-kinds.r κs .Denot)
+    (ending another : AtExit (endedOf 1 put-u32-kinds.ps put-u32-kinds.r) κs)
+    → put-u32-reads.Post κs arguments one ending → put-u32-reads.Post κs arguments other another
+    → now (ending .1 .1 .0) ≡ now (another .1 .1 .0)
+put-u32-settled κs arguments one other ending another first second = first ∙ sym second
 
 pub number-settled : SettlesResult 0 number-kinds.ps number-kinds.r number-reads.Post
 number-settled κs arguments one other ending another first second = first .0 ∙ sym (second .0)

@@ -3,7 +3,7 @@ ghost use mathlib.Core.Path.{_≡_};
 ghost use Prim.Native.Nat.{_+_, _*_, _≤_, _<_};
 ghost use lib.Seq.{sets};
 ghost use lib.ListN.{length, take};
-ghost use Rattle.numbers.specs.Numbers.{u16At, u32At, u32Bytes};
+ghost use Rattle.numbers.specs.Numbers.{u16At, u32At, u16Bytes, u32Bytes};
 ghost use Rattle.numbers.specs.Bytes.{bytesOf};
 ghost use Rattle.numbers.specs.Over.{over};
 
@@ -67,21 +67,26 @@ pub fn put_numbers(numbers: &[u32], count: usize, out: &mut [u8])
 {
     let mut i = 0;
     while i < count {
-        let number = numbers[i];
-        put_u32(number, 4 * i, out);
+        let next = number(numbers[i]);
+        put_u32(next, 4 * i, out);
         i += 1;
     }
 }
 
-// One number at byte `at`.
-fn put_u32(number: u32, at: usize, out: &mut [u8])
+// The low two bytes of a number at byte `at`, the lower first.
+pub fn put_u16(number: usize, at: usize, out: &mut [u8])
+    requires { ⌜ at + 2 ≤ length (now out) ⌝ }
+    ensures { λ r. ⌜ now (out .exit) ≡ sets (now (out .entry)) at (u16Bytes number) ⌝ }
+{
+    out[at] = (number % 256) as u8;
+    out[at + 1] = (number / 256 % 256) as u8;
+}
+
+// The low four bytes of a number at byte `at`, the lowest first.
+pub fn put_u32(number: usize, at: usize, out: &mut [u8])
     requires { ⌜ at + 4 ≤ length (now out) ⌝ }
     ensures { λ r. ⌜ now (out .exit) ≡ sets (now (out .entry)) at (u32Bytes number) ⌝ }
 {
-    let low = number % 65536;
-    let high = number / 65536;
-    out[at] = (low % 256) as u8;
-    out[at + 1] = (low / 256 % 256) as u8;
-    out[at + 2] = (high % 256) as u8;
-    out[at + 3] = (high / 256 % 256) as u8;
+    put_u16(number % 65536, at, out);
+    put_u16(number / 65536, at + 2, out);
 }

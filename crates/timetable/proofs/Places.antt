@@ -4,6 +4,7 @@ use mathlib.Core.Bool.{Bool, true, false, _&&_}
 use mathlib.Core.List.{List, [], _∷_}
 use native.Mathlib.Omega.{arith}
 use lib.ListN.{length}
+use Rattle.laws.proofs.Tests.{ifb}
 use Rattle.timetable.specs.declared.Row.{Row}
 use Rattle.timetable.specs.declared.Ranges.{Ranges}
 use Rattle.timetable.specs.Verdict.{Verdict, fine, fault, orElse, unless}
@@ -36,12 +37,28 @@ pub rule-placed : {classes rows number place : ℕ} (b : Bool) → Placed classe
 rule-placed true p = tt
 rule-placed false p = p
 
+-- a verdict that is fine, or a fault whose number and place are such
+abbrev pub FaultSuch : (ℕ → ℕ → Type 0) → Verdict → Type 0
+FaultSuch Such fine = Unit {0}
+FaultSuch Such (fault number place) = Such number place
+
+-- the faults of rows are 4 and 5, each at a row
+pub rows-such : (Such : ℕ → ℕ → Type 0) (n : ℕ) → ((i : ℕ) → i < n → Such 4 i) → ((i : ℕ) → i < n → Such 5 i)
+    → (g : Ranges) (back : List Row) (i : ℕ) (rows : List Row) → i + length rows ≤ n → FaultSuch Such (rowsVerdict g back i rows)
+unfolding rowsVerdict rowVerdict
+rows-such Such n four five g back i [] h = tt
+rows-such Such n four five g back i (r ∷ rows) h =
+    let later = rowsVerdict g (r ∷ back) (suc i) rows in
+    let rule = departureRule back r && tripRule back r in
+    ifb (λ b. FaultSuch Such (orElse (orElse (unless b 4 i) (unless rule 5 i)) later)) (ownRule g r)
+    (λ e. ifb (λ b. FaultSuch Such (orElse (unless b 5 i) later)) rule (λ e. rows-such Such n four five g (r ∷ back) (suc i) rows (omega arith))
+    (λ e. five i (omega arith))) (λ e. four i (omega arith))
+
+such-placed : (classes rows : ℕ) (v : Verdict) → FaultSuch (Placed classes rows) v → WellPlaced classes rows v
+such-placed classes rows fine p = p
+such-placed classes rows (fault number place) p = p
+
 pub rows-placed : (classes n : ℕ) (g : Ranges) (back : List Row) (i : ℕ) (rows : List Row) → i + length rows ≤ n
     → WellPlaced classes n (rowsVerdict g back i rows)
-unfolding rowsVerdict rowVerdict
-rows-placed classes n g back i [] h = tt
-rows-placed classes n g back i (r ∷ rows) h =
-    let rule = departureRule back r && tripRule back r in
-    one-of-two-placed classes n (orElse (unless (ownRule g r) 4 i) (unless rule 5 i)) (rowsVerdict g (r ∷ back) (suc i) rows)
-    (one-of-two-placed classes n (unless (ownRule g r) 4 i) (unless rule 5 i) (rule-placed (ownRule g r) (own (omega arith)))
-    (rule-placed rule (order (omega arith)))) (rows-placed classes n g (r ∷ back) (suc i) rows (omega arith))
+rows-placed classes n g back i rows h =
+    such-placed classes n (rowsVerdict g back i rows) (rows-such (Placed classes n) n (λ i h. own h) (λ i h. order h) g back i rows h)

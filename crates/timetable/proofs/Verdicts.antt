@@ -27,3 +27,21 @@ rule-holds false number place e = absurd (fault-not-fine e)
 
 pub holding-fine : (b : Bool) (number place : ℕ) → b ≡ true → unless b number place ≡ fine
 holding-fine b number place e = ap (λ x. unless x number place) e
+
+-- a chain of verdicts goes on behind one that is fine, and stops at a fault
+pub goes-on : {v : Verdict} (later : Verdict) → v ≡ fine → orElse v later ≡ later
+goes-on later e = ap (λ x. orElse x later) e
+
+pub stops-at : {v : Verdict} {number place : ℕ} (later : Verdict) → v ≡ fault number place → orElse v later ≡ fault number place
+stops-at later e = ap (λ x. orElse x later) e
+
+-- a rule that holds passes on, a broken one stops
+pub rule-passes : {b : Bool} (number place : ℕ) (later : Verdict) → b ≡ true → orElse (unless b number place) later ≡ later
+rule-passes number place later e = ap (λ x. orElse (unless x number place) later) e
+
+pub rule-stops : {b : Bool} (number place : ℕ) (later : Verdict) → b ≡ false → orElse (unless b number place) later ≡ fault number place
+rule-stops number place later e = ap (λ x. orElse (unless x number place) later) e
+
+-- a broken rule at the end of a chain
+pub breaking-fault : {b : Bool} (number place : ℕ) → b ≡ false → unless b number place ≡ fault number place
+breaking-fault number place e = ap (λ x. unless x number place) e

@@ -4,6 +4,8 @@ use mathlib.Core.Path.{_≡_, sym, ap, _∙_}
 use native.Mathlib.Omega.{arith}
 use borrow.Author.Needs.{needs}
 use lib.ListN.{length, take}
+use lib.Seq.{sets}
+use Rattle.numbers.specs.Numbers.{u32Bytes}
 use Rattle.numbers.specs.Bytes.{bytesOf}
 use Rattle.numbers.specs.Over.{over}
 use Rattle.numbers.proofs.Put.{put-none, put-on, length-put}
@@ -28,13 +30,17 @@ mul-number c = omega arith
 shared-slice-read-number : tie.Need-shared-slice-read-number Inv-loop μ-loop
 shared-slice-read-number c = omega arith
 
+number-requires : tie.Need-number-requires Inv-loop μ-loop
+number-requires c κs = tt
+
 mul-put-u32 : tie.Need-mul-put-u32 Inv-loop μ-loop
 mul-put-u32 c = omega arith
 
 put-u32-requires : tie.Need-put-u32-requires Inv-loop μ-loop
 put-u32-requires c κs =
-    let a = c .before .before .before .before .before .before .args in
-    let now = c .before .before .before .loop in
+    let at = c .before .before .before .before in
+    let a = at .before .before .before .args in
+    let now = at .loop in
     omega (arith, ap length (now .inv .3), length-put (a .numbers .now) (a .out .now) (now .i) (omega arith) (omega arith))
 
 add-i : tie.Need-add-i Inv-loop μ-loop
@@ -45,12 +51,17 @@ loop-less c = omega arith
 
 loop-again : tie.Need-loop-again Inv-loop μ-loop
 loop-again c =
-    let a = c .before .before .before .before .before .before .before .before .before .args in
-    let now = c .before .before .before .before .before .before .loop in (
+    let put = c .before .before in
+    let read = put .before .before in
+    let at = read .before .before .before in
+    let a = at .before .before .before .args in
+    let now = at .loop in (
       omega arith,
       omega arith,
       omega arith,
-      c .before .before .put-u32 .ensures ∙ put-on (a .numbers .now) (a .out .now) (now .out) (now .i) (omega arith) (omega arith) (now .inv .3),
+      put .put-u32 .ensures
+          ∙ ap (λ x. sets (now .out) (4 * now .i) (u32Bytes x)) (read .number .ensures .0)
+          ∙ put-on (a .numbers .now) (a .out .now) (now .out) (now .i) (omega arith) (omega arith) (now .inv .3),
     )
 
 same-length : tie.Need-same-length Inv-loop μ-loop
@@ -75,6 +86,7 @@ put-numbers-spec =
     loop-holds
     mul-number
     shared-slice-read-number
+    number-requires
     mul-put-u32
     put-u32-requires
     add-i

@@ -1,45 +1,20 @@
--- `numbers::put_u32` meets its contract: four stores, low byte first. Assumes nothing.
+-- `numbers::put_u32` meets its contract: two numbers of two bytes, the lower first. Assumes nothing.
 use Prim.Native.Nat.{_/_, _%_}
-use native.Mathlib.Omega.{arith}
-use lib.ListN.{length-set}
-use Rattle.numbers.proofs.Put.{four-stores}
+use mathlib.Core.Path.{refl}
+use Rattle.laws.proofs.Lists.{sets-on}
 use Rattle.numbers.specs.Numbers.{u16Bytes, u32Bytes}
 use borrow.Author.Needs.{needs}
 use Rattle.numbers.proofs.put_u32.Statement.{statement}
 use Rattle.numbers.proofs.put_u32.Tie as tie
 
-cast-out : tie.Need-cast-out
-cast-out c = search needs
+put-u16-requires : tie.Need-put-u16-requires
+put-u16-requires c κs = search needs
 
-slice-write-out : tie.Need-slice-write-out
-slice-write-out c = search needs
+add-put-u16 : tie.Need-add-put-u16
+add-put-u16 c = search needs
 
-cast-out-2 : tie.Need-cast-out-2
-cast-out-2 c = search needs
-
-add-out : tie.Need-add-out
-add-out c = search needs
-
-slice-write-out-2 : tie.Need-slice-write-out-2
-slice-write-out-2 c = simp length-set (omega arith)
-
-cast-out-3 : tie.Need-cast-out-3
-cast-out-3 c = search needs
-
-add-out-2 : tie.Need-add-out-2
-add-out-2 c = search needs
-
-slice-write-out-3 : tie.Need-slice-write-out-3
-slice-write-out-3 c = simp length-set (omega arith)
-
-cast-out-4 : tie.Need-cast-out-4
-cast-out-4 c = search needs
-
-add-out-3 : tie.Need-add-out-3
-add-out-3 c = search needs
-
-slice-write-out-4 : tie.Need-slice-write-out-4
-slice-write-out-4 c = simp length-set (omega arith)
+put-u16-requires-2 : tie.Need-put-u16-requires-2
+put-u16-requires-2 c κs = search needs
 
 same-length : tie.Need-same-length
 same-length c = search needs
@@ -47,25 +22,12 @@ same-length c = search needs
 returns : tie.Need-returns
 unfolding u16Bytes u32Bytes
 returns c =
-    let a = c .args in
-    let low = a .number % 65536 in
-    let high = a .number / 65536 in
-    four-stores (a .out .now) (a .at) (low % 256) (low / 256 % 256) (high % 256) (high / 256 % 256)
+    let high = c .before .before in
+    let low = high .before .before .before .before in
+    let a = low .before .before .before .args in
+    sets-on (a .out .now) (a .at) (u16Bytes (a .number % 65536)) (u16Bytes (a .number / 65536)) 2 refl (low .put-u16 .ensures)
+    (high .put-u162 .ensures)
 
 pub put-u32-spec : {M : Type 1} → statement M
 put-u32-spec =
-    tie.close
-    (tie.spec
-    cast-out
-    slice-write-out
-    cast-out-2
-    add-out
-    slice-write-out-2
-    cast-out-3
-    add-out-2
-    slice-write-out-3
-    cast-out-4
-    add-out-3
-    slice-write-out-4
-    same-length
-    returns)
+    tie.close (tie.spec put-u16-requires add-put-u16 put-u16-requires-2 same-length returns)

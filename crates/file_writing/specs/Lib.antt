@@ -1,0 +1,2 @@
+-- What a file that is written ends with.
+pub mod Ends
