@@ -1,0 +1,3 @@
+-- The order in which rows come out.
+pub mod Order
+pub mod Keys

@@ -1,0 +1,3 @@
+-- Numbers in rising order.
+pub mod Sorted
+pub mod InOrder
