@@ -1,0 +1,3 @@
+-- What a field of `stop_times.txt` says: a whole number, or a time.
+pub mod Whole
+pub mod Time

@@ -1,0 +1,30 @@
+-- `gtfs_ids::place_of` meets its contract: it reads the cell. Assumes nothing.
+use mathlib.Core.Path.{refl}
+use Rattle.gtfs_ids.specs.Book.{placeIn}
+use borrow.Author.Needs.{needs}
+use Rattle.gtfs_ids.proofs.place_of.Statement.{statement}
+use Rattle.gtfs_ids.proofs.place_of.Tie as tie
+
+mul-result : tie.Need-mul-result
+mul-result c = search needs
+
+add-result : tie.Need-add-result
+add-result c = search needs
+
+add-result-2 : tie.Need-add-result-2
+add-result-2 c = search needs
+
+mul-result-2 : tie.Need-mul-result-2
+mul-result-2 c = search needs
+
+shared-slice-read-result : tie.Need-shared-slice-read-result
+shared-slice-read-result c = search needs
+
+returns : tie.Need-returns
+unfolding placeIn
+returns c = refl
+
+pub place-of-spec : {M : Type 1} → statement M
+place-of-spec =
+    tie.close
+    (tie.spec mul-result add-result add-result-2 mul-result-2 shared-slice-read-result returns)

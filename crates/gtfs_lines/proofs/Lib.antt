@@ -1,0 +1,19 @@
+-- What cutting a text into lines and fields comes to.
+pub mod Parts
+pub mod Returns
+pub mod LineEnds
+pub mod TextLines
+pub mod Marks
+pub mod SameText
+pub mod Slices
+pub mod Naming
+pub mod Marked
+pub mod FieldEnds
+pub mod HeaderSteps
+pub mod FieldWalk
+pub mod KeptFields
+pub mod LineCuts
+pub mod Headers
+pub mod ColumnNames
+pub mod Settled
+pub mod Pinned
