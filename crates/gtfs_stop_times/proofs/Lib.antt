@@ -1,0 +1,17 @@
+-- Laws of the calls read so far, and of the notes that hold them.
+pub mod Numbers
+pub mod LastCalls
+pub mod KeptCalls
+pub mod RowsRead
+pub mod Entered
+pub mod Behind
+pub mod WithCall
+pub mod Ending
+pub mod Ready
+pub mod LineSteps
+pub mod AllLines
+pub mod HeaderLine
+pub mod Answered
+pub mod NameLines
+pub mod Written
+pub mod Settled

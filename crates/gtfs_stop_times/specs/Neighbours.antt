@@ -1,0 +1,36 @@
+-- Document 02, E2: the pairs of neighbouring calls, and the row of each, with the numbers that ids have in the whole text.
+use Prim.Native.Nat.{ℕ}
+use mathlib.Core.List.{List, [], _∷_, _++_, List·Memᴰ}
+use mathlib.Core.Path.{_≡_}
+use mathlib.Core.Option.{Option, none, some}
+use Rattle.timetable.specs.declared.Row.{Row}
+use Rattle.gtfs_stop_time.specs.StopTime.{StopTime}
+use Rattle.gtfs_stop_times.specs.Calls.{lastCall, rowBetween}
+
+-- two calls of one trip, the second read next after the first
+pub record Pair : Type 0 where
+  pub first : StopTime
+  pub second : StopTime
+
+unfoldable pub pairBehind : Option StopTime → StopTime → List Pair
+pairBehind none call = []
+pairBehind (some previous) call = record { first = previous; second = call } ∷ []
+
+-- all of them, as read; calls are given the last one first
+unfoldable pub neighbours : List StopTime → List Pair
+neighbours [] = []
+neighbours (call ∷ back) = neighbours back ++ pairBehind (lastCall (call .trip) back) call
+
+-- one row for each pair
+unfoldable pub rowsBetween : (stops trips : List (List ℕ)) → List Pair → List Row
+rowsBetween stops trips [] = []
+rowsBetween stops trips (pair ∷ pairs) = rowBetween stops trips (pair .first) (pair .second) ∷ rowsBetween stops trips pairs
+
+-- `first` and `second` are calls of one trip, and no call of it was read between them
+pub record AreNeighbours (calls : List StopTime) (first second : StopTime) : Type 0 where
+  pub later : List StopTime
+  pub between : List StopTime
+  pub earlier : List StopTime
+  pub read : calls ≡ later ++ (second ∷ (between ++ (first ∷ earlier)))
+  pub one-trip : first .trip ≡ second .trip
+  pub none-between : (call : StopTime) → List·Memᴰ call between → call .trip ≡ second .trip → ⊥
