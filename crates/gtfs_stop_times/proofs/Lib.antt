@@ -15,3 +15,5 @@ pub mod Answered
 pub mod NameLines
 pub mod Written
 pub mod Settled
+pub mod FaultNumbers
+pub mod ReadSound

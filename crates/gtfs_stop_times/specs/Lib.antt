@@ -8,3 +8,5 @@ pub mod Names
 pub mod Answers
 pub mod Neighbours
 pub mod Putting
+pub mod Sound
+pub mod FaultNumbers

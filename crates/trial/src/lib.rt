@@ -1,12 +1,11 @@
 // Document 01, "Both sides of each line": the entry points with their whole answers, for the comparison with an independent second program.
-ghost use mathlib.Core.List.{[], _∷_};
 ghost use mathlib.Core.Path.{_≡_};
 ghost use Rattle.file_layout.specs.Check.{answerOf, checked};
 ghost use Rattle.house.specs.HouseShare.{houseShare, houseAnswer};
 ghost use Rattle.file_layout.specs.Format.{versionOne};
 ghost use Rattle.query.specs.Query.{plainQuery, withCode, withMargin};
 ghost use Rattle.planner.specs.Outcome.{planOutcome, planAnswer, earliestOutcome, earliestAnswer};
-ghost use Rattle.trial.specs.Seen.{inSix, seen};
+ghost use Rattle.trial_answers.specs.Seen.{seen};
 use file_check::check;
 use file_layout::Checked;
 use house::HouseShare;
@@ -18,6 +17,7 @@ use planner::earliest_safe_arrival;
 use planner::plan;
 use query::LEAST_MARGIN;
 use query::query_of;
+use trial_answers::put_six;
 
 // The check: number, place, S, n, K.
 #[no_mangle]
@@ -159,19 +159,4 @@ fn put_earliest(found: Earliest, answer: &mut [u32])
             place,
         } => put_six(refusal, place, 0, 0, 0, 0, answer),
     }
-}
-
-// Six numbers into a buffer that has room for them.
-fn put_six(a: u32, b: u32, c: u32, d: u32, e: u32, f: u32, answer: &mut [u32])
-    ensures { λ r. ⌜ now (answer .exit) ≡ inSix (a ∷ b ∷ c ∷ d ∷ e ∷ f ∷ []) (now (answer .entry)) ⌝ }
-{
-    if answer.len() < 6 {
-        return;
-    }
-    answer[0] = a;
-    answer[1] = b;
-    answer[2] = c;
-    answer[3] = d;
-    answer[4] = e;
-    answer[5] = f;
 }

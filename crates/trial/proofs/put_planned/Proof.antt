@@ -2,7 +2,7 @@
 use mathlib.Core.Path.{_≡_, sym, ap, _∙_}
 use borrow.Author.Needs.{needs}
 use Rattle.planner.specs.Outcome.{planAnswer}
-use Rattle.trial.specs.Seen.{six, seen}
+use Rattle.trial_answers.specs.Seen.{six, seen}
 use Rattle.trial.proofs.put_planned.Statement.{statement}
 use Rattle.trial.proofs.put_planned.Tie as tie
 

@@ -5,7 +5,7 @@ use Rattle.file_layout.specs.Format.{versionOne}
 use Rattle.query.specs.declared.Query.{Query}
 use Rattle.query.specs.Query.{plainQuery}
 use Rattle.planner.specs.Outcome.{EarliestOutcome, earliestOutcome, earliestAnswer}
-use Rattle.trial.specs.Seen.{seen}
+use Rattle.trial_answers.specs.Seen.{seen}
 use Rattle.trial.proofs.trial_earliest.Statement.{statement}
 use Rattle.trial.proofs.trial_earliest.Tie as tie
 

@@ -2,7 +2,7 @@
 use mathlib.Core.Path.{_≡_, sym, ap, _∙_}
 use borrow.Author.Needs.{needs}
 use Rattle.house.specs.HouseShare.{houseAnswer}
-use Rattle.trial.specs.Seen.{six, seen}
+use Rattle.trial_answers.specs.Seen.{six, seen}
 use Rattle.trial.proofs.trial_house.Statement.{statement}
 use Rattle.trial.proofs.trial_house.Tie as tie
 

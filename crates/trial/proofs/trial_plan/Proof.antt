@@ -5,7 +5,7 @@ use borrow.Author.Needs.{needs}
 use Rattle.file_layout.specs.Format.{versionOne}
 use Rattle.query.specs.Query.{plainQuery, withCode, withMargin}
 use Rattle.planner.specs.Outcome.{PlanOutcome, planOutcome, planAnswer}
-use Rattle.trial.specs.Seen.{seen}
+use Rattle.trial_answers.specs.Seen.{seen}
 use Rattle.trial.proofs.trial_plan.Statement.{statement}
 use Rattle.trial.proofs.trial_plan.Tie as tie
 

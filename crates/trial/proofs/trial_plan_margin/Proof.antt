@@ -4,7 +4,7 @@ use borrow.Author.Needs.{needs}
 use Rattle.file_layout.specs.Format.{versionOne}
 use Rattle.query.specs.declared.Query.{Query}
 use Rattle.planner.specs.Outcome.{PlanOutcome, planOutcome, planAnswer}
-use Rattle.trial.specs.Seen.{seen}
+use Rattle.trial_answers.specs.Seen.{seen}
 use Rattle.trial.proofs.trial_plan_margin.Statement.{statement}
 use Rattle.trial.proofs.trial_plan_margin.Tie as tie
 

@@ -1,11 +1,11 @@
--- `trial::put_six` meets its contract. Assumes nothing.
+-- `trial_answers::put_six` meets its contract. Assumes nothing.
 use mathlib.Core.List.{[], _∷_}
 use native.Mathlib.Omega.{arith}
 use lib.ListN.{length-set}
-use Rattle.trial.proofs.Six.{too-short, six-stores}
+use Rattle.trial_answers.proofs.Six.{too-short, six-stores}
 use borrow.Author.Needs.{needs}
-use Rattle.trial.proofs.put_six.Statement.{statement}
-use Rattle.trial.proofs.put_six.Tie as tie
+use Rattle.trial_answers.proofs.put_six.Statement.{statement}
+use Rattle.trial_answers.proofs.put_six.Tie as tie
 
 returns : tie.Need-returns
 returns c =

@@ -1,0 +1,3 @@
+-- Laws of an answer as six numbers.
+pub mod Six
+pub mod Settled

@@ -1,0 +1,3 @@
+-- Laws of what the comparison sees of the import.
+pub mod Six
+pub mod Settled
