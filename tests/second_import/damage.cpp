@@ -116,6 +116,17 @@ bool trip_goes_back(Random &random, Draft &draft, size_t) {
   return true;
 }
 
+// Few different minutes, so that several rows of the trip depart together.
+bool times_in_any_order(Random &random, Draft &draft, size_t line) {
+  const Text trip = call_on(draft, line).trip;
+  for (DraftCall &call : draft.calls)
+    if (call.trip == trip) {
+      call.arrival = 10 * random.below(6);
+      call.departure = call.arrival + 10 * random.below(2);
+    }
+  return true;
+}
+
 bool no_call(Random &, Draft &draft, size_t) {
   draft.calls.clear();
   return true;
@@ -338,6 +349,7 @@ const std::vector<Damage> &damages() {
       {"arrives before it departed", 4, false, arrives_before_departure},
       {"no time passes", 4, false, no_time_passes},
       {"goes back in time", 5, false, trip_goes_back},
+      {"times in any order", std::nullopt, false, times_in_any_order},
       {"one stop only", 1, false, one_stop_only},
       {"no call", 1, false, no_call},
       {"column renamed", 11, true, column_renamed},
