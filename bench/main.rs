@@ -3,44 +3,22 @@
 mod baseline;
 mod compare;
 mod definitions;
+mod rounds;
 mod sailing;
 mod shapes;
 mod verified;
 
 use baseline::Trips;
+use rounds::{mean, raced};
 use shapes::Shape;
 use std::cell::RefCell;
 use std::hint::black_box;
-use std::time::{Duration, Instant};
 use verified::{Planner, NOW};
 
 // Many rounds for plans, whose ratio to another build is wanted to the hundredth; few for checks, since looking back takes long.
 const PLAN_ROUNDS: usize = 1001;
 
 const CHECK_ROUNDS: usize = 101;
-
-fn timed(turns: usize, mut job: impl FnMut()) -> Duration {
-    let start = Instant::now();
-    for _ in 0..turns {
-        job();
-    }
-    start.elapsed()
-}
-
-// The best time of each job in microseconds. The jobs take turns in many short rounds, forth and back, so that each has its quiet
-// moments and follows each neighbour.
-fn raced(rounds: usize, jobs: &mut [&mut dyn FnMut()]) -> Vec<f64> {
-    let one = timed(3, || jobs[0]()).as_secs_f64() / 3.0;
-    let turns = ((0.0005 / one) as usize).max(1);
-    let mut best = vec![f64::INFINITY; jobs.len()];
-    for round in 0..rounds {
-        for place in 0..jobs.len() {
-            let k = if round % 2 == 0 { place } else { jobs.len() - 1 - place };
-            best[k] = best[k].min(timed(turns, &mut jobs[k]).as_secs_f64() / turns as f64 * 1e6);
-        }
-    }
-    best
-}
 
 // The slices that are lent to every build alike, so that none has the better places.
 struct Lent {
@@ -126,10 +104,6 @@ fn check_shape(s: &Shape) {
     let r = raced(CHECK_ROUNDS, &mut jobs);
     print!("{:32} {:8.1} {:8.1} {:6.2} {:8.1} {:6.2}", s.name, r[0], r[1], r[0] / r[1], r[2], r[0] / r[2]);
     println!("{}", r.get(3).map_or(String::new(), |time| format!(" {:8.1} {:6.3}", time, r[0] / time)));
-}
-
-fn mean(ratios: &[f64]) -> f64 {
-    (ratios.iter().map(|r| r.ln()).sum::<f64>() / ratios.len() as f64).exp()
 }
 
 // The columns of the other build, if it is timed.
