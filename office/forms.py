@@ -5,7 +5,7 @@ from typing import Optional, Union
 import house
 import times
 from timetable import BOUND_CODES, FEWEST_STOPS, LEAST_MARGIN, LONGEST_DELAY, MARGINS, MOST_MARGIN, MOST_STOPS, SHARE_TOTAL, TICKS
-from values import OWN_WORDS, is_number, is_own, name, number, query_name, trip, whole
+from values import OWN_WORDS, is_number, is_own, name, number, query_name, stop, trip, whole
 from words import Word, WrongLine
 
 SAIL_OPTIONS = {"trip": "a trip's number or name", "class": "a class's name or number", "days": "days such as 1-5"}
@@ -86,9 +86,18 @@ def stops(words):
     return count
 
 
-def stop(words):
+def stop_line(words):
+    return called_next(words, stop, "a stop's name")
+
+
+def trip_line(words):
+    return called_next(words, trip, "a trip's name")
+
+
+def called_next(words, read, asked):
+    """What a line calls the next stop or trip: its name, or its number if it has none."""
     left = Left(words)
-    called = name(left.take("a stop's name"), "a stop's name")
+    called = read(left.take(asked))
     left.end("the line's end; a name of several words stands in double quotes")
     return called
 
@@ -164,4 +173,4 @@ def tables(words):
     return True
 
 
-FORMS = {"stops": stops, "stop": stop, "class": delay_class, "sail": sail, "query": query, "tables": tables}
+FORMS = {"stops": stops, "stop": stop_line, "trip": trip_line, "class": delay_class, "sail": sail, "query": query, "tables": tables}

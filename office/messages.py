@@ -1,4 +1,6 @@
-"""How a command ends when it can't do what it was asked: plain messages, and exit status 1."""
+"""What a command says on standard error: messages, with which it ends where it can't do what it was asked, and notes."""
+import contextlib
+import sys
 
 
 class Trouble(Exception):
@@ -7,6 +9,12 @@ class Trouble(Exception):
     def __init__(self, *messages):
         super().__init__("\n".join(messages))
         self.messages = messages
+
+
+def note(words):
+    """Tells what is worth knowing, and goes on."""
+    with contextlib.suppress(OSError):
+        print(words, file=sys.stderr)
 
 
 def reason(error):

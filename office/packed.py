@@ -42,20 +42,32 @@ def checked(path, read, *details):
         raise Trouble(f"{path}: {refused}; the program explain, run in its folder, says more") from None
 
 
+def queries_in(folder, timetable, name):
+    """The query of a folder; none where the program import wrote the folder and nobody has asked yet."""
+    try:
+        return [checked(folder / QUERY, read_query, timetable.stops, name)]
+    except FileNotFoundError:
+        if name is not None:
+            raise
+        return []
+
+
 def read_one(folder):
     """The timetable of a folder with the files themselves; a missing `names` is one without names."""
     timetable = checked(folder / SAILINGS, read_sailings)
     names = Names()
     if (folder / NAMES).exists():
         names = read_names(read_file(folder / NAMES), folder / NAMES, timetable)
-    timetable.stop_names, timetable.class_names = names.stops, names.classes
-    timetable.queries = [checked(folder / QUERY, read_query, timetable.stops, names.query)]
+    timetable.stop_names, timetable.trip_names, timetable.class_names = names.stops, names.trips, names.classes
+    timetable.queries = queries_in(folder, timetable, names.query)
     return timetable
 
 
 def read_inner(folder):
     """The timetable of a query's own folder, which bears the query's name."""
     timetable = read_one(folder)
+    if not timetable.queries:
+        raise Trouble(f"{folder / QUERY}: is missing; a folder in another one is a query's")
     query = timetable.queries[0]
     try:
         called = query_name(Word(folder.name))
@@ -68,7 +80,7 @@ def read_inner(folder):
 
 
 def read(folder):
-    """The timetable of a packed folder, with its query or the queries of the folders in it."""
+    """The timetable of a folder, with its query, if it has one, or the queries of the folders in it."""
     inner = inner_folders(folder)
     if (folder / SAILINGS).exists() and inner:
         raise Trouble(f"{folder}: holds {SAILINGS} itself and in {inner[0].name}: two packings; remove one")

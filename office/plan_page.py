@@ -76,8 +76,13 @@ class PlanPage:
 
     def first(self):
         ride = self.rides[0]
-        taken = ["Board first: the ", self.times.mark(ride.departure), " from ", self.stop(ride.board), " to ", self.stop(ride.land), ", "]
+        taken = ["Board first: the ", *self.boat(ride), " from ", self.stop(ride.board), " to ", self.stop(ride.land), ", "]
         return element("p", {"class": "first"}, *taken, *self.due(ride), ". ", self.onward(ride))
+
+    def boat(self, ride):
+        """What to look out for: the departure, and the trip if trips have names."""
+        departure = self.times.mark(ride.departure)
+        return [departure, f" ({self.timetable.trip_name(ride.trip)})"] if self.timetable.trip_names else [departure]
 
     def due(self, ride):
         """When a ride lands: the planned minute and the last one."""
@@ -134,7 +139,7 @@ class PlanPage:
             when = ["otherwise"]
         else:
             when = ["at or before ", self.times.mark(ride.departure)]
-        taken = ["take the ", self.times.mark(ride.departure), " to ", self.stop(ride.land), ","]
+        taken = ["take the ", *self.boat(ride), " to ", self.stop(ride.land), ","]
         expected = element("span", {"class": "expected"}, "expected ", self.times.mark(ride.line.expected))
         return element(
             "li",

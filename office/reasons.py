@@ -9,4 +9,4 @@ def reason_lines(timetable, answer):
     """The words of `explain`, and the names of the stops that these call by number."""
     numbers = {int(number) for number in STOP.findall(answer.words)}
     yield from (line for line in answer.words.splitlines() if line != f"refused {answer.sheet.refusal}")
-    yield from (f"stop {number} is {name}" for number, name in enumerate(timetable.stop_names) if number in numbers)
+    yield from (f"stop {number} is {name}" for number, name in enumerate(timetable.stop_names) if name and number in numbers)

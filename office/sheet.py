@@ -41,10 +41,11 @@ class Sheet:
 
 @dataclass(frozen=True)
 class Ride:
-    """A line of the sheet with the last minute of its landing."""
+    """A line of the sheet with the last minute of its landing, and its trip."""
 
     line: Line
     last: int
+    trip: int
 
     @property
     def board(self):
@@ -116,7 +117,7 @@ def ride_of(line, told, leaves, timetable):
     leave = leaves.get((trip, line.arrival, line.land))
     if trip is None or leave is None or line.arrival <= line.departure:
         raise Trouble(f"the ride from stop {line.board} at {time_text(line.departure)} is on the sheet, but explain tells no trip for it")
-    return Ride(line, line.arrival + len(timetable.tables[leave.kind]) - 1)
+    return Ride(line, line.arrival + len(timetable.tables[leave.kind]) - 1, trip)
 
 
 def check(sheet, rides, query):

@@ -12,6 +12,7 @@ from reasons import reason_lines
 from timetable import time_text
 
 TITLES = ("Board at", "departs", "Land at", "due", "expected")
+TRIP_TITLE = "trip"
 
 
 def add(commands):
@@ -42,8 +43,17 @@ def printed(timetable, answer):
         rides = counted(len(answer.rides), "ride")
         lines.append(f"expected {time_text(answer.sheet.expected)}, latest {time_text(answer.sheet.latest)}, {rides}")
         lines += left_out(answer.query)
-        lines += columns([TITLES, *(cells(timetable, line) for line in answer.sheet.lines)])
+        lines += columns(rows(timetable, answer.rides))
     return "".join(f"{line}\n" for line in lines)
+
+
+def rows(timetable, rides):
+    """The titles and the rides, with their trips where trips have names."""
+    found = [TITLES, *(cells(timetable, ride.line) for ride in rides)]
+    if not timetable.trip_names:
+        return found
+    trips = [TRIP_TITLE, *(timetable.trip_name(ride.trip) for ride in rides)]
+    return [(*row, trip) for row, trip in zip(found, trips)]
 
 
 def cells(timetable, line):

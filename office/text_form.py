@@ -7,21 +7,21 @@ from timetable import FEWEST_STOPS, MOST_ROWS, Query, Row, Timetable
 from words import WrongLine
 
 
-def legs_of(line, sailing, stops, classes):
+def legs_of(line, sailing, stops, classes, listed):
     """The rows of a line; none where wrong lines elsewhere leave open what it names."""
     board, land = stops.two((sailing.board, sailing.land))
     kind = classes.number(sailing.kind)
     if None in (board, land, kind):
         return []
-    return [trips.Leg(line, board, land, *span, goes, kind) for span, goes in zip(sailing.spans, trips.of_sailing(sailing))]
+    return [trips.Leg(line, board, land, *span, goes, kind) for span, goes in zip(sailing.spans, trips.of_sailing(sailing, listed))]
 
 
-def all_legs(text, stops, classes):
+def all_legs(text, stops, classes, listed):
     """Every row in the text's order; a wrong line has none."""
     legs, count = [], 0
     for line, sailing in text.said["sail"].items():
         try:
-            legs += legs_of(line, sailing, stops, classes)
+            legs += legs_of(line, sailing, stops, classes, listed)
         except WrongLine as wrong:
             text.tell_wrong(line, wrong)
         if count <= MOST_ROWS < count + len(sailing.spans):
@@ -64,21 +64,23 @@ def read(data, file):
     """The timetable of a text's bytes, or Trouble with a message for each wrong line."""
     text = Text(data)
     text.tell_second("tables")
-    stops, classes = called.stops(text), called.classes(text)
-    legs, queries = all_legs(text, stops, classes), all_queries(text, stops)
-    trips.tell_mixed(text)
-    trips.tell_broken(text, legs, stops)
+    stops, classes, listed = called.stops(text), called.classes(text), called.trips(text)
+    legs, queries = all_legs(text, stops, classes, listed), all_queries(text, stops)
+    trips.tell_mixed(text, listed)
+    trips.tell_broken(text, legs, stops, listed)
+    trips.tell_past(text, legs, listed)
     tell_missing(text, stops)
     if text.faults:
         raise Trouble(*(f"{file}:{line}: {text.faults[line]}" for line in sorted(text.faults)))
-    numbers = trips.numbers(legs)
+    numbers = trips.numbers(legs, listed)
     legs.sort(key=lambda leg: leg.departure)
     return Timetable(
         stops=stops.count,
         tables=[one.shares for one in text.said["class"].values()],
         rows=[Row(leg.board, leg.land, leg.departure, leg.arrival, numbers[leg.trip], leg.kind) for leg in legs],
         queries=queries,
-        stop_names=list(stops.names),
+        stop_names=stops.listed,
+        trip_names=listed,
         class_names={place: name for name, place in classes.names.items()},
         lines=[leg.line for leg in legs],
         tables_first=bool(text.said["tables"]),

@@ -49,14 +49,22 @@ class Timetable:
     tables: list[list[int]]
     rows: list[Row]
     queries: list[Query]
-    stop_names: list[str] = field(default_factory=list)  # of the first stops; the others have none
+    stop_names: list[Optional[str]] = field(default_factory=list)  # of the first stops; the others have none
+    trip_names: list[Optional[str]] = field(default_factory=list)  # likewise
     class_names: dict[int, str] = field(default_factory=dict)
     lines: list[int] = field(default_factory=list)
     tables_first: bool = False
 
     def stop_name(self, stop):
         """The stop's name, or its number in words."""
-        return self.stop_names[stop] if stop < len(self.stop_names) else f"stop {stop}"
+        return name_at(self.stop_names, stop) or f"stop {stop}"
+
+    def trip_name(self, trip):
+        return name_at(self.trip_names, trip) or f"trip {trip}"
+
+
+def name_at(names, number):
+    return names[number] if number < len(names) else None
 
 
 def time_text(minute):

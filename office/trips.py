@@ -1,8 +1,12 @@
-"""Trips: which rows are one boat, what number it has in the file, and document 01's rule that it goes on where it landed."""
+"""Trips: which rows are one boat, what number it has in the file, and document 01's rule that it goes on where it landed.
+
+Some trips have a line of their own, which gives them a name and a number: `listed` has these names by number.
+"""
+import itertools
 from dataclasses import dataclass
 from typing import Optional, Union
 
-from timetable import time_text
+from timetable import MOST_TRIPS, time_text
 from values import is_own, trip
 from words import WrongLine
 
@@ -31,27 +35,44 @@ class Leg:
     kind: int
 
 
-def of_sailing(sailing):
-    """The trip of each of a sailing's spans: a number is one boat in the file, a name with days one a day."""
-    if sailing.days and isinstance(sailing.trip, str):
+def called(trip, listed):
+    """What a trip is called, by number or name: by its name if it has a line."""
+    named = listed[trip] if isinstance(trip, int) and trip < len(listed) else None
+    return trip if named is None else named
+
+
+def of_sailing(sailing, listed):
+    """The trip of each of a sailing's spans: a number, or a name that has a line, is one boat in the file, another name with days one a
+    day."""
+    if sailing.days and isinstance(sailing.trip, str) and sailing.trip not in listed:
         return [Trip(sailing.trip, day) for day in sailing.days]
-    return [Trip(sailing.trip)] * len(sailing.spans)
+    return [Trip(called(sailing.trip, listed))] * len(sailing.spans)
 
 
-def numbers(legs):
-    """Each trip's number: its own, or for names the lowest free ones in the order in which they come."""
+def numbers(legs, listed):
+    """Each trip's number: its own, that of its line, or for other names the lowest free ones in the order in which they come."""
     trips = list(dict.fromkeys(leg.trip for leg in legs))
-    taken = {trip.called for trip in trips if isinstance(trip.called, int)}
-    free = (number for number in range(len(trips)) if number not in taken)
-    return {trip: trip.called if isinstance(trip.called, int) else next(free) for trip in trips}
+    own = {name: number for number, name in enumerate(listed)} | {trip.called: trip.called for trip in trips if isinstance(trip.called, int)}
+    taken = {*range(len(listed)), *own.values()}
+    free = (number for number in itertools.count() if number not in taken)
+    return {trip: own[trip.called] if trip.called in own else next(free) for trip in trips}
 
 
-def tell_mixed(text):
-    """Tells a trip's name that stands on lines with days and on lines without."""
+def tell_past(text, legs, listed):
+    """Tells the first trip that has no number left."""
+    found = numbers(legs, listed)
+    for leg in legs:
+        if found[leg.trip] >= MOST_TRIPS:
+            text.tell(leg.line, leg.trip, f"one of at most {MOST_TRIPS} trips, {len(listed)} of which have a line of their own")
+            return
+
+
+def tell_mixed(text, listed):
+    """Tells a trip's name that stands on lines with days and on lines without, and would be one boat here and several there."""
     first = {}
     for line, sailing in text.said["sail"].items():
         before, repeated = first.setdefault(sailing.trip, (line, bool(sailing.days)))
-        if isinstance(sailing.trip, str) and repeated != bool(sailing.days):
+        if isinstance(sailing.trip, str) and sailing.trip not in listed and repeated != bool(sailing.days):
             here, there = ("with", "without") if sailing.days else ("without", "with")
             text.tell(line, f"trip {sailing.trip} {here} days", f"the trip {there} days as on line {before}, or another name")
 
@@ -67,11 +88,12 @@ def readable(words):
         return None
 
 
-def left_open(text, legs):
+def left_open(text, legs, listed):
     """What the trips are called that lines without rows belong to; None among them stands for any trip."""
     whole = {leg.line for leg in legs} - set(text.faults)
     unread = [readable(words) for words in text.wrong["sail"].values()]
-    return {sailing.trip for line, sailing in text.said["sail"].items() if line not in whole}.union(unread)
+    unread += [sailing.trip for line, sailing in text.said["sail"].items() if line not in whole]
+    return {called(trip, listed) for trip in unread}
 
 
 def broken(legs):
@@ -90,14 +112,15 @@ def fault(leg, before, stop_name, repeated):
     asked = f"a departure no earlier than {time_text(before.arrival)}, when {there} lands it"
     if before.land != leg.board:
         asked = f"it to go on from {stop_name(before.land)}, where {there} lands it at {time_text(before.arrival)}"
-    if repeated and isinstance(leg.trip.called, int):
-        asked += "; a number is one boat in the whole week, a name on lines with days is one boat a day"
+    if repeated and leg.trip.day is None:
+        one = "a number" if isinstance(leg.trip.called, int) else "a name with a line of its own"
+        asked += f"; {one} is one boat in the whole week, another name on lines with days is one boat a day"
     return f"{leg.trip} from {stop_name(leg.board)} at {time_text(leg.departure)}", asked
 
 
-def tell_broken(text, legs, stops):
+def tell_broken(text, legs, stops, listed):
     """Tells the rows that break the rule of their trips, of trips that no wrong line can belong to."""
-    unjudged = left_open(text, legs)
+    unjudged = left_open(text, legs, listed)
     if None in unjudged or not stops.complete:
         return
     names = {place: name for name, place in stops.names.items()}

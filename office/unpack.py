@@ -4,7 +4,7 @@ import sys
 
 import house
 import packed
-from timetable import time_text
+from timetable import name_at, time_text
 from values import in_text
 
 
@@ -12,9 +12,19 @@ def add(commands):
     parser = commands.add_parser(
         "unpack", help="print the text of a packed folder",
         description="Prints a text that packs to the same files. FOLDER has the files sailings and query, and names if there are "
-        "names; or it has folders with these, one for each query.")
-    parser.add_argument("folder", metavar="FOLDER", type=pathlib.Path, help="a folder that pack wrote")
+        "names; or it has folders with these, one for each query. Of a folder that the program import wrote, which has no query yet, "
+        "it prints a text to which one is to be added.")
+    parser.add_argument("folder", metavar="FOLDER", type=pathlib.Path, help="a folder that pack or import wrote")
     parser.set_defaults(run=run)
+
+
+def called(names, number):
+    """A stop or trip by its name, or by its number if it has none."""
+    return written(name_at(names, number), number)
+
+
+def written(name, number):
+    return str(number) if name is None else in_text(name)
 
 
 def class_text(table, name):
@@ -32,21 +42,24 @@ def query_text(query, stops):
 
 
 def text(timetable):
-    """The lines of a text that becomes this timetable."""
-    stop_names, class_names = timetable.stop_names, timetable.class_names
-    stops = [in_text(name) for name in stop_names] + [str(stop) for stop in range(len(stop_names), timetable.stops)]
+    """The lines of a text that becomes this timetable, once it has a query."""
+    stop_names, class_names, trip_names = timetable.stop_names, timetable.class_names, timetable.trip_names
+    stops = [called(stop_names, stop) for stop in range(timetable.stops)]
     if len(stop_names) < timetable.stops:
         yield f"stops {timetable.stops}"
-    yield from (f"stop {in_text(name)}" for name in stop_names)
+    yield from (f"stop {stop}" for stop in stops[:len(stop_names)])
+    yield from (f"trip {called(trip_names, trip)}" for trip in range(len(trip_names)))
     for kind, table in enumerate(timetable.tables):
         yield class_text(table, class_names.get(kind))
     if timetable.tables_first:
         yield "tables first"
     for row in timetable.rows:
-        kind = in_text(class_names.get(row.kind, str(row.kind)))
+        kind = written(class_names.get(row.kind), row.kind)
         times = f"{time_text(row.departure)} {time_text(row.arrival)}"
-        yield f"sail {stops[row.board]} {stops[row.land]} {times} trip {row.trip} class {kind}"
+        yield f"sail {stops[row.board]} {stops[row.land]} {times} trip {called(trip_names, row.trip)} class {kind}"
     yield from (query_text(query, stops) for query in timetable.queries)
+    if not timetable.queries:
+        yield f"# no query yet: add a line such as  query {stops[0]} {stops[1]} d1 07:00"
 
 
 def run(arguments):

@@ -1,7 +1,7 @@
 """The numbers and names that a word can be."""
 import re
 
-from timetable import MOST_TRIPS
+from timetable import MOST_STOPS, MOST_TRIPS
 from words import Word, WrongLine
 
 OWN_WORDS = ("stop", "stops", "class", "shares", "house", "sail", "trip", "days", "query", "name", "bound", "margin", "tables",
@@ -36,11 +36,24 @@ def number(word, least, most, asked):
     raise WrongLine(word, f"{asked} ({span}, in plain digits)")
 
 
-def name(word, asked):
+def is_plain(text):
+    """Whether a name needs no quotes to be told from numbers, times and the form's own words."""
+    return text not in OWN_WORDS and any(letter.isalpha() for letter in text)
+
+
+def ask_plain(word, asked, else_asked=""):
     if word.text in OWN_WORDS:
-        raise WrongLine(word, f"{asked} that is none of the form's own words")
-    if not any(letter.isalpha() for letter in word.text):
-        raise WrongLine(word, f"{asked} with a letter in it")
+        raise WrongLine(word, f"{asked} that is none of the form's own words{else_asked}")
+    if not is_plain(word.text):
+        raise WrongLine(word, f"{asked} with a letter in it{else_asked}")
+
+
+def name(word, asked):
+    """A plain name, or in quotes any that can be seen."""
+    if not word.quoted:
+        ask_plain(word, asked, ", or in double quotes")
+    if not word.text.strip(" "):
+        raise WrongLine(word, f"{asked} that can be seen")
     if len(word.text) > LONGEST_NAME:
         raise WrongLine(word, f"{asked} of at most {LONGEST_NAME} characters, not {len(word.text)}")
     return word.text
@@ -48,6 +61,7 @@ def name(word, asked):
 
 def query_name(word):
     """It becomes a folder's name."""
+    ask_plain(word, "a query's name")
     text = name(word, "a query's name")
     if not FOLDER_NAME.fullmatch(text):
         raise WrongLine(word, "a query's name of the letters a to z and A to Z, digits, - and _")
@@ -63,9 +77,20 @@ def trip(word):
     return name(word, "a trip's number or its name")
 
 
+def stop(word):
+    """A stop's name, or the number of one that has none."""
+    if is_number(word):
+        return number(word, 0, MOST_STOPS - 1, "a stop's name, or its number if it has none")
+    return name(word, "a stop's name")
+
+
+def quoted(name):
+    return f'"{name}"'
+
+
 def in_text(name):
-    """A name as the text form writes it."""
-    return name if BARE_NAME.fullmatch(name) else f'"{name}"'
+    """A name as the text form writes it, in quotes if it needs them."""
+    return name if is_plain(name) and BARE_NAME.fullmatch(name) else quoted(name)
 
 
 def one_edit_apart(some, other):

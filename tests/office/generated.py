@@ -42,9 +42,12 @@ def text(seed):
     classes = [table(chance) for _ in range(chance.randrange(1, 5))]
     lines = [f"stops {stops}", *(f"stop {name}" for name in called[:len(named)])]
     lines += ["class " + " ".join(map(str, shares)) for shares in classes]
-    for board, land, departs, arrives, trip in boats(chance, stops, start, end):
+    rows = boats(chance, stops, start, end)
+    trips = [f'"{trip}-<{seed}>"' for trip in range(400)] if seed % 4 == 0 else range(400)  # by name or by number
+    lines += [f"trip {trip}" for trip in trips if seed % 4 == 0]
+    for board, land, departs, arrives, trip in rows:
         kind = chance.randrange(len(classes))
-        lines.append(f"sail {called[board]} {called[land]} {clock(departs)} {clock(arrives)} trip {trip} class {kind}")
+        lines.append(f"sail {called[board]} {called[land]} {clock(departs)} {clock(arrives)} trip {trips[trip]} class {kind}")
     queries = chance.randrange(1, 4)
     for number in range(queries):
         source, target = sorted(chance.sample(range(stops), 2)) if number == 2 else (chance.randrange(2), stops - 1)

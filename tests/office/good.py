@@ -49,7 +49,7 @@ sail "North Island" Straße d1 07:40 08:30 class "the bus" trip early
 query name morning bound 8 Harbour 2 d1 06:45
 """
 NAMED_FILES = files([(0, 1, 420, 460, 0, 2), (1, 2, 460, 510, 0, 0)], [[4096], [4095, 1], [2048, 2048]], 3, (0, 2, 405, 8),
-                    'stop Harbour\nstop "North Island"\nstop Straße\nclass 0 "the bus"\nclass 2 fast\nquery morning\n')
+                    'stop "Harbour"\nstop "North Island"\nstop "Straße"\nclass 0 "the bus"\nclass 2 "fast"\nquery morning\n')
 
 
 def days_case():
@@ -72,7 +72,7 @@ query A B d7 23:59
     rows += [(2, 3, minute(day, 8, 0), minute(day, 8, 30), trip, 0) for day, trip in ((6, 4), (7, 5), (1, 0))]
     rows += [(3, 2, minute(day, 8, 30), minute(day, 9, 0), trip, 0) for day, trip in ((6, 4), (7, 5))]
     rows.sort(key=lambda row: row[2])
-    return text, files(rows, [[4096]], 4, (0, 1, 10079, 0), "stop A\nstop B\n")
+    return text, files(rows, [[4096]], 4, (0, 1, 10079, 0), 'stop "A"\nstop "B"\n')
 
 
 def shuttle_case():
@@ -102,7 +102,7 @@ sail A B d1 07:00 07:30 trip north class 0
 query A C d1 06:00
 """
     rows = [(0, 1, 420, 450, 1, 0), (0, 1, 480, 510, 0, 0), (2, 0, 480, 520, 3, 0), (1, 0, 480, 500, 2, 0), (1, 2, 540, 570, 1, 0)]
-    return text, files(rows, [[4096]], 3, (0, 2, 360, 0), "stop A\nstop B\nstop C\n")
+    return text, files(rows, [[4096]], 3, (0, 2, 360, 0), 'stop "A"\nstop "B"\nstop "C"\n')
 
 
 def margin_cases():
@@ -113,6 +113,47 @@ def margin_cases():
     text, wanted = several_case()
     short = writer.query_bytes(2, 0, 1445, 16, 256)
     yield "margin on one of two", text.replace("bound 16", "margin 256 bound 16"), {**wanted, "Two_2/query": short}
+
+
+def quoted_case():
+    """Names that are numbers, times or the form's own words, in quotes; stops that go by their numbers among others."""
+    text = """stops 4
+stop "7"
+stop 1
+stop "sail"
+class "4096" shares 4096
+class 4095 1
+sail "7" 1 d1 07:00 07:30 trip "d1 07:00" class "4096"
+sail 1 "sail" d1 08:00 08:30 class 1 trip "d1 07:00"
+sail "sail" 3 d1 09:00 09:30 trip 0 class 1
+query "7" 3 d1 06:00
+"""
+    rows = [(0, 1, 420, 450, 1, 0), (1, 2, 480, 510, 1, 1), (2, 3, 540, 570, 0, 1)]
+    return text, files(rows, [[4096], [4095, 1]], 4, (0, 3, 360, 0), 'stop "7"\nstop 1\nstop "sail"\nclass 0 "4096"\n')
+
+
+def trips_case():
+    """Trips that have a line: by name or number they are one boat, with days too; the others take free numbers behind them."""
+    text = """stops 2
+trip "12"
+trip 1
+trip night
+class 4096
+sail 0 1 d1 08:00 08:30 trip other class 0
+sail 0 1 07:00 07:30 trip "12" class 0 days 1-2
+sail 1 0 09:00 09:30 trip 0 class 0 days 1,2
+sail 1 0 d3 07:00 07:30 trip night class 0
+sail 0 1 d3 08:00 08:30 trip 2 class 0
+sail 0 1 d3 08:00 08:30 trip "1" class 0
+sail 0 1 d4 08:00 08:30 trip 1 class 0
+query 0 1 d1 06:00
+"""
+    rows = [(0, 1, minute(day, 7, 0), minute(day, 7, 30), 0, 0) for day in (1, 2)]
+    rows += [(1, 0, minute(day, 9, 0), minute(day, 9, 30), 0, 0) for day in (1, 2)]
+    rows += [(0, 1, 480, 510, 3, 0), (1, 0, minute(3, 7, 0), minute(3, 7, 30), 2, 0), (0, 1, minute(3, 8, 0), minute(3, 8, 30), 2, 0)]
+    rows += [(0, 1, minute(3, 8, 0), minute(3, 8, 30), 4, 0), (0, 1, minute(4, 8, 0), minute(4, 8, 30), 1, 0)]
+    rows.sort(key=lambda row: row[2])
+    return text, files(rows, [[4096]], 2, (0, 1, 360, 0), 'trip "12"\ntrip 1\ntrip "night"\n')
 
 
 def several_case():
@@ -128,7 +169,7 @@ def widest_case():
     rows = [(number % 199, 199, 10078 if number else 0, 10079, number, number % 16) for number in range(2000)]
     lines = [f"stop s{place}" for place in range(200)] + ["class " + " ".join(map(str, shares))] * 16
     lines += [f"sail s{row[0]} 199 {writer.time(row[2])} {writer.time(row[3])} trip {row[4]} class {row[5]}" for row in rows]
-    names = "".join(f"stop s{place}\n" for place in range(200))
+    names = "".join(f'stop "s{place}"\n' for place in range(200))
     return "\n".join([*lines, "query 0 199 d7 23:59 bound 16"]), files(rows, [shares] * 16, 200, (0, 199, 10079, 16), names)
 
 
@@ -153,15 +194,16 @@ def cases():
     yield "names, letters and accents apart", NAMED.replace("Straße", "Stra\u0308ße").encode(), {
         **NAMED_FILES, "names": NAMED_FILES["names"].replace("Straße".encode(), "Sträße".encode())}
     yield "a # in quotes", NAMED.replace("Harbour", '"Pier #1"').encode(), {
-        **NAMED_FILES, "names": NAMED_FILES["names"].replace(b"Harbour", b'"Pier #1"')}
+        **NAMED_FILES, "names": NAMED_FILES["names"].replace(b"Harbour", b"Pier #1")}
     for what, (text, wanted) in {"days": days_case(), "shuttle": shuttle_case(), "sorted": sorted_case(), "several": several_case(),
+                                 "quoted": quoted_case(), "trips": trips_case(),
                                  "widest": widest_case()}.items():
         yield what, text.encode(), wanted
     for what, text, wanted in margin_cases():
         yield what, text.encode(), wanted
     for pair in PAIRS:
         text = f"stops 2\nclass h house {pair[0]} {pair[1]}\nquery 0 1 d1 00:00"
-        yield f"house {pair}", text.encode(), files([], [house_table(*pair)], 2, (0, 1, 0, 0), "class 0 h\n")
+        yield f"house {pair}", text.encode(), files([], [house_table(*pair)], 2, (0, 1, 0, 0), 'class 0 "h"\n')
 
 
 def failure(what, text, wanted):

@@ -14,13 +14,14 @@ from running import ROOT, called, finish, room
 
 TEXTS = 260
 NEAR = 0.02  # places in a drawing have two digits
-Ride = namedtuple("Ride", "board departure land arrival expected last")
+Ride = namedtuple("Ride", "board departure land arrival expected last trip")
 TIME = r"(?:d\d )?\d\d:\d\d"
 WHEN = rf"(?:at or before (?P<limit>{TIME})|(?P<last>otherwise|then|whenever you land))"
-TAKE = rf"take the (?P<departure>{TIME}) to (?P<land>.+)"
+BOAT = rf"(?P<departure>{TIME})(?: \((?P<trip>.+?)\))?"
+TAKE = rf"take the {BOAT} to (?P<land>.+)"
 DUE = rf"due (?P<arrival>{TIME})(?:, at the latest (?P<latest>{TIME}))?\."
 CHOICE = re.compile(rf"{WHEN} {TAKE}, {DUE} (?:Go on at (?P<go>\d+)|There you are\.) (?P<target>.+) expected (?P<expected>{TIME})")
-FIRST = re.compile(rf"Board first: the (?P<departure>{TIME}) from (?P<board>.+) to (?P<land>.+), {DUE} (?:Go on at (?P<go>\d+)|There you are\.)")
+FIRST = re.compile(rf"Board first: the {BOAT} from (?P<board>.+) to (?P<land>.+), {DUE} (?:Go on at (?P<go>\d+)|There you are\.)")
 LEFT_OUT = re.compile(
     r"Rides that gain less than (?:(?P<ticks>\d+) ticks \(under )?(?:(?P<minutes>\d+) minutes? ?)?(?:(?P<seconds>\d+) seconds?)?\)? on the next from "
     r"their stop are left out\.")
@@ -62,7 +63,7 @@ def sheet_rides(sheet, rows, delays):
         trips = [row[4] for row in rows if row[0] == board and row[2] == departs]
         kinds = [row[5] for row in rows if row[4] == trips[0] and row[1] == land and row[3] == arrives]
         demand(len(trips) == 1 and len(kinds) == 1, f"one trip and one leaving row of {line}")
-        yield Ride(board, departs, land, arrives, minute(expected), arrives + delays[kinds[0]])
+        yield Ride(board, departs, land, arrives, minute(expected), arrives + delays[kinds[0]], trips[0])
 
 
 def words_of(element):
@@ -84,8 +85,8 @@ class Plan:
         self.head = (folder / "sheet").read_text().splitlines()[0]
         self.rides = list(sheet_rides((folder / "sheet").read_text(), rows, delays))
         self.rides_from = {stop: sorted(ride for ride in self.rides if ride.board == stop) for stop in {ride.board for ride in self.rides}}
-        names = re.findall(r'^stop (?:"(.*)"|(.*))$', (folder / "names").read_text(), re.MULTILINE)
-        self.names = dict(enumerate(quoted or plain for quoted, plain in names))
+        names = (folder / "names").read_text()
+        self.names, self.trips = (dict(enumerate(re.findall(rf'^{kind} "(.*)"$', names, re.MULTILINE))) for kind in ("stop", "trip"))
         text = (folder / "page.html").read_text()
         demand(text.startswith("<!DOCTYPE html>\n"), "a doctype")
         self.page = ElementTree.fromstring(text.split("\n", 1)[1])
@@ -125,6 +126,7 @@ def check_ride(plan, told, ride):
     times = [plan.minute(told["departure"]), plan.minute(told["arrival"]), plan.minute(told["latest"] or told["arrival"])]
     demand(times == [ride.departure, ride.arrival, ride.last], f"the times of {ride} in {told[0]}")
     demand(told["land"] == plan.name(ride.land), f"the stop of {ride} in {told[0]}")
+    demand(told["trip"] == plan.trips.get(ride.trip), f"the trip of {ride} in {told[0]}")
     demand((told["go"] is None) == (ride.land == plan.target), f"where {ride} goes on in {told[0]}")
 
 

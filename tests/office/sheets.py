@@ -58,6 +58,15 @@ Board at  departs   Land at  due       expected
 stop 0    d1 10:00  stop 1   d1 10:30  d1 11:01
 stop 1    d1 10:50  stop 2   d1 11:01  d1 11:01
 """
+# the partner's ids: a stop and a trip that go by their numbers, and a trip that no boat makes
+IDS = W.replace("stops 3", 'stop "4101"\nstop 1\nstop "LH"\ntrip "12-0630"\ntrip 1\ntrip "none"\ntrip "N 1"')
+IDS_PRINTED = """4101 to LH, from d1 09:50
+expected d1 11:15, latest d1 11:30, 3 rides
+Board at  departs   Land at  due       expected  trip
+4101      d1 10:00  stop 1   d1 10:30  d1 11:15  12-0630
+stop 1    d1 10:32  LH       d1 11:00  d1 11:00  trip 1
+stop 1    d1 10:50  LH       d1 11:30  d1 11:30  N 1
+"""
 SHEET = (ROOT / "examples" / "w" / "sheet").read_text()
 LINES = SHEET.splitlines(keepends=True)
 
@@ -205,7 +214,8 @@ def stale_failures():
 def main():
     failures = [printed_failure("W", W, W_PRINTED, 0), printed_failure("two queries", TWO, TWO_PRINTED, 1)]
     failures.append(printed_failure("margins", MARGINS, MARGINS_PRINTED, 0))
-    failures += [written_failure(name, (ROOT / "examples" / f"{name}.txt").read_text()) for name in ("w", "islands", "week")]
+    failures.append(printed_failure("ids", IDS, IDS_PRINTED, 0))
+    failures += [written_failure(name, (ROOT / "examples" / f"{name}.txt").read_text()) for name in ("w", "islands", "week", "partner")]
     failures += [written_failure(f"text {seed}", generated.text(seed)) for seed in range(40)]
     failures += [*programs_failures(), *placed_failures(), *stale_failures()]
     finish("sheets", len(failures), [failure for failure in failures if failure])

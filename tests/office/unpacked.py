@@ -10,7 +10,7 @@ from running import called, files_in, finish, room, writer
 COUNT = 2000
 SEED = 1
 LETTERS = "abcxyzABC äßéйλ北é-_.,:'()/\\+#0123456789"
-ORDINARY = ("Harbour", "d1", "days of old", "07:00x", "Sail", "#one")
+ORDINARY = ("Harbour", "d1", "days of old", "07:00", "Sail", "sail", "first", "+1", "#one")
 
 
 def chance_table(chance):
@@ -40,17 +40,20 @@ def chance_rows(chance, stops, classes, count):
 
 
 def chance_names(chance, count):
-    """Different names, each with a letter."""
+    """Different names, with letters and without."""
     found = {}
     while len(found) < count:
         name = chance.choice(ORDINARY) if chance.random() < 0.1 else "".join(chance.choice(LETTERS) for _ in range(chance.randrange(1, 20)))
-        name = f"{name}n{len(found)}"
-        found[name] = None
+        name = chance.choice((f"{name}n{len(found)}", f"{len(found)}", name))
+        if name.strip():
+            found[name] = None
     return list(found)
 
 
-def as_word(name):
-    return f'"{name}"' if " " in name or "#" in name else name
+def name_lines(chance, kind, count):
+    """Names as the file `names` has them; now and then one goes by its number."""
+    names = chance_names(chance, count)
+    return "".join(f"{kind} {place}\n" if chance.random() < 0.05 else f'{kind} "{name}"\n' for place, name in enumerate(names))
 
 
 def chance_files(chance):
@@ -62,9 +65,10 @@ def chance_files(chance):
     query = writer.query_bytes(source, target, chance.choice((0, 590, 10079)), chance.choice((0, 4, 9, 16)), margin)
     names = ""
     if chance.random() < 0.7:
-        names += "".join(f"stop {as_word(name)}\n" for name in chance_names(chance, chance.choice((0, 1, stops))))
+        names += name_lines(chance, "stop", chance.choice((0, 1, stops)))
+        names += name_lines(chance, "trip", chance.choice((0, 0, 1, 6)))
         for kind, name in enumerate(chance_names(chance, classes)):
-            names += f"class {kind} {as_word(name)}\n" if chance.random() < 0.7 else ""
+            names += f'class {kind} "{name}"\n' if chance.random() < 0.7 else ""
         names += chance.choice(("", "query to-day_1\n"))
     return {"sailings": writer.sailing_file(rows, tables, stops, chance.random() < 0.5), "query": query, "names": names.encode()}
 
@@ -152,7 +156,9 @@ def query_failure(folder, query, piece):
 
 
 WRONG_NAMES = (b"stop A\nstop B\nstop C\nstop D\n", b"stop A\nstop A\n", b"class 2 x\n", b"class 0 x\nclass 0 y\n", b"class 0 x\nclass 1 x\n",
-               b"query a\nquery b\n", b"query a/b\n", b"stop\n", b"stop 5\n", b"stop A B\n", b"\xff\n", b'stop "A\n', b"what A\n", b"class x 0\n")
+               b"query a\nquery b\n", b"query a/b\n", b"stop\n", b"stop 5\n", b"stop A B\n", b"\xff\n", b'stop "A\n', b"what A\n", b"class x 0\n",
+               b"stop \xff\n", b"trip A\ntrip A\n", b"trip 1\n", b'stop "A"\nstop "B"\nstop "C"\nstop "D"\n', b'trip "a"b"\n',
+               b"".join(b'trip "%d"\n' % trip for trip in range(2001)))
 
 
 def names_failure(folder, names):
@@ -161,19 +167,49 @@ def names_failure(folder, names):
     return None if status == 1 and not out and "/names:" in err and "read " in err else f"names {names}: ended with {status}: {out}{err}"
 
 
+IDS = (
+    (b"4101", '"4101"', ""), (b"stop", '"stop"', ""), (b"West Pier", '"West Pier"', ""), (b"Quai", "Quai", ""), (b"#1", '"#1"', ""),
+    ("Stra\u0308\u00dfe".encode(), "Sträße", ""), (b"\xff", None, "UTF-8"), (b"a\tb", None, "U+0009"), (b"a\rb", None, "U+000D"), (b"\x00", None, "U+0000"),
+    ("\u00a0".encode(), None, "NO-BREAK SPACE"), (b"  ", None, "that can be seen"), (b"last", None, "a second time"),
+)
+
+
+def ids_failure(folder, name, word, told):
+    """A folder as the program import writes it: its ids come back as names, or, where they are none, as numbers, which is told; and once
+    it has a query it packs to the same sailings."""
+    names = b'stop "%s"\nstop "4102"\nstop "last"\ntrip "%s"\ntrip "last"\n' % (name, name)
+    if told == "a second time":
+        names, word = b'stop "last"\nstop "last"\nstop "4103"\ntrip "%s"\ntrip "last"\n' % name, "last"
+    lay(f"{folder}/old", {"sailings": writer.sailing_file(), "names": names})
+    status, out, err = called("unpack", f"{folder}/old")
+    notes = [line for line in err.splitlines() if told and told in line and line.endswith("goes by its number")]
+    if status or len(notes) != err.count("\n") or len(notes) != (2 if told else 0) or f"stop {word or 0}\n" not in out or f"trip {word or 0} class" not in out:
+        return f"id {name}: ended with {status}: {out}{err}"
+    if not out.endswith(" d1 07:00\n") or "# no query yet: add a line such as  query" not in out:
+        return f"id {name}: no hint: {out}"
+    asked = out.replace("# no query yet: add a line such as  ", "").replace("d1 07:00", "d1 09:50").encode()
+    pathlib.Path(folder, "text").write_bytes(asked)
+    shutil.rmtree(f"{folder}/new", ignore_errors=True)
+    ended = called("pack", "--quiet", f"{folder}/text", f"{folder}/new")
+    new = files_in(f"{folder}/new")
+    same = new.get("sailings") == writer.sailing_file() and (bool(told) or new.get("names") in (names, names.replace(name, word.encode())))
+    return None if ended == (0, "", "") and same else f"id {name}: packed {ended}: {asked.decode()}"
+
+
 def several():
     """What the folder has, whether it is one text's, and a piece of the text or message."""
-    one = {"sailings": writer.sailing_file(), "query": writer.query_bytes(), "names": b"stop A\nquery one\n"}
-    two = one | {"query": writer.query_bytes(2, 0), "names": b"stop A\nquery two\n"}
+    one = {"sailings": writer.sailing_file(), "query": writer.query_bytes(), "names": b'stop "A"\nquery one\n'}
+    two = one | {"query": writer.query_bytes(2, 0), "names": b'stop "A"\nquery two\n'}
     both = {"one": one, "two": two}
     yield both, True, "query name two 2 A"
-    yield {"one": one, "two": two | {"names": b"stop B\nquery two\n"}}, False, "names are not those of one"
+    yield {"one": one, "two": two | {"names": b'stop "B"\nquery two\n'}}, False, "names are not those of one"
     yield {"one": one, "two": two | {"sailings": writer.sailing_file(rows_first=False)}}, False, "names are not those of one"
     yield {"one": one, "three": two}, False, "call the query two"
-    yield {"one": one, "a b": two | {"names": b"stop A\n"}}, False, "asked for a query's name"
+    yield {"one": one, "a b": two | {"names": b'stop "A"\n'}}, False, "asked for a query's name"
     yield both | {".": one}, False, "two packings"
     yield {"one": two | {"sailings": b""}}, False, "refused 1"
     yield {"one": {"query": b""}}, False, "No such file"
+    yield {"one": one, "two": {"sailings": one["sailings"]}}, False, "two/query: is missing"
 
 
 def several_failure(folder, folders, fine, piece):
@@ -196,6 +232,7 @@ def main():
         failures += [edge_failure(folder, *edge) for edge in EDGES]
         failures += [query_failure(folder, *case) for case in QUERIES]
         failures += [names_failure(folder, names) for names in WRONG_NAMES]
+        failures += [ids_failure(folder, *case) for case in IDS]
         failures += [several_failure(folder, *case) for case in several()]
     failures += [f"only {seen.get(number, 0)} files were refused {number}" for number in range(7) if seen.get(number, 0) < 10]
     finish("unpacked files", len(failures), [one for one in failures if one])

@@ -81,7 +81,7 @@ SAILS = [
     ("sail 0 1 d1 10:00 d1 10:30 trip 2000 class 1", "read 2000, asked for a trip's number (0 to 1999"),
     ("sail 0 1 d1 10:00 d1 10:30 trip -1 class 1", "with a letter in it"),
     ("sail 0 1 d1 10:00 d1 10:30 trip ٣ class 1", "with a letter in it"),
-    ("sail 0 1 d1 10:00 d1 10:30 trip \"8\" class 1", "with a letter in it"),
+    ("sail 0 1 d1 10:00 d1 10:30 trip \"\" class 1", "that can be seen"),
     ("sail 0 1 d1 10:00 d1 10:30 trip 8 class 2", "read 2, asked for the name or number of a class that the text has (0 to 1"),
     ("sail 0 1 d1 10:00 d1 10:30 trip 8 class Ferry", "is ferry meant?"),
     ("sail 0 1 d1 10:00 d1 10:30 trip 8 class fast", "read fast, asked for the name or number of a class"),
@@ -104,10 +104,13 @@ OTHERS = [
     ("stop Harbour", "another name than that of line 1"),
     ("stop", "read the line's end, asked for a stop's name"),
     ("stop South Island", "several words stands in double quotes"),
-    ("stop 7", "with a letter in it"),
-    ('stop ""', "with a letter in it"),
-    ("stop class", "none of the form's own words"),
-    ('stop "days"', "none of the form's own words"),
+    ("stop 7", "read stop 7, asked for a name, in double quotes if it has no letter, or 3, the stop's own number"),
+    ("stop 200", "read 200, asked for a stop's name, or its number if it has none (0 to 199"),
+    ("stop 7:00", "with a letter in it, or in double quotes"),
+    ('stop ""', "that can be seen"),
+    ('stop "  "', "that can be seen"),
+    ('stop "Harbour"', "another name than that of line 1"),
+    ("stop class", "none of the form's own words, or in double quotes"),
     ("stop margin", "none of the form's own words"),
     ("stop " + "x" * 61, "at most 60 characters, not 61"),
     ('stop "a"b', "a double quote inside a word"),
@@ -146,7 +149,11 @@ OTHERS = [
     ("sial 0 1 d1 10:00 d1 10:30 trip 8 class 1", "(is sail meant?)"),
     ("STOP A", "(is stop meant?)"),
     ('"stop" A', 'at the line\'s start, without quotes'),
-    ("trip 8", "read trip, asked for one of"),
+    ("trip", "read the line's end, asked for a trip's name"),
+    ("trip 8", "read trip 8, asked for a name, in double quotes if it has no letter, or 0, the trip's own number"),
+    ("trip 2000", "read 2000, asked for a trip's number (0 to 1999"),
+    ("trip 7:00", "with a letter in it, or in double quotes"),
+    ("trip night boat", "several words stands in double quotes"),
 ]
 QUERIES = [
     ("query Harbour Harbour d1 06:45", "two different stops"),
@@ -177,6 +184,8 @@ QUERIES = [
     ("query 0 2 d1 06:45 name a name b", "read a second name"),
     ("query 0 2 d1 06:45 name ..", "with a letter in it"),
     ("query 0 2 d1 06:45 name 7", "with a letter in it"),
+    ('query 0 2 d1 06:45 name "7"', "with a letter in it"),
+    ('query 0 2 d1 06:45 name "days"', "none of the form's own words"),
     ("query 0 2 d1 06:45 name a/b", "the letters a to z"),
     ("query 0 2 d1 06:45 name früh", "the letters a to z"),
     ("query 0 2 d1 06:45 name Sailings", "none of the files"),
@@ -236,6 +245,14 @@ def of_trips():
     yield "a misspelt line, no trip judged", added(away, "sial"), {LAST + 1: "is sail meant"}
     twice = [f"sail 0 1 d1 10:0{place} 10:30 trip 9 class bus" for place in range(2)]
     yield "the same boat twice", added(*twice), {LAST + 1: f"line {LAST} lands it"}
+    own = "sail 0 1 10:00 10:30 trip own class bus days 1-5"
+    yield "a name with a line, with days", added("trip own", own), {LAST + 1: "d1 10:30; a name with a line of its own is one boat"}
+    yield "one name for two trips", added("trip own", "trip 1", 'trip "own"'), {LAST + 2: f"another name than that of line {LAST}"}
+    by_number = "sail 0 1 d1 10:00 10:30 trip 1 class bus"
+    yield "by name and by number", added("trip 0", "trip own", own.replace("days 1-5", "days 1"), by_number), {LAST + 3: "trip own from Harbour"}
+    most = [f"trip t{place}" for place in range(2000)]
+    yield "2,000 trips with a line, and one without", added(*most), {6: "read trip early, asked for one of at most 2000 trips, 2000 of which"}
+    yield "2,001 trips", [*BASE[:5], *most, "trip more", BASE[8]], {2006: "more than 2000 lines with trip"}
 
 
 def failure(what, lines, wanted):

@@ -108,7 +108,8 @@ pub fn write_number(number: usize) {
 }
 
 // A failed write is told once: the output is then closed, and a write that fails since it is closed is passed over. A file that is
-// opened later may get its number, but is open for reading only, so that a write fails in the same way.
+// opened later may get its number: where it is open for reading a write fails in the same way, and while it is open for writing no program
+// says anything.
 fn out_failed() {
     if os::errno() != libc::EBADF {
         tell_out();
