@@ -17,3 +17,11 @@ pub mod Written
 pub mod Settled
 pub mod FaultNumbers
 pub mod ReadSound
+pub mod Neighbours
+pub mod Appearance
+pub mod Pairs
+pub mod EachOnce
+pub mod Rising
+pub mod PairsOnce
+pub mod FileRows
+pub mod Pinned

@@ -10,3 +10,4 @@ pub mod Neighbours
 pub mod Putting
 pub mod Sound
 pub mod FaultNumbers
+pub mod Appearance

@@ -34,3 +34,8 @@ pub record AreNeighbours (calls : List StopTime) (first second : StopTime) : Typ
   pub read : calls ≡ later ++ (second ∷ (between ++ (first ∷ earlier)))
   pub one-trip : first .trip ≡ second .trip
   pub none-between : (call : StopTime) → List·Memᴰ call between → call .trip ≡ second .trip → ⊥
+
+-- no pair stands at two places
+pub data NoneTwice : List Pair → Type 0 where
+  no-pair : NoneTwice []
+  one-pair-more : {pair : Pair} {pairs : List Pair} → (List·Memᴰ pair pairs → ⊥) → NoneTwice pairs → NoneTwice (pair ∷ pairs)
