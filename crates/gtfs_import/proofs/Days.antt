@@ -11,7 +11,7 @@ use Rattle.laws.proofs.Tests.{ifb, both, both-left, both-right}
 use Rattle.timetable.specs.Verdict.{orElse, unless, byVerdict}
 use Rattle.file_layout.specs.Format.{versionOne}
 use Rattle.gtfs_stop_time.specs.StopTime.{dayStart, lastMinute}
-use Rattle.gtfs_stop_times.specs.Reading.{stopTimes}
+use Rattle.gtfs_calls.specs.Reading.{stopTimes}
 use Rattle.gtfs_import.specs.Import.{firstDay, lastDay, dayRule, roomRule, ImportOutcome, refusedImport, byReading, importOutcome}
 
 pub day-kept : (day : ℕ) → dayRule day ≡ true → (firstDay ≤ day) × (day ≤ lastDay)

@@ -28,12 +28,12 @@ use Rattle.gtfs_order.specs.Order.{inOrder}
 use Rattle.gtfs_order.proofs.AsRead.{in-order-length}
 use Rattle.gtfs_order.proofs.Ordered.{each-in-order}
 use Rattle.gtfs_stop_time.specs.StopTime.{StopTime, dayStart}
-use Rattle.gtfs_stop_times.specs.Calls.{stopsOf, rowsOf, timetableOf}
-use Rattle.gtfs_stop_times.specs.FaultNumbers.{FaultKnown}
-use Rattle.gtfs_stop_times.specs.Reading.{Reading, said, wrong}
-use Rattle.gtfs_stop_times.specs.Sound.{ReadSound}
-use Rattle.gtfs_stop_times.proofs.FaultNumbers.{fault-known}
-use Rattle.gtfs_stop_times.proofs.ReadSound.{read-sound}
+use Rattle.gtfs_calls.specs.Calls.{stopsOf, rowsOf, timetableOf}
+use Rattle.gtfs_calls.specs.FaultNumbers.{FaultKnown}
+use Rattle.gtfs_calls.specs.Reading.{Reading, said, wrong}
+use Rattle.gtfs_calls.specs.Sound.{ReadSound}
+use Rattle.gtfs_calls.proofs.FaultNumbers.{fault-known}
+use Rattle.gtfs_calls.proofs.ReadSound.{read-sound}
 use Rattle.gtfs_import.specs.declared.Imported.{Imported}
 use Rattle.gtfs_import.specs.declared.Imported.the-variants.{Written, Refused}
 use Rattle.gtfs_import.specs.Import.{dayRule, ImportOutcome, refusedImport, byCheck, byReading, importOutcome}

@@ -18,9 +18,9 @@ use Rattle.gtfs_order.proofs.AsRead.{in-order-length}
 use Rattle.gtfs_stop_times.specs.declared.Counts.{Counts}
 use Rattle.gtfs_stop_times.specs.Answers.{writtenOf, outAfter}
 use Rattle.gtfs_stop_times.specs.declared.Wanted.the-variants.{Rows}
-use Rattle.gtfs_stop_times.specs.Calls.{stopsOf, rowsOf, timetableOf}
-use Rattle.gtfs_stop_times.specs.Reading.{Reading}
-use Rattle.gtfs_stop_times.specs.Sound.{ReadSound}
+use Rattle.gtfs_calls.specs.Calls.{stopsOf, rowsOf, timetableOf}
+use Rattle.gtfs_calls.specs.Reading.{Reading}
+use Rattle.gtfs_calls.specs.Sound.{ReadSound}
 use Rattle.gtfs_import.specs.Import.{byCheck, byReading}
 use Rattle.gtfs_import.specs.Room.{fileRoom}
 use Rattle.gtfs_import.proofs.Told.{Counted}

@@ -14,8 +14,8 @@ use Rattle.gtfs_stop_times.specs.declared.Read.{Read}
 use Rattle.gtfs_stop_times.specs.declared.Read.the-variants.{Calls, Wrong}
 use Rattle.gtfs_stop_times.specs.declared.Wanted.the-variants.{Names}
 use Rattle.gtfs_stop_times.specs.Answers.{writtenOf, readAnswer, outAfter}
-use Rattle.gtfs_stop_times.specs.Names.{namesRoom}
-use Rattle.gtfs_stop_times.specs.Reading.{Reading, said, wrong, stopTimes}
+use Rattle.gtfs_calls.specs.Names.{namesRoom}
+use Rattle.gtfs_calls.specs.Reading.{Reading, said, wrong, stopTimes}
 use Rattle.gtfs_import.specs.declared.Named.the-variants.{Text, Refused, NoRoom}
 use Rattle.gtfs_import.specs.Import.{dayRule}
 use Rattle.gtfs_import.specs.Named.{NamesOutcome, namesBy, namesOutcome}

@@ -21,9 +21,9 @@ use Rattle.gtfs_ids.specs.Ids.{idRule, numberOf, withId}
 use Rattle.gtfs_order.specs.Order.{comesFirst, among, inOrder}
 use Rattle.gtfs_stop_time.specs.StopTime.{dayStart, textsOn, stopTimeOf, isFilled, timeRule, sequenceRule}
 use Rattle.gtfs_stop_time.specs.Faults.{filledVerdict, timesVerdict, ownVerdict}
-use Rattle.gtfs_stop_times.specs.Calls.{tripsOf, stopsOf, lastCall, risesBehind, rowBetween, rowBehind, rowsOf, timetableOf}
-use Rattle.gtfs_stop_times.specs.Faults.{nextVerdict, lineVerdict, headerVerdict}
-use Rattle.gtfs_stop_times.specs.Reading.{readFrom, stopTimes}
+use Rattle.gtfs_calls.specs.Calls.{tripsOf, stopsOf, lastCall, risesBehind, rowBetween, rowBehind, rowsOf, timetableOf}
+use Rattle.gtfs_calls.specs.Faults.{nextVerdict, lineVerdict, headerVerdict}
+use Rattle.gtfs_calls.specs.Reading.{readFrom, stopTimes}
 use Rattle.gtfs_import.specs.declared.Imported.the-variants.{Written, Refused}
 use Rattle.gtfs_import.specs.FaultPlace.{nowhere, faultPlace, placeFor}
 use Rattle.gtfs_import.specs.Import.{dayRule, roomRule, ImportOutcome, refusedImport, byCheck, byReading, importOutcome}

@@ -14,9 +14,9 @@ use Rattle.file_layout.specs.declared.Trailer.{Trailer}
 use Rattle.file_layout.specs.Check.{checked}
 use Rattle.file_layout.specs.Format.{versionOne}
 use Rattle.gtfs_stop_time.specs.StopTime.{StopTime, dayStart}
-use Rattle.gtfs_stop_times.specs.Calls.{stopsOf, rowsOf}
-use Rattle.gtfs_stop_times.specs.Reading.{said, wrong}
-use Rattle.gtfs_stop_times.proofs.ReadSound.{read-sound}
+use Rattle.gtfs_calls.specs.Calls.{stopsOf, rowsOf}
+use Rattle.gtfs_calls.specs.Reading.{said, wrong}
+use Rattle.gtfs_calls.proofs.ReadSound.{read-sound}
 use Rattle.gtfs_import.specs.declared.Imported.the-variants.{Written, Refused}
 use Rattle.gtfs_import.specs.Import.{firstDay, lastDay, ImportOutcome, byReading, byCheck, importAnswer, importOutcome}
 use Rattle.gtfs_import.specs.Returned.{Asked, readOn, fileOf, FileWritten, Ended, rowsIn, Refusal}

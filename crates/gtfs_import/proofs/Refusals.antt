@@ -10,9 +10,9 @@ use Rattle.file_layout.specs.declared.Checked.the-variants.{Refused as CheckRef
 use Rattle.file_layout.specs.Check.{checked}
 use Rattle.file_layout.specs.Format.{versionOne}
 use Rattle.gtfs_stop_time.specs.StopTime.{StopTime}
-use Rattle.gtfs_stop_times.specs.Calls.{stopsOf}
-use Rattle.gtfs_stop_times.specs.FaultNumbers.{TextFault, too-many, unreadable, bad-time, bad-sequence}
-use Rattle.gtfs_stop_times.specs.Reading.{said, wrong}
+use Rattle.gtfs_calls.specs.Calls.{stopsOf}
+use Rattle.gtfs_calls.specs.FaultNumbers.{TextFault, too-many, unreadable, bad-time, bad-sequence}
+use Rattle.gtfs_calls.specs.Reading.{said, wrong}
 use Rattle.gtfs_import.specs.Import.{firstDay, lastDay}
 use Rattle.gtfs_import.specs.Returned.{Asked, readOn, fileOf, FileFault, few-stops, own-fault, order-fault, Reason, no-day, no-room, text-fault, file-fault, rowsIn}
 use Rattle.gtfs_import.specs.Returned.{Refusal, too-few-stops, bad-row, bad-order, no-such-day, too-little-room, past-a-limit, unreadable-line, wrong-time, wrong-sequence}

@@ -7,8 +7,8 @@ use native.Mathlib.Omega.{arith}
 use Rattle.timetable.specs.Limits.{mostRows}
 use Rattle.file_layout.specs.declared.Trailer.{Trailer}
 use Rattle.gtfs_stop_time.specs.StopTime.{dayStart}
-use Rattle.gtfs_stop_times.specs.Reading.{Reading, said, wrong}
-use Rattle.gtfs_stop_times.proofs.ReadSound.{read-sound}
+use Rattle.gtfs_calls.specs.Reading.{Reading, said, wrong}
+use Rattle.gtfs_calls.proofs.ReadSound.{read-sound}
 use Rattle.gtfs_import.specs.declared.Imported.the-variants.{Written, Refused}
 use Rattle.gtfs_import.specs.Import.{importOutcome}
 use Rattle.gtfs_import.specs.Returned.{readOn, rowsIn}

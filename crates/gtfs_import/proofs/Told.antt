@@ -16,7 +16,7 @@ use Rattle.gtfs_stop_times.specs.declared.Read.{Read}
 use Rattle.gtfs_stop_times.specs.declared.Read.the-variants.{Calls, Wrong}
 use Rattle.gtfs_stop_times.specs.Answers.{countsOf, readAnswer}
 use Rattle.gtfs_stop_times.specs.declared.Wanted.the-variants.{Rows}
-use Rattle.gtfs_stop_times.specs.Reading.{Reading, said, wrong}
+use Rattle.gtfs_calls.specs.Reading.{Reading, said, wrong}
 use Rattle.gtfs_import.specs.declared.Imported.the-variants.{Written}
 use Rattle.gtfs_import.specs.Import.{refusedImport, byCheck}
 

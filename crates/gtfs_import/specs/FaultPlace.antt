@@ -3,7 +3,7 @@ use Prim.Native.Nat.{ℕ}
 use mathlib.Core.Bool.{cond}
 use mathlib.Core.List.{List}
 use Rattle.gtfs_stop_time.specs.StopTime.{dayStart}
-use Rattle.gtfs_stop_times.specs.Reading.{Reading, said, wrong, stopTimes}
+use Rattle.gtfs_calls.specs.Reading.{Reading, said, wrong, stopTimes}
 use Rattle.gtfs_import.specs.declared.Place.{Place}
 use Rattle.gtfs_import.specs.Import.{dayRule}
 

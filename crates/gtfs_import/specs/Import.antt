@@ -14,8 +14,8 @@ use Rattle.file_layout.specs.Format.{versionOne}
 use Rattle.file_layout.specs.Check.{Answer, checked}
 use Rattle.file_encoding.specs.Encode.{encode}
 use Rattle.gtfs_stop_time.specs.StopTime.{dayStart}
-use Rattle.gtfs_stop_times.specs.Calls.{timetableOf}
-use Rattle.gtfs_stop_times.specs.Reading.{Reading, said, wrong, stopTimes}
+use Rattle.gtfs_calls.specs.Calls.{timetableOf}
+use Rattle.gtfs_calls.specs.Reading.{Reading, said, wrong, stopTimes}
 use Rattle.gtfs_import.specs.declared.Imported.{Imported}
 use Rattle.gtfs_import.specs.declared.Imported.the-variants.{Written, Refused}
 

@@ -6,8 +6,8 @@ use lib.Dec.{leb}
 use lib.ListN.{length}
 use Rattle.numbers.specs.Over.{over}
 use Rattle.gtfs_stop_time.specs.StopTime.{dayStart}
-use Rattle.gtfs_stop_times.specs.Names.{namesText, namesRoom}
-use Rattle.gtfs_stop_times.specs.Reading.{Reading, said, wrong, stopTimes}
+use Rattle.gtfs_calls.specs.Names.{namesText, namesRoom}
+use Rattle.gtfs_calls.specs.Reading.{Reading, said, wrong, stopTimes}
 use Rattle.gtfs_import.specs.declared.Named.{Named}
 use Rattle.gtfs_import.specs.declared.Named.the-variants.{Text, Refused, NoRoom}
 use Rattle.gtfs_import.specs.Import.{dayRule}

@@ -12,9 +12,9 @@ use Rattle.file_layout.specs.Format.{versionOne}
 use Rattle.file_encoding.specs.Encode.{encode}
 use Rattle.file_writing.specs.Ends.{onTimeTrailer}
 use Rattle.gtfs_stop_time.specs.StopTime.{StopTime, dayStart}
-use Rattle.gtfs_stop_times.specs.Calls.{stopsOf, rowsOf, timetableOf}
-use Rattle.gtfs_stop_times.specs.FaultNumbers.{TextFault}
-use Rattle.gtfs_stop_times.specs.Reading.{Reading, said, wrong, stopTimes}
+use Rattle.gtfs_calls.specs.Calls.{stopsOf, rowsOf, timetableOf}
+use Rattle.gtfs_calls.specs.FaultNumbers.{TextFault}
+use Rattle.gtfs_calls.specs.Reading.{Reading, said, wrong, stopTimes}
 use Rattle.gtfs_import.specs.declared.Imported.{Imported}
 use Rattle.gtfs_import.specs.declared.Imported.the-variants.{Written, Refused}
 use Rattle.gtfs_import.specs.Import.{firstDay, lastDay}

@@ -11,7 +11,7 @@ ghost use Rattle.file_layout.specs.Format.{versionOne};
 ghost use Rattle.file_encoding.specs.Encode.{bytesOfTrailer, tablesBytes};
 ghost use Rattle.file_writing.specs.Ends.{neverLate, onTimeTrailer};
 ghost use Rattle.gtfs_stop_time.specs.StopTime.{dayStart, lastMinute};
-ghost use Rattle.gtfs_stop_times.specs.Reading.{stopTimes};
+ghost use Rattle.gtfs_calls.specs.Reading.{stopTimes};
 ghost use Rattle.gtfs_import.specs.FaultPlace.{placeFor};
 ghost use Rattle.gtfs_import.specs.Import.{byCheck, byReading, dayRule, importOutcome};
 ghost use Rattle.gtfs_import.specs.Named.{namesOutcome};

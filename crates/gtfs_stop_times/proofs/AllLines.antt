@@ -14,8 +14,8 @@ use Rattle.gtfs_stop_times.specs.declared.Service.{Service}
 use Rattle.gtfs_stop_times.specs.declared.Step.{Step}
 use Rattle.gtfs_stop_times.specs.declared.Step.the-variants.{On, Wrong}
 use Rattle.gtfs_stop_times.specs.declared.Lines.the-variants.{Whole, Wrong as WrongLine}
-use Rattle.gtfs_stop_times.specs.Faults.{lineVerdict}
-use Rattle.gtfs_stop_times.specs.Reading.{Reading, said, wrong, readFrom}
+use Rattle.gtfs_calls.specs.Faults.{lineVerdict}
+use Rattle.gtfs_calls.specs.Reading.{Reading, said, wrong, readFrom}
 use Rattle.gtfs_stop_times.specs.Held.{Held}
 use Rattle.gtfs_stop_times.specs.Steps.{LineRead, faulty, sound, LinesRead, told, whole, readBehind}
 

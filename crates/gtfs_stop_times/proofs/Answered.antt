@@ -16,8 +16,8 @@ use Rattle.gtfs_stop_times.specs.declared.Wanted.{Wanted}
 use Rattle.gtfs_stop_times.specs.declared.Lines.{Lines}
 use Rattle.gtfs_stop_times.specs.declared.Lines.the-variants.{Whole, Wrong as WrongLine}
 use Rattle.gtfs_stop_times.specs.declared.Read.the-variants.{Calls, Wrong}
-use Rattle.gtfs_stop_times.specs.Calls.{tripsOf, stopsOf, lastCall, rowsOf}
-use Rattle.gtfs_stop_times.specs.Reading.{Reading, said, wrong}
+use Rattle.gtfs_calls.specs.Calls.{tripsOf, stopsOf, lastCall, rowsOf}
+use Rattle.gtfs_calls.specs.Reading.{Reading, said, wrong}
 use Rattle.gtfs_stop_times.specs.Held.{Held, NotesRoom}
 use Rattle.gtfs_stop_times.specs.Steps.{LinesRead, told, whole, noCounts}
 use Rattle.gtfs_stop_times.specs.Answers.{countsOf, readAnswer, outAfter}

@@ -14,10 +14,10 @@ use Rattle.timetable.specs.Verdict.{Verdict, fine, fault, orElse, unless}
 use Rattle.gtfs_ids.specs.Ids.{numberOf, withId}
 use Rattle.gtfs_ids.proofs.Numbering.{number-points, number-with, number-kept, with-known, length-new}
 use Rattle.gtfs_stop_time.specs.StopTime.{StopTime, lastMinute}
-use Rattle.gtfs_stop_times.specs.Calls.{tripsOf, stopsOf, lastCall, risesBehind, rowBetween, rowBehind, rowsOf}
-use Rattle.gtfs_stop_times.specs.Faults.{nextVerdict}
+use Rattle.gtfs_calls.specs.Calls.{tripsOf, stopsOf, lastCall, risesBehind, rowBetween, rowBehind, rowsOf}
+use Rattle.gtfs_calls.specs.Faults.{nextVerdict}
 use Rattle.gtfs_stop_times.specs.Held.{CallHeld}
-use Rattle.gtfs_stop_times.proofs.LastCalls.{last-none}
+use Rattle.gtfs_calls.proofs.LastCalls.{last-none}
 
 -- the verdict by what its four rules come to
 verdict-by : (back : List StopTime) (says : StopTime) (rises trips stops rows : Bool)

@@ -18,8 +18,8 @@ use Rattle.gtfs_stop_time.specs.Said.{Says}
 use Rattle.gtfs_stop_times.specs.declared.Counts.{Counts}
 use Rattle.gtfs_stop_times.specs.declared.Taken.{Taken}
 use Rattle.gtfs_stop_times.specs.declared.Taken.the-variants.{On, Wrong}
-use Rattle.gtfs_stop_times.specs.Calls.{tripsOf, stopsOf, rowsOf}
-use Rattle.gtfs_stop_times.specs.Faults.{nextVerdict}
+use Rattle.gtfs_calls.specs.Calls.{tripsOf, stopsOf, rowsOf}
+use Rattle.gtfs_calls.specs.Faults.{nextVerdict}
 use Rattle.gtfs_stop_times.specs.Held.{Held, CallHeld, CallTaken, refused, kept, Numbered, entered, countWith}
 use Rattle.gtfs_stop_times.proofs.Entered.{count-entered}
 use Rattle.gtfs_stop_times.proofs.KeptCalls.{callWritten}

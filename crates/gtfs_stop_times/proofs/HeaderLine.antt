@@ -17,8 +17,8 @@ use Rattle.gtfs_lines.specs.Cut.{firstLine, behindLine, aheadOfFeed, hasFeed}
 use Rattle.gtfs_lines.proofs.TextLines.{lines-none, lines-first}
 use Rattle.gtfs_stop_time.specs.Said.{inColumn}
 use Rattle.gtfs_stop_times.specs.declared.Service.{Service}
-use Rattle.gtfs_stop_times.specs.Faults.{headerVerdict}
-use Rattle.gtfs_stop_times.specs.Reading.{Reading, wrong, readFrom, stopTimes}
+use Rattle.gtfs_calls.specs.Faults.{headerVerdict}
+use Rattle.gtfs_calls.specs.Reading.{Reading, wrong, readFrom, stopTimes}
 use Rattle.gtfs_stop_times.specs.Steps.{missingColumn, readBehind}
 
 -- line 1 is the first line, and the others are those behind it, also where there is none

@@ -16,10 +16,10 @@ use Rattle.gtfs_ids.specs.Ids.{numberOf, withId}
 use Rattle.gtfs_ids.proofs.Numbering.{number-points, number-with, number-kept, id-kept, known-or-new, length-known, length-new, length-with}
 use Rattle.gtfs_ids.proofs.Different.{number-at}
 use Rattle.gtfs_stop_time.specs.StopTime.{StopTime, lastMinute}
-use Rattle.gtfs_stop_times.specs.Calls.{tripsOf, stopsOf, lastCall}
+use Rattle.gtfs_calls.specs.Calls.{tripsOf, stopsOf, lastCall}
 use Rattle.gtfs_stop_times.specs.Held.{CallHeld}
-use Rattle.gtfs_stop_times.proofs.Numbers.{trips-different, own-known}
-use Rattle.gtfs_stop_times.proofs.LastCalls.{last-own, last-other}
+use Rattle.gtfs_calls.proofs.Numbers.{trips-different, own-known}
+use Rattle.gtfs_calls.proofs.LastCalls.{last-own, last-other}
 
 -- the cells of a trip, written
 module _ (last : List ℕ) (trip stop departure sequence : ℕ) where

@@ -1,6 +1,4 @@
--- Laws of the calls read so far, and of the notes that hold them.
-pub mod Numbers
-pub mod LastCalls
+-- Laws of the notes that are kept while the text is read.
 pub mod KeptCalls
 pub mod RowsRead
 pub mod Entered
@@ -15,13 +13,3 @@ pub mod Answered
 pub mod NameLines
 pub mod Written
 pub mod Settled
-pub mod FaultNumbers
-pub mod ReadSound
-pub mod Neighbours
-pub mod Appearance
-pub mod Pairs
-pub mod EachOnce
-pub mod Rising
-pub mod PairsOnce
-pub mod FileRows
-pub mod Pinned

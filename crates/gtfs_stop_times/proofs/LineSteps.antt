@@ -19,7 +19,7 @@ use Rattle.gtfs_stop_times.specs.declared.Service.{Service}
 use Rattle.gtfs_stop_times.specs.declared.Step.the-variants.{On, Wrong}
 use Rattle.gtfs_stop_times.specs.declared.Taken.{Taken}
 use Rattle.gtfs_stop_times.specs.declared.Taken.the-variants.{On as TakenOn, Wrong as TakenWrong}
-use Rattle.gtfs_stop_times.specs.Faults.{lineVerdict, nextVerdict}
+use Rattle.gtfs_calls.specs.Faults.{lineVerdict, nextVerdict}
 use Rattle.gtfs_stop_times.specs.Held.{Held, CallTaken, refused, kept}
 use Rattle.gtfs_stop_times.specs.Steps.{LineRead, faulty, sound}
 

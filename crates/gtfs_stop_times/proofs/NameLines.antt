@@ -10,7 +10,7 @@ use Rattle.text.specs.Put.{Put}
 use Rattle.gtfs_ids.specs.Ids.{longestId}
 use Rattle.gtfs_ids.specs.Book.{HoldsIds, placeIn, keyIn}
 use Rattle.gtfs_ids.proofs.Held.{held-size}
-use Rattle.gtfs_stop_times.specs.Names.{idLine, idLines, lineRoom}
+use Rattle.gtfs_calls.specs.Names.{idLine, idLines, lineRoom}
 
 -- the same text in other words
 pub put-as : {out after l l′ : List ℕ} {at next : ℕ} → l ≡ l′ → Put out at l after next → Put out at l′ after next

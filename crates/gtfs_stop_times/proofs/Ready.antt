@@ -11,7 +11,7 @@ use Rattle.gtfs_stop_time.specs.declared.Call.{Call}
 use Rattle.gtfs_stop_time.specs.StopTime.{StopTime}
 use Rattle.gtfs_stop_time.specs.Said.{Says}
 use Rattle.gtfs_stop_times.specs.declared.Counts.{Counts}
-use Rattle.gtfs_stop_times.specs.Calls.{tripsOf, stopsOf}
+use Rattle.gtfs_calls.specs.Calls.{tripsOf, stopsOf}
 use Rattle.gtfs_stop_times.specs.Held.{Held, Ready, CallFits, Numbered}
 use Rattle.gtfs_stop_times.proofs.Entered.{number-held}
 

@@ -21,7 +21,7 @@ use Rattle.gtfs_stop_time.specs.declared.Call.{Call}
 use Rattle.gtfs_stop_time.specs.StopTime.{StopTime, lastMinute}
 use Rattle.gtfs_stop_time.specs.Said.{Says}
 use Rattle.gtfs_stop_times.specs.declared.Counts.{Counts}
-use Rattle.gtfs_stop_times.specs.Calls.{tripsOf, stopsOf, lastCall, rowsOf}
+use Rattle.gtfs_calls.specs.Calls.{tripsOf, stopsOf, lastCall, rowsOf}
 use Rattle.gtfs_stop_times.specs.Held.{Held, NotesRoom, CallHeld, entered, countWith}
 use Rattle.gtfs_stop_times.proofs.Entered.{count-entered, holds-entered, holds-entry, entered-length, short-id}
 use Rattle.gtfs_stop_times.proofs.KeptCalls.{callWritten, written-length, calls-held}

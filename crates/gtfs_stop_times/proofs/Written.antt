@@ -19,9 +19,9 @@ use Rattle.gtfs_stop_time.specs.StopTime.{StopTime}
 use Rattle.gtfs_stop_times.specs.declared.Counts.{Counts}
 use Rattle.gtfs_stop_times.specs.declared.Wanted.{Wanted}
 use Rattle.gtfs_stop_times.specs.declared.Wanted.the-variants.{Rows, Names}
-use Rattle.gtfs_stop_times.specs.Calls.{tripsOf, stopsOf, rowsOf}
+use Rattle.gtfs_calls.specs.Calls.{tripsOf, stopsOf, rowsOf}
 use Rattle.gtfs_stop_times.specs.Held.{Held}
-use Rattle.gtfs_stop_times.specs.Names.{stopWord, tripWord, idLines, namesText, lineRoom, namesRoom}
+use Rattle.gtfs_calls.specs.Names.{stopWord, tripWord, idLines, namesText, lineRoom, namesRoom}
 use Rattle.gtfs_stop_times.specs.Answers.{writtenOf, wantedRoom}
 use Rattle.gtfs_stop_times.specs.Putting.{HeldFor, IdsHeld, IdsPut, WantedPut}
 use Rattle.gtfs_stop_times.proofs.Answered.{rows-held}

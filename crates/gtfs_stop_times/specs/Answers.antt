@@ -11,9 +11,9 @@ use Rattle.gtfs_stop_times.specs.declared.Wanted.{Wanted}
 use Rattle.gtfs_stop_times.specs.declared.Wanted.the-variants.{Rows, Names}
 use Rattle.gtfs_stop_times.specs.declared.Read.{Read}
 use Rattle.gtfs_stop_times.specs.declared.Read.the-variants.{Calls, Wrong}
-use Rattle.gtfs_stop_times.specs.Calls.{tripsOf, stopsOf, rowsOf}
-use Rattle.gtfs_stop_times.specs.Reading.{Reading, said, wrong}
-use Rattle.gtfs_stop_times.specs.Names.{namesText, namesRoom}
+use Rattle.gtfs_calls.specs.Calls.{tripsOf, stopsOf, rowsOf}
+use Rattle.gtfs_calls.specs.Reading.{Reading, said, wrong}
+use Rattle.gtfs_calls.specs.Names.{namesText, namesRoom}
 
 abbrev pub countsOf : List StopTime → Counts
 countsOf calls = record { trips = length (tripsOf calls); stops = length (stopsOf calls); rows = length (rowsOf calls) }

@@ -19,8 +19,8 @@ use Rattle.gtfs_stop_time.specs.declared.Call.{Call}
 use Rattle.gtfs_stop_times.specs.declared.Taken.{Taken}
 use Rattle.gtfs_stop_times.specs.declared.Taken.the-variants.{On, Wrong}
 use Rattle.gtfs_stop_time.specs.StopTime.{StopTime, lastMinute, sequenceLimit}
-use Rattle.gtfs_stop_times.specs.Calls.{tripsOf, stopsOf, lastCall, rowsOf}
-use Rattle.gtfs_stop_times.specs.Faults.{nextVerdict}
+use Rattle.gtfs_calls.specs.Calls.{tripsOf, stopsOf, lastCall, rowsOf}
+use Rattle.gtfs_calls.specs.Faults.{nextVerdict}
 use Rattle.gtfs_stop_time.specs.Said.{Says}
 
 -- three cells a trip: the stop, departure and stop_sequence of its last call

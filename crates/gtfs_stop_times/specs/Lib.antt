@@ -1,13 +1,5 @@
--- What `stop_times.txt` says: its calls, its first fault, and the rows of neighbouring calls.
-pub mod Calls
-pub mod Faults
-pub mod Reading
+-- How the text is read: what the notes hold, what a line adds, what is answered and written.
 pub mod Held
 pub mod Steps
-pub mod Names
 pub mod Answers
-pub mod Neighbours
 pub mod Putting
-pub mod Sound
-pub mod FaultNumbers
-pub mod Appearance

@@ -9,7 +9,7 @@ use Rattle.gtfs_ids.specs.Book.{HoldsIds}
 use Rattle.gtfs_stop_time.specs.StopTime.{StopTime}
 use Rattle.gtfs_stop_times.specs.declared.Counts.{Counts}
 use Rattle.gtfs_stop_times.specs.declared.Wanted.{Wanted}
-use Rattle.gtfs_stop_times.specs.Names.{idLines}
+use Rattle.gtfs_calls.specs.Names.{idLines}
 use Rattle.gtfs_stop_times.specs.Answers.{writtenOf}
 use Rattle.gtfs_stop_times.specs.Held.{Held}
 

@@ -16,8 +16,8 @@ use Rattle.gtfs_stop_times.specs.declared.Step.{Step}
 use Rattle.gtfs_stop_times.specs.declared.Step.the-variants.{On, Wrong}
 use Rattle.gtfs_stop_times.specs.declared.Lines.{Lines}
 use Rattle.gtfs_stop_times.specs.declared.Lines.the-variants.{Whole, Wrong as WrongLine}
-use Rattle.gtfs_stop_times.specs.Faults.{lineVerdict}
-use Rattle.gtfs_stop_times.specs.Reading.{Reading, said, wrong, readFrom}
+use Rattle.gtfs_calls.specs.Faults.{lineVerdict}
+use Rattle.gtfs_calls.specs.Reading.{Reading, said, wrong, readFrom}
 use Rattle.gtfs_stop_times.specs.Held.{Held}
 
 -- the line that starts at `at`: its fault, or the notes with its call, and where the next line starts

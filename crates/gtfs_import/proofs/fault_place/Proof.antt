@@ -3,7 +3,7 @@ use mathlib.Core.Bool.{true}
 use mathlib.Core.Path.{_≡_, sym, ap, _∙_}
 use Rattle.laws.proofs.Tests.{rule-breaks, rule-keeps, cond-true, cond-false}
 use Rattle.gtfs_stop_time.specs.StopTime.{dayStart}
-use Rattle.gtfs_stop_times.specs.Reading.{stopTimes}
+use Rattle.gtfs_calls.specs.Reading.{stopTimes}
 use Rattle.gtfs_import.specs.FaultPlace.{nowhere, faultPlace, placeFor}
 use Rattle.gtfs_import.specs.Import.{dayRule}
 use Rattle.gtfs_import.proofs.Told.{read-calls, read-wrong}

@@ -4,9 +4,9 @@ use mathlib.Core.Path.{sym, ap, _∙_}
 use native.Mathlib.Omega.{arith}
 use lib.ListN.{length, take}
 use lib.Seq.{length-take-le}
-use Rattle.gtfs_stop_times.specs.Reading.{stopTimes}
-use Rattle.gtfs_stop_times.specs.Sound.{ReadSound}
-use Rattle.gtfs_stop_times.proofs.ReadSound.{read-sound}
+use Rattle.gtfs_calls.specs.Reading.{stopTimes}
+use Rattle.gtfs_calls.specs.Sound.{ReadSound}
+use Rattle.gtfs_calls.proofs.ReadSound.{read-sound}
 use Rattle.gtfs_import.specs.Import.{ImportOutcome, byReading}
 use Rattle.gtfs_import.specs.Room.{fileRoom}
 use Rattle.gtfs_import.proofs.Finished.{few-rows, file-finished}

@@ -3,7 +3,7 @@ use Prim.Native.Nat.{ℕ}
 use mathlib.Core.Bool.{true}
 use mathlib.Core.Path.{_≡_, sym, ap, _∙_}
 use Rattle.laws.proofs.Tests.{rule-breaks, rule-keeps}
-use Rattle.gtfs_stop_times.specs.Reading.{stopTimes}
+use Rattle.gtfs_calls.specs.Reading.{stopTimes}
 use Rattle.gtfs_import.specs.Import.{ImportOutcome, byReading, dayRule}
 use Rattle.gtfs_import.proofs.Days.{no-service-day, too-little-room, by-the-text}
 use borrow.Author.Needs.{needs}

@@ -5,7 +5,7 @@ use mathlib.Core.Path.{_≡_, sym, ap, _∙_}
 use borrow.Author.Tests.{le-leb, lt-leb}
 use Rattle.laws.proofs.Tests.{rule-breaks, rule-keeps}
 use Rattle.gtfs_stop_time.specs.StopTime.{dayStart}
-use Rattle.gtfs_stop_times.specs.Reading.{stopTimes}
+use Rattle.gtfs_calls.specs.Reading.{stopTimes}
 use Rattle.gtfs_import.specs.Named.{NamesOutcome, namesOutcome}
 use Rattle.gtfs_import.proofs.NamesTold.{names-room, names-day, names-served, names-told, names-wrong}
 use Rattle.gtfs_import.proofs.names_of.Statement.{statement}

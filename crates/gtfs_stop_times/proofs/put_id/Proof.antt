@@ -6,7 +6,7 @@ use native.Mathlib.Omega.{arith}
 use lib.ListN.{take, drop}
 use lib.Seq.{slice}
 use Rattle.gtfs_lines.proofs.Slices.{slice-ahead}
-use Rattle.gtfs_stop_times.specs.Names.{idLine}
+use Rattle.gtfs_calls.specs.Names.{idLine}
 use Rattle.gtfs_stop_times.proofs.NameLines.{put-as, put-then}
 use Rattle.gtfs_stop_times.proofs.put_id.Statement.{statement}
 use Rattle.gtfs_stop_times.proofs.put_id.Tie as tie

@@ -24,10 +24,10 @@ use Rattle.gtfs_fields.specs.Time.{isTime, timeMinutes}
 use Rattle.gtfs_ids.proofs.Numbering.{number-within}
 use Rattle.gtfs_stop_time.specs.StopTime.{FieldTexts, StopTime, textsOn, stopTimeOf, timeRule, sequenceRule, lastMinute}
 use Rattle.gtfs_stop_time.specs.Faults.{filledVerdict, timesVerdict, ownVerdict}
-use Rattle.gtfs_stop_times.specs.Calls.{tripsOf, stopsOf, lastCall, risesBehind, rowBetween, rowBehind, rowsOf}
-use Rattle.gtfs_stop_times.specs.Faults.{nextVerdict, lineVerdict, headerVerdict}
-use Rattle.gtfs_stop_times.specs.Reading.{Reading, said, wrong, readFrom, stopTimes}
-use Rattle.gtfs_stop_times.specs.Sound.{ReadSound}
+use Rattle.gtfs_calls.specs.Calls.{tripsOf, stopsOf, lastCall, risesBehind, rowBetween, rowBehind, rowsOf}
+use Rattle.gtfs_calls.specs.Faults.{nextVerdict, lineVerdict, headerVerdict}
+use Rattle.gtfs_calls.specs.Reading.{Reading, said, wrong, readFrom, stopTimes}
+use Rattle.gtfs_calls.specs.Sound.{ReadSound}
 
 -- a time that keeps its rule is at most the last minute
 minute-kept : (start : ℕ) (field : List ℕ) → timeRule start field ≡ true → start + timeMinutes field ≤ lastMinute

@@ -9,10 +9,10 @@ use Rattle.laws.proofs.Options.{absent, present-or-absent}
 use Rattle.gtfs_ids.specs.Ids.{numberOf, withId}
 use Rattle.gtfs_ids.proofs.Numbering.{either-way, length-known, length-new, known-or-new}
 use Rattle.gtfs_stop_time.specs.StopTime.{StopTime}
-use Rattle.gtfs_stop_times.specs.Calls.{tripsOf, lastCall}
-use Rattle.gtfs_stop_times.specs.Neighbours.{pairBehind, neighbours}
-use Rattle.gtfs_stop_times.proofs.LastCalls.{last-own, last-other, last-none}
-use Rattle.gtfs_stop_times.proofs.Appearance.{still-new}
+use Rattle.gtfs_calls.specs.Calls.{tripsOf, lastCall}
+use Rattle.gtfs_calls.specs.Neighbours.{pairBehind, neighbours}
+use Rattle.gtfs_calls.proofs.LastCalls.{last-own, last-other, last-none}
+use Rattle.gtfs_calls.proofs.Appearance.{still-new}
 
 -- a trip that has no call yet is new
 pub none-new : (trip : List ℕ) (back : List StopTime) → lastCall trip back ≡ none → numberOf (tripsOf back) trip ≡ length (tripsOf back)

@@ -14,10 +14,10 @@ use Rattle.gtfs_lines.specs.Lines.{linesOf, hasQuote}
 use Rattle.gtfs_ids.specs.Ids.{idRule}
 use Rattle.gtfs_stop_time.specs.StopTime.{FieldTexts, StopTime, textsOn, stopTimeOf, isFilled, timeRule, sequenceRule}
 use Rattle.gtfs_stop_time.specs.Faults.{filledVerdict, timesVerdict, ownVerdict}
-use Rattle.gtfs_stop_times.specs.Calls.{tripsOf, stopsOf, lastCall, risesBehind, rowsOf}
-use Rattle.gtfs_stop_times.specs.FaultNumbers.{TextFault, too-many, unreadable, bad-time, bad-sequence, FaultKnown}
-use Rattle.gtfs_stop_times.specs.Faults.{nextVerdict, lineVerdict, headerVerdict}
-use Rattle.gtfs_stop_times.specs.Reading.{Reading, wrong, readFrom, stopTimes}
+use Rattle.gtfs_calls.specs.Calls.{tripsOf, stopsOf, lastCall, risesBehind, rowsOf}
+use Rattle.gtfs_calls.specs.FaultNumbers.{TextFault, too-many, unreadable, bad-time, bad-sequence, FaultKnown}
+use Rattle.gtfs_calls.specs.Faults.{nextVerdict, lineVerdict, headerVerdict}
+use Rattle.gtfs_calls.specs.Reading.{Reading, wrong, readFrom, stopTimes}
 
 abbrev Known : Verdict → Type 0
 Known = FaultSuch TextFault

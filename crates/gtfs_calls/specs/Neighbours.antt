@@ -5,7 +5,7 @@ use mathlib.Core.Path.{_≡_}
 use mathlib.Core.Option.{Option, none, some}
 use Rattle.timetable.specs.declared.Row.{Row}
 use Rattle.gtfs_stop_time.specs.StopTime.{StopTime}
-use Rattle.gtfs_stop_times.specs.Calls.{lastCall, rowBetween}
+use Rattle.gtfs_calls.specs.Calls.{lastCall, rowBetween}
 
 -- two calls of one trip, the second read next after the first
 pub record Pair : Type 0 where

@@ -7,7 +7,7 @@ use Rattle.gtfs_lines.specs.declared.Columns.{Columns}
 use Rattle.gtfs_lines.specs.Lines.{linesOf, hasQuote}
 use Rattle.gtfs_lines.specs.Columns.{columnsOf}
 use Rattle.gtfs_stop_time.specs.StopTime.{StopTime, textsOn, stopTimeOf}
-use Rattle.gtfs_stop_times.specs.Faults.{lineVerdict, headerVerdict}
+use Rattle.gtfs_calls.specs.Faults.{lineVerdict, headerVerdict}
 
 -- all calls, the last one first; or a fault's number, its line and the column that it is in
 pub data Reading : Type 0 where

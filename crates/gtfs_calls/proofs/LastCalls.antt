@@ -12,8 +12,8 @@ use Rattle.text.proofs.Same.{same-equal, equal-same}
 use Rattle.gtfs_ids.specs.Ids.{numberOf, withId}
 use Rattle.gtfs_ids.proofs.Numbering.{number-within, number-kept, known-or-new, length-with}
 use Rattle.gtfs_stop_time.specs.StopTime.{StopTime}
-use Rattle.gtfs_stop_times.specs.Calls.{tripsOf, lastCall}
-use Rattle.gtfs_stop_times.proofs.Numbers.{own-known}
+use Rattle.gtfs_calls.specs.Calls.{tripsOf, lastCall}
+use Rattle.gtfs_calls.proofs.Numbers.{own-known}
 
 -- a call of the trip is its last one
 pub last-own : (trip : List ℕ) (call : StopTime) (back : List StopTime) → call .trip ≡ trip → lastCall trip (call ∷ back) ≡ some call

@@ -7,7 +7,7 @@ use Rattle.gtfs_ids.specs.Ids.{numberOf, withId}
 use Rattle.gtfs_ids.proofs.Numbering.{length-known, length-new, known-or-new, number-with}
 use Rattle.gtfs_ids.proofs.Different.{Different, none-different, with-different}
 use Rattle.gtfs_stop_time.specs.StopTime.{StopTime}
-use Rattle.gtfs_stop_times.specs.Calls.{tripsOf}
+use Rattle.gtfs_calls.specs.Calls.{tripsOf}
 
 pub trips-different : (back : List StopTime) → Different (tripsOf back)
 unfolding tripsOf

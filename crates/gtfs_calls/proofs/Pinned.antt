@@ -1,9 +1,10 @@
 -- Facts that pin what a text of some lines comes to: its rows with their numbers, or its first fault. Assumes nothing.
-use Prim.Native.Nat.{ℕ, _*_}
+use Prim.Native.Nat.{ℕ}
 use Prim.Native.Char.{code}
 use Prim.Native.String.{String, [], _∷_}
 use mathlib.Core.List.{List, [], _∷_}
 use mathlib.Core.Path.{_≡_, refl}
+use lib.ListN.{length}
 use Rattle.text.specs.Decimal.{valueBehind, valueOf}
 use Rattle.text.specs.Same.{sameBytes}
 use Rattle.timetable.specs.declared.Row.{Row}
@@ -15,16 +16,10 @@ use Rattle.gtfs_ids.specs.Ids.{idRule, numberOf, withId}
 use Rattle.gtfs_order.specs.Order.{comesFirst, among, inOrder}
 use Rattle.gtfs_stop_time.specs.StopTime.{dayStart, textsOn, stopTimeOf, isFilled, timeRule, sequenceRule}
 use Rattle.gtfs_stop_time.specs.Faults.{filledVerdict, timesVerdict, ownVerdict}
-use Rattle.numbers.specs.Numbers.{u16Bytes}
-use Rattle.file_encoding.specs.Encode.{rowBytes, rowsBytes}
-use Rattle.gtfs_stop_times.specs.declared.Wanted.the-variants.{Rows}
-use Rattle.gtfs_stop_times.specs.declared.Read.{Read}
-use Rattle.gtfs_stop_times.specs.declared.Read.the-variants.{Calls, Wrong}
-use Rattle.gtfs_stop_times.specs.Calls.{tripsOf, stopsOf, lastCall, risesBehind, rowBetween, rowBehind, rowsOf}
-use Rattle.gtfs_stop_times.specs.Faults.{nextVerdict, lineVerdict, headerVerdict}
-use Rattle.gtfs_stop_times.specs.Reading.{Reading, said, wrong, readFrom, stopTimes}
-use Rattle.gtfs_stop_times.specs.Names.{idLine, idLines, namesText}
-use Rattle.gtfs_stop_times.specs.Answers.{writtenOf, readAnswer}
+use Rattle.gtfs_calls.specs.Calls.{tripsOf, stopsOf, lastCall, risesBehind, rowBetween, rowBehind, rowsOf}
+use Rattle.gtfs_calls.specs.Faults.{nextVerdict, lineVerdict, headerVerdict}
+use Rattle.gtfs_calls.specs.Reading.{Reading, said, wrong, readFrom, stopTimes}
+use Rattle.gtfs_calls.specs.Names.{idLine, idLines, namesText}
 
 -- lines as they are printed, each with an LF behind it
 abbrev lineOnto : String → List ℕ → List ℕ
@@ -35,12 +30,21 @@ abbrev printed : List String → List ℕ
 printed [] = []
 printed (line ∷ lines) = lineOnto line (printed lines)
 
-abbrev answer : (day : ℕ) → (lines : List String) → Read
-answer day lines = readAnswer Rows (stopTimes (dayStart day) (printed lines))
+-- how many trips, stops and rows a text has, or its first fault, its line and its column
+pub data Outcome : Type 0 where
+  calls : (trips stops rows : ℕ) → Outcome
+  Wrong : (number line column : ℕ) → Outcome
+
+abbrev outcomeOf : Reading → Outcome
+outcomeOf (said back) = calls (length (tripsOf back)) (length (stopsOf back)) (length (rowsOf back))
+outcomeOf (wrong number line column) = Wrong number line column
+
+abbrev answer : (day : ℕ) → (lines : List String) → Outcome
+answer day lines = outcomeOf (stopTimes (dayStart day) (printed lines))
 
 -- the rows in order
 abbrev rowsIn : Reading → List Row
-rowsIn (said calls) = inOrder (rowsOf calls)
+rowsIn (said back) = inOrder (rowsOf back)
 rowsIn (wrong number line column) = []
 
 abbrev rows : (day : ℕ) → (lines : List String) → List Row
@@ -48,9 +52,6 @@ rows day lines = rowsIn (stopTimes (dayStart day) (printed lines))
 
 abbrev row : (board land departure arrival trip : ℕ) → Row
 row board land departure arrival trip = record { board = board; land = land; departure = departure; arrival = arrival; trip = trip; class = 0 }
-
-abbrev calls : (trips stops rows : ℕ) → Read
-calls trips stops rows = Calls (record { trips = trips; stops = stops; rows = rows }) (12 * rows)
 
 abbrev header : String
 header = "trip_id,arrival_time,departure_time,stop_id,stop_sequence"
@@ -77,7 +78,7 @@ rows-read = (refl, refl, refl)
 
 -- the ids by number: stops, then trips
 abbrev namesIn : Reading → List ℕ
-namesIn (said calls) = namesText calls
+namesIn (said back) = namesText back
 namesIn (wrong number line column) = []
 
 pub names-read :
@@ -109,7 +110,7 @@ pub answers :
     × (answer 1 ("trip_id,\"arrival_time\"" ∷ []) ≡ Wrong 11 1 0)
     × (answer 1 [] ≡ Wrong 11 1 1)
     × (answer 1 (header ∷ []) ≡ calls 0 0 0)
-unfolding writtenOf rowsBytes rowBytes u16Bytes inOrder among comesFirst readAnswer stopTimes readFrom lineVerdict headerVerdict nextVerdict ownVerdict filledVerdict timesVerdict isFilled timeRule sequenceRule
+unfolding stopTimes readFrom lineVerdict headerVerdict nextVerdict ownVerdict filledVerdict timesVerdict isFilled timeRule sequenceRule
     textsOn stopTimeOf tripsOf stopsOf lastCall risesBehind rowBetween rowBehind rowsOf idRule numberOf withId sameBytes
     isTime timeMinutes hoursIn tailIn minutesIn tailRule isWhole areDigits valueOf valueBehind
     columnsOf columnOf columnFrom linesOf ended withoutReturn parts onFirst fieldsOf fieldOf hasQuote

@@ -20,12 +20,12 @@ use Rattle.gtfs_lines.specs.Columns.{columnsOf}
 use Rattle.gtfs_stop_time.specs.StopTime.{StopTime, textsOn, stopTimeOf}
 use Rattle.gtfs_stop_time.specs.Faults.{ownVerdict}
 use Rattle.gtfs_ids.specs.Ids.{numberOf}
-use Rattle.gtfs_stop_times.specs.Calls.{tripsOf, stopsOf, lastCall, risesBehind, rowsOf}
-use Rattle.gtfs_stop_times.specs.Faults.{nextVerdict, lineVerdict, headerVerdict}
-use Rattle.gtfs_stop_times.specs.Reading.{Reading, said, wrong, readFrom, stopTimes}
-use Rattle.gtfs_stop_times.proofs.Appearance.{known-id, trips-collected}
-use Rattle.gtfs_stop_times.proofs.EachOnce.{none-new}
-use Rattle.gtfs_stop_times.proofs.Pairs.{LastRead, last-read}
+use Rattle.gtfs_calls.specs.Calls.{tripsOf, stopsOf, lastCall, risesBehind, rowsOf}
+use Rattle.gtfs_calls.specs.Faults.{nextVerdict, lineVerdict, headerVerdict}
+use Rattle.gtfs_calls.specs.Reading.{Reading, said, wrong, readFrom, stopTimes}
+use Rattle.gtfs_calls.proofs.Appearance.{known-id, trips-collected}
+use Rattle.gtfs_calls.proofs.EachOnce.{none-new}
+use Rattle.gtfs_calls.proofs.Pairs.{LastRead, last-read}
 
 -- a call's stop_sequence is above that of each call of its trip that was read before it
 pub record Rising (calls : List StopTime) : Type 0 where

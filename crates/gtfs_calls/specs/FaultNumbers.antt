@@ -1,6 +1,6 @@
 -- Document 02, E2: the numbers that a text's fault can have, and the column that it can be in.
 use Prim.Native.Nat.{ℕ, _≤_}
-use Rattle.gtfs_stop_times.specs.Reading.{Reading, said, wrong}
+use Rattle.gtfs_calls.specs.Reading.{Reading, said, wrong}
 
 -- columns are 1 to 5, and 0 for the line as a whole
 abbrev pub lastColumn : ℕ

@@ -6,7 +6,7 @@ use Rattle.timetable.specs.Limits.{mostStops, mostRows, mostTrips}
 use Rattle.timetable.specs.Timetable.{rowOf}
 use Rattle.file_layout.specs.Small.{SmallRow}
 use Rattle.gtfs_stop_time.specs.StopTime.{StopTime}
-use Rattle.gtfs_stop_times.specs.Calls.{tripsOf, stopsOf, rowsOf}
+use Rattle.gtfs_calls.specs.Calls.{tripsOf, stopsOf, rowsOf}
 
 -- the limits of trips, stops and rows, and numbers that fit a row's bytes
 pub record ReadSound (calls : List StopTime) : Type 0 where

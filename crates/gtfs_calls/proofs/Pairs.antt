@@ -21,9 +21,9 @@ use Rattle.laws.proofs.Members.{head-or-later}
 use Rattle.laws.proofs.Options.{absent, same-thing}
 use Rattle.gtfs_ids.proofs.Numbering.{either-way}
 use Rattle.gtfs_stop_time.specs.StopTime.{StopTime}
-use Rattle.gtfs_stop_times.specs.Calls.{lastCall}
-use Rattle.gtfs_stop_times.specs.Neighbours.{Pair, pairBehind, neighbours, AreNeighbours}
-use Rattle.gtfs_stop_times.proofs.LastCalls.{last-own, last-other}
+use Rattle.gtfs_calls.specs.Calls.{lastCall}
+use Rattle.gtfs_calls.specs.Neighbours.{Pair, pairBehind, neighbours, AreNeighbours}
+use Rattle.gtfs_calls.proofs.LastCalls.{last-own, last-other}
 
 -- no call of the trip is among these
 abbrev pub NoneOf : (trip : List ℕ) → List StopTime → Type 0

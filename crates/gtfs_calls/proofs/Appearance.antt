@@ -21,9 +21,9 @@ use Rattle.gtfs_ids.proofs.Numbering.{
 }
 use Rattle.gtfs_ids.proofs.Different.{Different, number-at, none-different, with-different}
 use Rattle.gtfs_stop_time.specs.StopTime.{StopTime}
-use Rattle.gtfs_stop_times.specs.Calls.{tripsOf, stopsOf}
-use Rattle.gtfs_stop_times.specs.Appearance.{FirstAppears}
-use Rattle.gtfs_stop_times.proofs.Numbers.{own-known}
+use Rattle.gtfs_calls.specs.Calls.{tripsOf, stopsOf}
+use Rattle.gtfs_calls.specs.Appearance.{FirstAppears}
+use Rattle.gtfs_calls.proofs.Numbers.{own-known}
 
 -- an id stays new where another appears
 pub still-new : (ids : List (List ℕ)) (id other : List ℕ) → (id ≡ other → ⊥) → numberOf ids other ≡ length ids

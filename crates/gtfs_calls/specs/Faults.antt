@@ -10,7 +10,7 @@ use Rattle.gtfs_lines.specs.declared.Columns.{Columns}
 use Rattle.gtfs_lines.specs.Lines.{hasQuote}
 use Rattle.gtfs_stop_time.specs.StopTime.{StopTime, textsOn, stopTimeOf}
 use Rattle.gtfs_stop_time.specs.Faults.{ownVerdict}
-use Rattle.gtfs_stop_times.specs.Calls.{tripsOf, stopsOf, lastCall, risesBehind, rowsOf}
+use Rattle.gtfs_calls.specs.Calls.{tripsOf, stopsOf, lastCall, risesBehind, rowsOf}
 
 -- behind the calls read so far: 13 not rising within its trip; 9 a 2,001st trip, 201st stop or 2,001st row
 unfoldable pub nextVerdict : List StopTime → StopTime → Verdict

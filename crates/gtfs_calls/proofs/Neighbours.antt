@@ -8,10 +8,10 @@ use Rattle.timetable.specs.declared.Row.{Row}
 use Rattle.gtfs_ids.specs.Ids.{numberOf, withId}
 use Rattle.gtfs_ids.proofs.Numbering.{number-kept}
 use Rattle.gtfs_stop_time.specs.StopTime.{StopTime}
-use Rattle.gtfs_stop_times.specs.Calls.{tripsOf, stopsOf, lastCall, rowBetween, rowBehind, rowsOf}
-use Rattle.gtfs_stop_times.specs.Neighbours.{Pair, pairBehind, neighbours, rowsBetween}
-use Rattle.gtfs_stop_times.proofs.Appearance.{known-id, trips-collected, stops-collected}
-use Rattle.gtfs_stop_times.proofs.Pairs.{neighbours-are}
+use Rattle.gtfs_calls.specs.Calls.{tripsOf, stopsOf, lastCall, rowBetween, rowBehind, rowsOf}
+use Rattle.gtfs_calls.specs.Neighbours.{Pair, pairBehind, neighbours, rowsBetween}
+use Rattle.gtfs_calls.proofs.Appearance.{known-id, trips-collected, stops-collected}
+use Rattle.gtfs_calls.proofs.Pairs.{neighbours-are}
 
 -- both calls of a pair are calls
 pub pair-members : (calls : List StopTime) (pair : Pair) → List·Memᴰ pair (neighbours calls)

@@ -11,10 +11,10 @@ use Rattle.timetable.specs.declared.Row.{Row}
 use Rattle.gtfs_order.proofs.Ordered.{Ordered, in-order-ordered}
 use Rattle.gtfs_order.proofs.AsRead.{alike, in-order-as-read, in-order-keeps, in-order-length}
 use Rattle.gtfs_stop_time.specs.StopTime.{StopTime}
-use Rattle.gtfs_stop_times.specs.Calls.{tripsOf, stopsOf, rowsOf, timetableOf}
-use Rattle.gtfs_stop_times.specs.Neighbours.{neighbours, rowsBetween}
-use Rattle.gtfs_stop_times.proofs.Neighbours.{rows-of-neighbours, rows-many}
-use Rattle.gtfs_stop_times.proofs.EachOnce.{each-once}
+use Rattle.gtfs_calls.specs.Calls.{tripsOf, stopsOf, rowsOf, timetableOf}
+use Rattle.gtfs_calls.specs.Neighbours.{neighbours, rowsBetween}
+use Rattle.gtfs_calls.proofs.Neighbours.{rows-of-neighbours, rows-many}
+use Rattle.gtfs_calls.proofs.EachOnce.{each-once}
 
 -- one row for each pair of neighbouring calls, as read
 abbrev pub pairRows : List StopTime → List Row

@@ -5,7 +5,7 @@ use Rattle.timetable.specs.Limits.{mostStops, mostTrips}
 use Rattle.gtfs_lines.specs.Lines.{lineFeed, quoteMark}
 use Rattle.gtfs_ids.specs.Ids.{longestId}
 use Rattle.gtfs_stop_time.specs.StopTime.{StopTime}
-use Rattle.gtfs_stop_times.specs.Calls.{tripsOf, stopsOf}
+use Rattle.gtfs_calls.specs.Calls.{tripsOf, stopsOf}
 
 -- `stop` and `trip`, each with a blank behind it
 abbrev pub stopWord : List ℕ
