@@ -9,3 +9,4 @@ pub mod Promised
 pub mod Settled
 pub mod Pinned
 pub mod NamesTold
+pub mod WrittenNamed

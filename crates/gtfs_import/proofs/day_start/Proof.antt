@@ -6,7 +6,7 @@ use Rattle.gtfs_import.proofs.day_start.Statement.{statement}
 use Rattle.gtfs_import.proofs.day_start.Tie as tie
 
 sub-result : tie.Need-sub-result
-sub-result c = day-kept (c .args .day) (c .pre) .0
+sub-result c = omega (arith, day-kept (c .args .day) (c .pre) .0)
 
 mul-result : tie.Need-mul-result
 mul-result c = omega (arith, start-kept (c .args .day) (c .pre))

@@ -45,16 +45,16 @@ enum-known-imported : tie.Need-enum-known-imported
 enum-known-imported c = search needs
 
 cell-requires : tie.Need-cell-requires
-cell-requires c κs = omega (arith, sizes c .0)
+cell-requires c κs = omega (arith, sizes c)
 
 cell-requires-2 : tie.Need-cell-requires-2
-cell-requires-2 c κs = omega (arith, sizes (c .before) .1)
+cell-requires-2 c κs = omega (arith, sizes (c .before))
 
 cell-requires-3 : tie.Need-cell-requires-3
-cell-requires-3 c κs = omega (arith, sizes (c .before .before) .2)
+cell-requires-3 c κs = omega (arith, sizes (c .before .before))
 
 cell-requires-4 : tie.Need-cell-requires-4
-cell-requires-4 c κs = omega (arith, sizes (c .before .before .before) .3)
+cell-requires-4 c κs = omega (arith, sizes (c .before .before .before))
 
 put-six-requires : tie.Need-put-six-requires
 put-six-requires c κs = search needs
@@ -63,10 +63,10 @@ enum-known-imported-2 : tie.Need-enum-known-imported-2
 enum-known-imported-2 c = search needs
 
 cell-requires-5 : tie.Need-cell-requires-5
-cell-requires-5 c κs = omega (arith, faults c .0)
+cell-requires-5 c κs = omega (arith, faults c)
 
 cell-requires-6 : tie.Need-cell-requires-6
-cell-requires-6 c κs = omega (arith, faults (c .before) .1)
+cell-requires-6 c κs = omega (arith, faults (c .before))
 
 put-six-requires-2 : tie.Need-put-six-requires-2
 put-six-requires-2 c κs = search needs
