@@ -30,6 +30,7 @@ use Rattle.file_encoding.proofs.Encode.{trailer-encode}
 use Rattle.file_encoding.proofs.EncodeCheck.{check-encode}
 use Rattle.file_writing.specs.Ends.{onTime, onTimeTrailer}
 use Rattle.file_writing.proofs.OnTime.{trailer-on-time, writable-on-time, within-on-time}
+use Rattle.file_writing.specs.Answers.{checkedOnTime, RefusedOnTime, few-stops, own-fault, order-fault, AnsweredOnTime}
 
 -- a trailer out of its ranges is 1, whatever the file's length
 outside-first : (b : Bool) (later rows : Verdict) → orElse (orElse (unless b 1 0) (orElse (unless false 1 0) later)) rows ≡ fault 1 0
@@ -50,12 +51,6 @@ unfolding trailerRule
 too-few stops n h =
     ap (λ b. b && leb stops mostStops && leb n mostRows && leb fewestClasses 1 && leb 1 mostClasses) (lt-leb fewestStops stops h)
 
--- a refusal by its number and place, in a file of so many stops and rows: never 2 or 3
-pub data RefusedOnTime (stops n : ℕ) : ℕ → ℕ → Type 0 where
-  few-stops : stops < fewestStops → RefusedOnTime stops n 1 0
-  own-fault : {i : ℕ} → fewestStops ≤ stops → i < n → RefusedOnTime stops n 4 i
-  order-fault : {i : ℕ} → fewestStops ≤ stops → i < n → RefusedOnTime stops n 5 i
-
 -- the same by arithmetic
 pub refusal-numbers : {stops n number place : ℕ} → RefusedOnTime stops n number place
     → ((number ≡ 1) × (place ≡ 0) × (stops < fewestStops)) ⊎ ((4 ≤ number) × (number ≤ 5) × (place < n) × (fewestStops ≤ stops))
@@ -68,20 +63,11 @@ one-few-stops (few-stops less) e = less
 one-few-stops (own-fault enough h) e = absurd (let z : ⊥ = omega arith in z)
 one-few-stops (order-fault enough h) e = absurd (let z : ⊥ = omega arith in z)
 
--- an answer that the check can give: such a refusal, or the trailer as it was written
-abbrev pub AnsweredOnTime : (stops : ℕ) → List Row → Checked → Type 0
-AnsweredOnTime stops rows (Sound h) = (fewestStops ≤ stops) × (h ≡ trailerFor versionOne (onTime stops rows))
-AnsweredOnTime stops rows (Refused number place) = RefusedOnTime stops (length rows) number place
-
 rows-answered : (stops : ℕ) (rows : List Row) (v : Verdict) → fewestStops ≤ stops → FaultSuch (RefusedOnTime stops (length rows)) v
     → AnsweredOnTime stops rows (answered (trailerFor versionOne (onTime stops rows)) v)
 unfolding answered
 rows-answered stops rows fine enough p = (enough, refl)
 rows-answered stops rows (fault number place) enough p = p
-
--- what the check answers to the file of these rows
-abbrev pub checkedOnTime : ℕ → List Row → Checked
-checkedOnTime stops rows = checkedAs versionOne (encode versionOne (onTime stops rows))
 
 module _ (stops : ℕ) (rows : List Row) (few : length rows ≤ mostRows) (small : (i : ℕ) → i < length rows → SmallRow (rowOf rows i)) where
   -- with enough stops the answer is the verdict on the rows

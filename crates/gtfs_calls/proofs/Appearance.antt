@@ -5,7 +5,7 @@ use mathlib.Core.Path.{_≡_, refl, sym, ap, subst, subst⁻¹, _∙_}
 use native.Mathlib.Omega.{arith}
 use lib.ListN.{length, getD}
 use Rattle.laws.proofs.Members.{head-or-later}
-use Rattle.gtfs_ids.specs.Ids.{numberOf, withId}
+use Rattle.gtfs_ids.specs.Ids.{numberOf, withId, Different}
 use Rattle.gtfs_ids.proofs.Numbering.{
   either-way,
   number-further,
@@ -19,7 +19,7 @@ use Rattle.gtfs_ids.proofs.Numbering.{
   length-with,
   known-or-new,
 }
-use Rattle.gtfs_ids.proofs.Different.{Different, number-at, none-different, with-different}
+use Rattle.gtfs_ids.proofs.Different.{number-at, none-different, with-different}
 use Rattle.gtfs_stop_time.specs.StopTime.{StopTime}
 use Rattle.gtfs_calls.specs.Calls.{tripsOf, stopsOf}
 use Rattle.gtfs_calls.specs.Appearance.{FirstAppears}

@@ -6,27 +6,17 @@ use mathlib.Core.List.{List}
 use mathlib.Core.Path.{_≡_, ap, _∙_}
 use native.Mathlib.Omega.{arith}
 use lib.ListN.{length}
-use Rattle.sorting.proofs.Counted.{counted}
+use Rattle.sorting.specs.Counted.{counted}
 use Rattle.timetable.specs.declared.Row.{Row}
-use Rattle.gtfs_order.proofs.Ordered.{Ordered, in-order-ordered}
-use Rattle.gtfs_order.proofs.AsRead.{alike, in-order-as-read, in-order-keeps, in-order-length}
+use Rattle.gtfs_order.specs.InTurn.{alike}
+use Rattle.gtfs_order.proofs.Ordered.{in-order-ordered}
+use Rattle.gtfs_order.proofs.AsRead.{in-order-as-read, in-order-keeps, in-order-length}
 use Rattle.gtfs_stop_time.specs.StopTime.{StopTime}
 use Rattle.gtfs_calls.specs.Calls.{tripsOf, stopsOf, rowsOf, timetableOf}
-use Rattle.gtfs_calls.specs.Neighbours.{neighbours, rowsBetween}
+use Rattle.gtfs_calls.specs.Neighbours.{neighbours}
+use Rattle.gtfs_calls.specs.FileRows.{pairRows, FileRows}
 use Rattle.gtfs_calls.proofs.Neighbours.{rows-of-neighbours, rows-many}
 use Rattle.gtfs_calls.proofs.EachOnce.{each-once}
-
--- one row for each pair of neighbouring calls, as read
-abbrev pub pairRows : List StopTime → List Row
-pairRows calls = rowsBetween (stopsOf calls) (tripsOf calls) (neighbours calls)
-
-pub record FileRows (calls : List StopTime) (rows : List Row) : Type 0 where
-  pub ordered : Ordered rows
-  pub as-read : (departure trip : ℕ) → alike departure trip rows ≡ alike departure trip (pairRows calls)
-  -- as many rows pass any test, so they are the pairs' rows in another order
-  pub same-rows : (test : Row → Bool) → counted test rows ≡ counted test (pairRows calls)
-  -- a row for every call but the first of its trip
-  pub many : length rows + length (tripsOf calls) ≡ length calls
 
 pub file-rows : (calls : List StopTime) → FileRows calls (timetableOf calls .rows)
 unfolding timetableOf

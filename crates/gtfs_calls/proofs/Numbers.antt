@@ -3,9 +3,9 @@ use Prim.Native.Nat.{ℕ, _<_}
 use mathlib.Core.List.{List, [], _∷_}
 use native.Mathlib.Omega.{arith}
 use lib.ListN.{length}
-use Rattle.gtfs_ids.specs.Ids.{numberOf, withId}
+use Rattle.gtfs_ids.specs.Ids.{numberOf, withId, Different}
 use Rattle.gtfs_ids.proofs.Numbering.{length-known, length-new, known-or-new, number-with}
-use Rattle.gtfs_ids.proofs.Different.{Different, none-different, with-different}
+use Rattle.gtfs_ids.proofs.Different.{none-different, with-different}
 use Rattle.gtfs_stop_time.specs.StopTime.{StopTime}
 use Rattle.gtfs_calls.specs.Calls.{tripsOf}
 

@@ -9,9 +9,9 @@ use native.Mathlib.Omega.{arith}
 use Rattle.gtfs_stop_time.specs.StopTime.{StopTime}
 use Rattle.gtfs_calls.specs.Calls.{lastCall}
 use Rattle.gtfs_calls.specs.Reading.{said, stopTimes}
-use Rattle.gtfs_calls.specs.Neighbours.{Pair, pairBehind, neighbours, NoneTwice, no-pair, one-pair-more}
+use Rattle.gtfs_calls.specs.Neighbours.{Pair, pairBehind, neighbours, NoneTwice, no-pair, one-pair-more, Rising}
 use Rattle.gtfs_calls.proofs.Neighbours.{pair-members}
-use Rattle.gtfs_calls.proofs.Rising.{Rising, text-rising}
+use Rattle.gtfs_calls.proofs.Rising.{text-rising}
 
 none-twice-with : (pairs : List Pair) (pair : Pair) → NoneTwice pairs → (List·Memᴰ pair pairs → ⊥) → NoneTwice (pairs ++ (pair ∷ []))
 none-twice-with [] pair no-pair new = one-pair-more (λ m. List·Memᴰ·not-nil m) no-pair

@@ -26,11 +26,7 @@ use Rattle.gtfs_calls.specs.Reading.{Reading, said, wrong, readFrom, sto
 use Rattle.gtfs_calls.proofs.Appearance.{known-id, trips-collected}
 use Rattle.gtfs_calls.proofs.EachOnce.{none-new}
 use Rattle.gtfs_calls.proofs.Pairs.{LastRead, last-read}
-
--- a call's stop_sequence is above that of each call of its trip that was read before it
-pub record Rising (calls : List StopTime) : Type 0 where
-  pub rises : (later : List StopTime) (call : StopTime) (earlier : List StopTime) → calls ≡ later ++ (call ∷ earlier)
-      → (first : StopTime) → List·Memᴰ first earlier → first .trip ≡ call .trip → first .sequence < call .sequence
+use Rattle.gtfs_calls.specs.Neighbours.{Rising}
 
 -- a trip's last call has its greatest stop_sequence
 last-greatest : (trip : List ℕ) (back : List StopTime) (previous : StopTime) → Rising back → LastRead trip back previous

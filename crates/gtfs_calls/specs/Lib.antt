@@ -7,3 +7,4 @@ pub mod Appearance
 pub mod Sound
 pub mod FaultNumbers
 pub mod Names
+pub mod FileRows

@@ -1,5 +1,5 @@
 -- Document 02, E2: the pairs of neighbouring calls, and the row of each, with the numbers that ids have in the whole text.
-use Prim.Native.Nat.{ℕ}
+use Prim.Native.Nat.{ℕ, _<_}
 use mathlib.Core.List.{List, [], _∷_, _++_, List·Memᴰ}
 use mathlib.Core.Path.{_≡_}
 use mathlib.Core.Option.{Option, none, some}
@@ -39,3 +39,8 @@ pub record AreNeighbours (calls : List StopTime) (first second : StopTime) : Typ
 pub data NoneTwice : List Pair → Type 0 where
   no-pair : NoneTwice []
   one-pair-more : {pair : Pair} {pairs : List Pair} → (List·Memᴰ pair pairs → ⊥) → NoneTwice pairs → NoneTwice (pair ∷ pairs)
+
+-- a call's stop_sequence is above that of each call of its trip that was read before it
+pub record Rising (calls : List StopTime) : Type 0 where
+  pub rises : (later : List StopTime) (call : StopTime) (earlier : List StopTime) → calls ≡ later ++ (call ∷ earlier)
+      → (first : StopTime) → List·Memᴰ first earlier → first .trip ≡ call .trip → first .sequence < call .sequence

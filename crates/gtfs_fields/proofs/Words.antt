@@ -15,17 +15,7 @@ use Rattle.gtfs_fields.specs.Time.{colon, minutesAnHour, tailBytes, hour
 use Rattle.gtfs_fields.proofs.Digits.{digits-told, digits-hold}
 use Rattle.gtfs_fields.proofs.Seam.{endingOf, hours-ahead, ending-behind, ending-told, two-digits}
 use Rattle.gtfs_fields.proofs.Tail.{Tail, tail-told, tail-holds}
-
--- hours of a digit or more, a colon, two digits of 00 to 59, a colon, 00
-pub record ClockTime (field : List ℕ) : Type 0 where
-  pub hours : List ℕ
-  pub tens : ℕ
-  pub ones : ℕ
-  pub says : field ≡ hours ++ (colon ∷ tens ∷ ones ∷ colon ∷ digitOf 0 ∷ digitOf 0 ∷ [])
-  pub some : 0 < length hours
-  pub hours-digits : OnlyDigits hours
-  pub minutes-digits : OnlyDigits (tens ∷ ones ∷ [])
-  pub minutes-below : valueOf (tens ∷ ones ∷ []) < minutesAnHour
+use Rattle.gtfs_fields.specs.Words.{ClockTime}
 
 -- a field that passes for a time has a byte ahead of its last six
 long-enough : (field : List ℕ) → isWhole (hoursIn field) ≡ true → tailBytes < length field

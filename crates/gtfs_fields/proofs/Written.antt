@@ -12,12 +12,8 @@ use Rattle.text.specs.Decimal.{digitOf, digitsOnto, decimal, numberText, valueB
 use Rattle.text.proofs.Decimals.{reads-back, only-digits}
 use Rattle.gtfs_fields.specs.declared.Number.the-variants.{Is, Wrong}
 use Rattle.gtfs_fields.specs.Time.{colon, minutesAnHour, isTime, timeMinutes, timeWithin}
-use Rattle.gtfs_fields.proofs.Words.{ClockTime, words-pass, words-minutes}
-
--- a time as it is written down
-abbrev pub timeText : (hours minutes : ℕ) → List ℕ
-timeText hours minutes =
-    numberText hours ++ (colon ∷ digitOf (minutes / 10) ∷ digitOf (minutes % 10) ∷ colon ∷ digitOf 0 ∷ digitOf 0 ∷ [])
+use Rattle.gtfs_fields.proofs.Words.{words-pass, words-minutes}
+use Rattle.gtfs_fields.specs.Words.{ClockTime, timeText}
 
 digits-longer : (most n : ℕ) (rest : List ℕ) → length rest ≤ length (digitsOnto most n rest)
 unfolding digitsOnto

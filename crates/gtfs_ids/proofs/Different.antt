@@ -8,13 +8,10 @@ use lib.Dec.{ltb}
 use lib.ListN.{length, getD, length-append, List·getD-append}
 use lib.Seq.{getD-at}
 use Rattle.laws.proofs.Tests.{ifb}
-use Rattle.gtfs_ids.specs.Ids.{numberOf, withId}
+use Rattle.gtfs_ids.specs.Ids.{numberOf, withId, Different}
 use Rattle.gtfs_ids.proofs.Numbering.{number-points, number-first-place, number-known, known-or-new, with-known, with-new}
 
 -- no id stands at two places
-pub record Different (ids : List (List ℕ)) : Type 0 where
-  pub apart : (i j : ℕ) → i < j → j < length ids → getD ids i [] ≡ getD ids j [] → ⊥
-
 pub none-different : Different []
 none-different = record { apart = λ i j before inside same. omega arith }
 

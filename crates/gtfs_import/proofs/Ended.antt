@@ -21,7 +21,8 @@ use Rattle.file_layout.specs.Format.{versionOne}
 use Rattle.file_layout.specs.Small.{SmallRow}
 use Rattle.file_encoding.proofs.Encode.{decode-encode}
 use Rattle.file_writing.specs.Ends.{onTime, onTimeTrailer}
-use Rattle.file_writing.proofs.Answers.{RefusedOnTime, few-stops, own-fault, order-fault, few-stops-refused, refused-on-time, sound-on-time}
+use Rattle.file_writing.specs.Answers.{RefusedOnTime}
+use Rattle.file_writing.proofs.Answers.{few-stops-refused, refused-on-time, sound-on-time}
 use Rattle.file_writing.proofs.OnTime.{length-on-time, writable-on-time}
 use Rattle.file_writing.proofs.Whole.{first-bytes, other-bytes, length-whole}
 use Rattle.gtfs_order.specs.Order.{inOrder}
@@ -37,15 +38,9 @@ use Rattle.gtfs_calls.proofs.ReadSound.{read-sound}
 use Rattle.gtfs_import.specs.declared.Imported.{Imported}
 use Rattle.gtfs_import.specs.declared.Imported.the-variants.{Written, Refused}
 use Rattle.gtfs_import.specs.Import.{dayRule, ImportOutcome, refusedImport, byCheck, byReading, importOutcome}
-use Rattle.gtfs_import.specs.Returned.{Asked, readOn, fileOf, FileFault, few-stops as too-few, own-fault as bad-row, order-fault as bad-order, FileWritten, Reason, no-day, no-room, text-fault, file-fault, Ended, refused, written}
+use Rattle.gtfs_import.specs.Returned.{Asked, readOn, fileOf, FileWritten, Reason, no-day, no-room, text-fault, file-fault, Ended, refused, written}
 use Rattle.gtfs_import.proofs.Days.{served, day-kept, no-service-day, too-little-room, by-the-text}
 use Rattle.gtfs_import.proofs.Told.{kept-back}
-
--- the check's refusals
-file-faults : {stops n number place : ℕ} → RefusedOnTime stops n number place → FileFault stops n number place
-file-faults (few-stops less) = too-few less
-file-faults (own-fault enough inside) = bad-row enough inside
-file-faults (order-fault enough inside) = bad-order enough inside
 
 module _ (calls : List StopTime) (sound : ReadSound calls) where
   abbrev rows : List Row
@@ -63,11 +58,11 @@ module _ (calls : List StopTime) (sound : ReadSound calls) where
   small : (i : ℕ) → i < length rows → SmallRow (rowOf rows i)
   small = each-in-order SmallRow (rowsOf calls) (sound .small)
 
-  pub fault-of-file : (number place : ℕ) → checked file ≡ CheckRefused number place → FileFault stops (length (rowsOf calls)) number place
+  pub fault-of-file : (number place : ℕ) → checked file ≡ CheckRefused number place → RefusedOnTime stops (length (rowsOf calls)) number place
   unfolding checked timetableOf
   fault-of-file number place e =
-      subst (λ n. FileFault stops n number place) (in-order-length (rowsOf calls))
-      (file-faults (refused-on-time stops rows few small (sound .few-stops) e))
+      subst (λ n. RefusedOnTime stops n number place) (in-order-length (rowsOf calls))
+      ((refused-on-time stops rows few small (sound .few-stops) e))
 
   pub few-stops-kept-back : (out : List ℕ) → stops < fewestStops → byCheck file out (checked file) ≡ refusedImport 1 0 out
   unfolding checked timetableOf

@@ -10,6 +10,7 @@ use Rattle.text.specs.Same.{sameBytes}
 use Rattle.timetable.specs.Classes.{sum, sharesRule}
 use Rattle.timetable.specs.Rows.{ownRule, departureRule, lastOfTrip, follows, tripRule, rowVerdict, rowsVerdict}
 use Rattle.file_layout.specs.Check.{checked, checkedAs, fileVerdict, sectionsVerdict, lengthRule, trailerRule, classVerdict, classesVerdict, joined, sectionsJoin, answered}
+use Rattle.file_layout.specs.Format.{versionOne}
 use Rattle.file_layout.specs.Decode.{decode, trailerOf, trailerAt, trailerStart, rowsFrom, rowAt, tablesFrom, tableAt, sharesFrom, blockEnd, tablesEnd}
 use Rattle.file_encoding.specs.Encode.{encode, rowsBytes, rowBytes, tablesBytes, tableBytes, sharesBytes, trailerBytes}
 use Rattle.file_writing.specs.Ends.{onTimeTrailer}
@@ -19,7 +20,7 @@ use Rattle.gtfs_fields.specs.Time.{colon, hoursIn, tailIn, minutesIn, tailRule,
 use Rattle.gtfs_fields.specs.Whole.{areDigits, isWhole}
 use Rattle.gtfs_ids.specs.Ids.{idRule, numberOf, withId}
 use Rattle.gtfs_order.specs.Order.{comesFirst, among, inOrder}
-use Rattle.gtfs_stop_time.specs.StopTime.{dayStart, textsOn, stopTimeOf, isFilled, timeRule, sequenceRule}
+use Rattle.gtfs_stop_time.specs.StopTime.{dayStart, textsOn, stopTimeOf, isFilled, timeRule, sequenceRule, lastMinute}
 use Rattle.gtfs_stop_time.specs.Faults.{filledVerdict, timesVerdict, ownVerdict}
 use Rattle.gtfs_calls.specs.Calls.{tripsOf, stopsOf, lastCall, risesBehind, rowBetween, rowBehind, rowsOf, timetableOf}
 use Rattle.gtfs_calls.specs.Faults.{nextVerdict, lineVerdict, headerVerdict}
@@ -100,3 +101,7 @@ pub rooms :
     × (roomRule 27919 ≡ false) × (roomRule 27920 ≡ true)
 unfolding importOutcome dayRule roomRule
 rooms = ((λ text. refl), (λ text. refl), refl, refl)
+
+-- a time's last minute is that of version 1's rows
+pub last-minute : lastMinute ≡ versionOne .lastminute
+last-minute = refl

@@ -2,20 +2,24 @@
 use Prim.Native.Nat.{ℕ, _≤_, _<_}
 use mathlib.Core.List.{List, [], _∷_}
 use mathlib.Core.Logic.{_↔_, _⊎_}
-use mathlib.Core.Path.{_≡_, refl, sym, ap, subst, _∙_}
-use lib.ListN.{length}
+use mathlib.Core.Path.{_≡_, refl, sym, ap, subst, subst⁻¹, _∙_}
+use lib.ListN.{length, take}
 use contract.Lifetimes.{Lfts}
 use denote.Ref.{now}
 use denote.Triple.Clauses.{AtExit}
 use borrow.Fn.Kinds.{Dens, resT, endedOf}
 use Rattle.timetable.specs.Limits.{fewestStops}
+use Rattle.timetable.specs.Timetable.{Timetable}
 use Rattle.file_layout.specs.declared.Checked.the-variants.{Sound, Refused as CheckRefused}
 use Rattle.file_layout.specs.declared.Trailer.{Trailer}
 use Rattle.file_layout.specs.Check.{checked}
+use Rattle.file_layout.specs.Decode.{decode}
 use Rattle.file_layout.specs.Format.{versionOne}
 use Rattle.gtfs_stop_time.specs.StopTime.{StopTime, dayStart}
 use Rattle.gtfs_calls.specs.Calls.{stopsOf, rowsOf}
+use Rattle.gtfs_calls.specs.FileRows.{FileRows}
 use Rattle.gtfs_calls.specs.Reading.{said, wrong}
+use Rattle.gtfs_calls.proofs.FileRows.{file-rows}
 use Rattle.gtfs_calls.proofs.ReadSound.{read-sound}
 use Rattle.gtfs_import.specs.declared.Imported.the-variants.{Written, Refused}
 use Rattle.gtfs_import.specs.Import.{firstDay, lastDay, ImportOutcome, byReading, byCheck, importAnswer, importOutcome}
@@ -51,6 +55,13 @@ module _ (κs : Lfts 2) (arguments : Dens κs kinds.ps) (answer : resT kinds.r �
   pub file-accepted : (trailer : Trailer) (bytes : ℕ) → answer ≡ Written trailer bytes
       → Asked day out × ((calls : List StopTime) × (readOn day text ≡ said calls) × FileWritten calls out out′ trailer bytes)
   file-accepted trailer bytes told = file-of ends told
+
+  -- its rows are one for each pair of neighbouring calls, by departure, then by trip number, then as read
+  pub file-rows-returned : (trailer : Trailer) (bytes : ℕ) → answer ≡ Written trailer bytes
+      → (calls : List StopTime) × (readOn day text ≡ said calls) × FileRows calls (decode versionOne (take bytes out′) .rows)
+  file-rows-returned trailer bytes told =
+      let accepted = file-accepted trailer bytes told .1 in
+      (accepted .0, accepted .1, subst⁻¹ (λ (t : Timetable). FileRows (accepted .0) (t .rows)) (accepted .2 .decodes) (file-rows (accepted .0)))
 
   -- it is answered with S, n, K = 1 and its length
   pub file-values : (trailer : Trailer) (bytes : ℕ) → answer ≡ Written trailer bytes

@@ -14,7 +14,8 @@ use Rattle.gtfs_calls.specs.Calls.{stopsOf}
 use Rattle.gtfs_calls.specs.FaultNumbers.{TextFault, too-many, unreadable, bad-time, bad-sequence}
 use Rattle.gtfs_calls.specs.Reading.{said, wrong}
 use Rattle.gtfs_import.specs.Import.{firstDay, lastDay}
-use Rattle.gtfs_import.specs.Returned.{Asked, readOn, fileOf, FileFault, few-stops, own-fault, order-fault, Reason, no-day, no-room, text-fault, file-fault, rowsIn}
+use Rattle.file_writing.specs.Answers.{RefusedOnTime, few-stops, own-fault, order-fault}
+use Rattle.gtfs_import.specs.Returned.{Asked, readOn, fileOf, Reason, no-day, no-room, text-fault, file-fault, rowsIn}
 use Rattle.gtfs_import.specs.Returned.{Refusal, too-few-stops, bad-row, bad-order, no-such-day, too-little-room, past-a-limit, unreadable-line, wrong-time, wrong-sequence}
 
 text-refusal : {n number column : ℕ} → TextFault number column → Refusal n number 0
@@ -23,7 +24,7 @@ text-refusal (unreadable h) = unreadable-line
 text-refusal (bad-time h) = wrong-time
 text-refusal (bad-sequence h) = wrong-sequence
 
-file-refusal : {stops n number place : ℕ} → FileFault stops n number place → Refusal n number place
+file-refusal : {stops n number place : ℕ} → RefusedOnTime stops n number place → Refusal n number place
 file-refusal (few-stops less) = too-few-stops
 file-refusal (own-fault enough inside) = bad-row inside
 file-refusal (order-fault enough inside) = bad-order inside
@@ -35,12 +36,12 @@ text-number (unreadable h) = omega arith
 text-number (bad-time h) = omega arith
 text-number (bad-sequence h) = omega arith
 
-file-number : {stops n number place : ℕ} → FileFault stops n number place → number < 6
+file-number : {stops n number place : ℕ} → RefusedOnTime stops n number place → number < 6
 file-number (few-stops less) = omega arith
 file-number (own-fault enough inside) = omega arith
 file-number (order-fault enough inside) = omega arith
 
-one-stops : {stops n number place : ℕ} → FileFault stops n number place → number ≡ 1 → stops < fewestStops
+one-stops : {stops n number place : ℕ} → RefusedOnTime stops n number place → number ≡ 1 → stops < fewestStops
 one-stops (few-stops less) e = less
 one-stops (own-fault enough inside) e = absurd (let z : ⊥ = omega arith in z)
 one-stops (order-fault enough inside) e = absurd (let z : ⊥ = omega arith in z)

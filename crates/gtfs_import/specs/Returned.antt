@@ -18,6 +18,7 @@ use Rattle.gtfs_calls.specs.Reading.{Reading, said, wrong, stopTimes}
 use Rattle.gtfs_import.specs.declared.Imported.{Imported}
 use Rattle.gtfs_import.specs.declared.Imported.the-variants.{Written, Refused}
 use Rattle.gtfs_import.specs.Import.{firstDay, lastDay}
+use Rattle.file_writing.specs.Answers.{RefusedOnTime}
 
 -- a service day, and room for the longest file
 pub record Asked (day : ℕ) (out : List ℕ) : Type 0 where
@@ -32,12 +33,6 @@ readOn day text = stopTimes (dayStart day) text
 -- the file of the calls
 abbrev pub fileOf : List StopTime → List ℕ
 fileOf calls = encode versionOne (timetableOf calls)
-
--- the check's refusals of a finished file of so many stops and rows
-pub data FileFault (stops n : ℕ) : (number place : ℕ) → Type 0 where
-  few-stops : stops < fewestStops → FileFault stops n 1 0
-  own-fault : {row : ℕ} → fewestStops ≤ stops → row < n → FileFault stops n 4 row
-  order-fault : {row : ℕ} → fewestStops ≤ stops → row < n → FileFault stops n 5 row
 
 -- the file of these calls stands in the first bytes, the check accepts it, and other bytes are as they were
 pub record FileWritten (calls : List StopTime) (out out′ : List ℕ) (trailer : Trailer) (bytes : ℕ) : Type 0 where
@@ -59,7 +54,7 @@ pub data Reason (text : List ℕ) (day : ℕ) (out : List ℕ) : (number place :
   text-fault : {number : ℕ} (line column : ℕ) → Asked day out → readOn day text ≡ wrong number line column → TextFault number column
       → Reason text day out number 0
   file-fault : {number place : ℕ} (calls : List StopTime) → Asked day out → readOn day text ≡ said calls
-      → checked (fileOf calls) ≡ CheckRefused number place → FileFault (length (stopsOf calls)) (length (rowsOf calls)) number place
+      → checked (fileOf calls) ≡ CheckRefused number place → RefusedOnTime (length (stopsOf calls)) (length (rowsOf calls)) number place
       → Reason text day out number place
 
 -- a refusal leaves `out` as it was; otherwise a file was written

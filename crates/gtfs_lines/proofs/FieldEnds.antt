@@ -12,7 +12,8 @@ use Rattle.gtfs_lines.specs.declared.Fields.{Fields}
 use Rattle.gtfs_lines.specs.declared.Line.the-variants.{Quoted, Cut}
 use Rattle.gtfs_lines.specs.Lines.{lineFeed, quoteMark, comma, withoutReturn, fieldsOf, hasQuote}
 use Rattle.gtfs_lines.specs.Cut.{aheadOfFeed, firstLine, behindLine, withField, lastEnd, cutFrom}
-use Rattle.gtfs_lines.proofs.Parts.{Without, one-part, first-part}
+use Rattle.gtfs_lines.specs.Joined.{Without}
+use Rattle.gtfs_lines.proofs.Parts.{one-part, first-part}
 use Rattle.gtfs_lines.proofs.Returns.{without-return}
 use Rattle.gtfs_lines.proofs.LineEnds.{quotes-ahead, quotes-on, quote-ahead}
 use Rattle.gtfs_lines.proofs.LineEnds.{first-last, behind-last, ahead-feed, first-feed, behind-feed, first-comma, behind-comma}

@@ -13,14 +13,7 @@ use Rattle.gtfs_lines.specs.declared.Columns.{Columns}
 use Rattle.gtfs_lines.specs.declared.Header.the-variants.{Quoted, Named}
 use Rattle.gtfs_lines.specs.Columns.{columnsOf}
 use Rattle.gtfs_lines.specs.Lines.{hasQuote}
-use Rattle.gtfs_lines.specs.Cut.{aheadOfFeed, firstLine, behindLine, headerOf}
-
--- the header is the text's first line, and the next one starts at `next`
-pub record HeaderCut (text : List ℕ) (columns : Columns) (next : ℕ) : Type 0 where
-  pub unquoted : hasQuote (firstLine text) ≡ false
-  pub named : columns ≡ columnsOf (firstLine text)
-  pub inside : next ≤ length text
-  pub behind : drop next text ≡ behindLine text
+use Rattle.gtfs_lines.specs.Cut.{aheadOfFeed, firstLine, behindLine, headerOf, HeaderCut}
 
 -- what is left is found again by its length
 drop-left : (text : List ℕ) (n : ℕ) → drop (length text - length (drop n text)) text ≡ drop n text

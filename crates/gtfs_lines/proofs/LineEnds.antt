@@ -12,7 +12,8 @@ use Rattle.laws.proofs.Alternatives.{or-right}
 use Rattle.gtfs_lines.specs.Lines.{lineFeed, quoteMark, comma, withoutReturn, hasQuote}
 use Rattle.gtfs_lines.specs.Cut.{aheadOfFeed, hasFeed, firstLine, behindLine}
 use Rattle.gtfs_lines.proofs.Returns.{return-behind, quotes-kept}
-use Rattle.gtfs_lines.proofs.Parts.{Without, Ahead, ahead, whole, cut}
+use Rattle.gtfs_lines.specs.Joined.{Without}
+use Rattle.gtfs_lines.proofs.Parts.{Ahead, ahead, whole, cut}
 
 -- bytes that are no LF are ahead of the first
 ahead-on : (front rest : List ℕ) → Without lineFeed front → aheadOfFeed (front ++ rest) ≡ front ++ aheadOfFeed rest

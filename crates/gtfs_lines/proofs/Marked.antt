@@ -11,7 +11,7 @@ use borrow.Author.Tests.{eqb-true, ne-eqb}
 use Rattle.laws.proofs.Tests.{ifb}
 use Rattle.gtfs_lines.specs.Lines.{lineFeed, quoteMark, comma}
 use Rattle.gtfs_lines.specs.Marks.{markedBy, plainAhead}
-use Rattle.gtfs_lines.proofs.Parts.{Without}
+use Rattle.gtfs_lines.specs.Joined.{Without}
 use Rattle.gtfs_lines.proofs.Slices.{slice-ahead, slice-behind}
 
 -- the bytes of a field that starts at `from` are plain, up to a mark at `at` or the text's end

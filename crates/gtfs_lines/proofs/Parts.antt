@@ -10,17 +10,7 @@ use borrow.Author.Tests.{eqb-true, eq-eqb}
 use Rattle.laws.proofs.Tests.{ifb, cond-true, cond-false}
 use Rattle.laws.proofs.Members.{head-or-later}
 use Rattle.gtfs_lines.specs.Lines.{onFirst, parts}
-
--- none of the bytes is the mark
-abbrev pub Without : (mark : ℕ) → List ℕ → Type 0
-Without mark [] = Unit {0}
-Without mark (byte ∷ text) = (eqb byte mark ≡ false) × Without mark text
-
--- parts with the separator between each two
-unfoldable pub joined : (separator : ℕ) → List (List ℕ) → List ℕ
-joined separator [] = []
-joined separator (last ∷ []) = last
-joined separator (part ∷ next ∷ more) = part ++ separator ∷ joined separator (next ∷ more)
+use Rattle.gtfs_lines.specs.Joined.{Without, joined}
 
 -- a byte ahead of the first part is one ahead of the text
 join-first : (separator byte : ℕ) (ps : List (List ℕ)) → joined separator (onFirst byte ps) ≡ byte ∷ joined separator ps

@@ -9,7 +9,7 @@ use lib.ListN.{length, length-append}
 use borrow.Author.Tests.{eqb-true, ne-eqb}
 use Rattle.laws.proofs.Tests.{ifb, false-right, both-left}
 use Rattle.gtfs_lines.specs.Lines.{carriageReturn, quoteMark, withoutReturn, hasQuote}
-use Rattle.gtfs_lines.proofs.Parts.{Without}
+use Rattle.gtfs_lines.specs.Joined.{Without}
 
 -- a CR is dropped only where it is last
 return-kept : (byte : ℕ) (line : List ℕ) → 0 < length line → withoutReturn (byte ∷ line) ≡ byte ∷ withoutReturn line

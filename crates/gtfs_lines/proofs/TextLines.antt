@@ -8,7 +8,8 @@ use borrow.Author.Tests.{ne-eqb}
 use Rattle.laws.proofs.Tests.{cond-false}
 use Rattle.gtfs_lines.specs.Lines.{lineFeed, withoutReturn, ended, linesOf, parts}
 use Rattle.gtfs_lines.specs.Cut.{firstLine, behindLine}
-use Rattle.gtfs_lines.proofs.Parts.{Without, Ahead, ahead, whole, cut, one-part, first-part, some-part}
+use Rattle.gtfs_lines.specs.Joined.{Without}
+use Rattle.gtfs_lines.proofs.Parts.{Ahead, ahead, whole, cut, one-part, first-part, some-part}
 use Rattle.gtfs_lines.proofs.LineEnds.{first-last, behind-last, first-feed, behind-feed}
 
 -- a text with no byte has no line

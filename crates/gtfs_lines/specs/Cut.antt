@@ -93,3 +93,10 @@ pub record LineCut (text : List ℕ) (columns : Columns) (start : ℕ) (fields :
   pub departure : FieldCut text (firstLine (drop start text)) (columns .departure) (fields .departure)
   pub stop : FieldCut text (firstLine (drop start text)) (columns .stop) (fields .stop)
   pub sequence : FieldCut text (firstLine (drop start text)) (columns .sequence) (fields .sequence)
+
+-- the header is the text's first line, and the next one starts at `next`
+pub record HeaderCut (text : List ℕ) (columns : Columns) (next : ℕ) : Type 0 where
+  pub unquoted : hasQuote (firstLine text) ≡ false
+  pub named : columns ≡ columnsOf (firstLine text)
+  pub inside : next ≤ length text
+  pub behind : drop next text ≡ behindLine text

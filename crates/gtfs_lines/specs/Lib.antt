@@ -4,3 +4,4 @@ pub mod Columns
 pub mod Cut
 pub mod Marks
 pub mod Naming
+pub mod Joined

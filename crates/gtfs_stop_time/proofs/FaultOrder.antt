@@ -7,7 +7,7 @@ use Rattle.timetable.specs.Verdict.{Verdict, fine, fault, orElse, unless}
 use Rattle.timetable.proofs.Verdicts.{fault-not-fine, first-fine, second-fine, rule-holds, goes-on, stops-at}
 use Rattle.gtfs_ids.specs.Ids.{idRule}
 use Rattle.gtfs_stop_time.specs.StopTime.{FieldTexts, stopTimeOf, isFilled, timeRule, sequenceRule}
-use Rattle.gtfs_stop_time.specs.Faults.{filledVerdict, timesVerdict, ownVerdict}
+use Rattle.gtfs_stop_time.specs.Faults.{filledVerdict, timesVerdict, ownVerdict, OwnFault, unfilled, untimed, unplaced}
 
 -- filled fields have ids
 pub filled-ids : (texts : FieldTexts) → filledVerdict texts ≡ fine → (idRule (texts .trip) ≡ true) × (idRule (texts .stop) ≡ true)
@@ -64,12 +64,6 @@ times-number start texts e =
     next-number (timeRule start (texts .arrival)) 12 2 _ e
     (λ e. next-number (timeRule start (texts .departure)) 12 3 _ e
     (λ e. last-number (leb (stopTimeOf start texts .arrival) (stopTimeOf start texts .departure)) 12 0 e))
-
--- the fault of a line's fields, by its number
-pub data OwnFault (start : ℕ) (texts : FieldTexts) (number column : ℕ) : Type 0 where
-  unfilled : number ≡ 11 → filledVerdict texts ≡ fault number column → OwnFault start texts number column
-  untimed : number ≡ 12 → filledVerdict texts ≡ fine → timesVerdict start texts ≡ fault number column → OwnFault start texts number column
-  unplaced : number ≡ 13 → filledVerdict texts ≡ fine → timesVerdict start texts ≡ fine → OwnFault start texts number column
 
 -- the first of three verdicts that is a fault
 first-of : {A : Type 0} (v w x : Verdict) {number column : ℕ} → orElse v (orElse w x) ≡ fault number column

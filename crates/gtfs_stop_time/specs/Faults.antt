@@ -1,8 +1,9 @@
 -- Document 02, E2: what a line's fields break by themselves: 11, 12, 13, in this order. Beside the number stands the column that the
 -- fault is in: 1 trip_id, 2 arrival_time, 3 departure_time, 4 stop_id, 5 stop_sequence, or 0 for the line as a whole.
 use Prim.Native.Nat.{ℕ}
+use mathlib.Core.Path.{_≡_}
 use lib.Dec.{leb}
-use Rattle.timetable.specs.Verdict.{Verdict, orElse, unless}
+use Rattle.timetable.specs.Verdict.{Verdict, fine, fault, orElse, unless}
 use Rattle.gtfs_ids.specs.Ids.{idRule}
 use Rattle.gtfs_stop_time.specs.StopTime.{FieldTexts, stopTimeOf, isFilled, timeRule, sequenceRule}
 
@@ -25,3 +26,9 @@ timesVerdict start texts =
 unfoldable pub ownVerdict : (start : ℕ) → FieldTexts → Verdict
 ownVerdict start texts =
     orElse (filledVerdict texts) (orElse (timesVerdict start texts) (unless (sequenceRule (texts .sequence)) 13 5))
+
+-- the fault of a line's fields, by its number
+pub data OwnFault (start : ℕ) (texts : FieldTexts) (number column : ℕ) : Type 0 where
+  unfilled : number ≡ 11 → filledVerdict texts ≡ fault number column → OwnFault start texts number column
+  untimed : number ≡ 12 → filledVerdict texts ≡ fine → timesVerdict start texts ≡ fault number column → OwnFault start texts number column
+  unplaced : number ≡ 13 → filledVerdict texts ≡ fine → timesVerdict start texts ≡ fine → OwnFault start texts number column

@@ -1,3 +1,4 @@
 -- Numbers in rising order.
 pub mod Sorted
 pub mod InOrder
+pub mod Counted
