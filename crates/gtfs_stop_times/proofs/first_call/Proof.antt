@@ -45,11 +45,13 @@ keep-call-requires c κs = search needs
 
 enter-requires : tie.Need-enter-requires
 enter-requires c κs =
-    let a = c .before .before .before .before .before .before .before .before .before .before .before .before .before .before .before .args in
-    let fits = c .before .before .before .before .before .before .before .before .before .before .before .before .before .before .before .pre .0 in
-    let few = leb-true (countWith (a .counts .stops) (a .stop)) mostStops
-    (few-enough (a .counts .stops) (a .stop) mostStops (sym (c .before .before .before .before .before .before .before .before .before .before .is-too-many .ensures) ∙ c .before .before .before .before .before .before .before .before .before .if2 .left)) in
-    (omega (arith, few, fits .stop-cells), omega (arith, fits .few-stops))
+    let few = c .before .before .before .before .before .before .before .before .before in
+    let start = few .before .before .before .before .before .before in
+    let a = start .args in
+    let fits = start .pre .0 in
+    let room = leb-true (countWith (a .counts .stops) (a .stop)) mostStops
+    (few-enough (a .counts .stops) (a .stop) mostStops (sym (few .before .is-too-many .ensures) ∙ few .if2 .left)) in
+    (omega (arith, room, fits .stop-cells), omega (arith, fits .few-stops))
 
 add-t18 : tie.Need-add-t18
 add-t18 c = search needs
@@ -66,13 +68,16 @@ same-length-3 c = search needs
 returns-3 : tie.Need-returns-3
 returns-3 c =
     λ text back says rows held said numbered.
-    let a = c .before .before .before .before .before .before .before .before .before .before .before .before .before .before .before .before .before .before .args in
+    let few = c .before .before .before .before .before .before .before .before .before .before .before .before in
+    let start = few .before .before .before .before .before .before in
+    let a = start .args in
     let outcome =
     first-kept back says (a .call) (a .trips .now) (a .stops .now) (a .last .now) rows (a .counts) held said (a .counts .trips) (a .stop) numbered refl
-    (below-most (a .counts .trips) (c .before .before .before .before .before .before .before .before .before .before .before .before .before .before .before .before .before .before .pre .0 .few-trips) (c .before .before .before .before .before .before .before .before .before .before .before .before .before .before .if1 .left))
-    (few-enough (a .counts .stops) (a .stop) mostStops (sym (c .before .before .before .before .before .before .before .before .before .before .before .before .before .is-too-many .ensures) ∙ c .before .before .before .before .before .before .before .before .before .before .before .before .if2 .left))
+    (below-most (a .counts .trips) (start .pre .0 .few-trips) (few .before .before .if1 .left))
+    (few-enough (a .counts .stops) (a .stop) mostStops (sym (few .before .is-too-many .ensures) ∙ few .if2 .left))
     in
-    taken-as back says _ _ _ _ _ _ _ _ _ _ (ap (λ n. On (record { trips = a .counts .trips + 1; stops = n; rows = a .counts .rows })) (c .before .before .enter .ensures .1))
+    taken-as back says _ _ _ _ _ _ _ _ _ _
+    (ap (λ n. On (record { trips = a .counts .trips + 1; stops = n; rows = a .counts .rows })) (c .before .before .enter .ensures .1))
     (c .before .before .before .before .before .before .before .before .before .before .add .ensures) (c .before .before .enter .ensures .0) (c .before .before .before .before .before .before .keep-call .ensures) refl outcome
 
 pub first-call-spec : {M : Type 1} → statement M

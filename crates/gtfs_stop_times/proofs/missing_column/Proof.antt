@@ -19,19 +19,30 @@ returns-3 c = simp (ne-eqb _ 0 (c .before .before .before .before .if1 .left), n
 returns-4 : tie.Need-returns-4
 unfolding missingColumn
 returns-4 c =
-    simp (ne-eqb _ 0 (c .before .before .before .before .before .before .if1 .left), ne-eqb _ 0 (c .before .before .before .before .if2 .left), ne-eqb _ 0 (c .before .before .if3 .left), eq-eqb _ 0 (c .if4 .taken))
+    let three = c .before .before in
+    let two = three .before .before in
+    let one = two .before .before in
+    simp (ne-eqb _ 0 (one .if1 .left), ne-eqb _ 0 (two .if2 .left), ne-eqb _ 0 (three .if3 .left), eq-eqb _ 0 (c .if4 .taken))
 
 returns-5 : tie.Need-returns-5
 unfolding missingColumn
 returns-5 c =
+    let four = c .before .before in
+    let three = four .before .before in
+    let two = three .before .before in
+    let one = two .before .before in
     simp
-    (ne-eqb _ 0 (c .before .before .before .before .before .before .before .before .if1 .left), ne-eqb _ 0 (c .before .before .before .before .before .before .if2 .left), ne-eqb _ 0 (c .before .before .before .before .if3 .left), ne-eqb _ 0 (c .before .before .if4 .left), eq-eqb _ 0 (c .if5 .taken))
+    (ne-eqb _ 0 (one .if1 .left), ne-eqb _ 0 (two .if2 .left), ne-eqb _ 0 (three .if3 .left), ne-eqb _ 0 (four .if4 .left), eq-eqb _ 0 (c .if5 .taken))
 
 returns-6 : tie.Need-returns-6
 unfolding missingColumn
 returns-6 c =
+    let four = c .before .before in
+    let three = four .before .before in
+    let two = three .before .before in
+    let one = two .before .before in
     simp
-    (ne-eqb _ 0 (c .before .before .before .before .before .before .before .before .if1 .left), ne-eqb _ 0 (c .before .before .before .before .before .before .if2 .left), ne-eqb _ 0 (c .before .before .before .before .if3 .left), ne-eqb _ 0 (c .before .before .if4 .left), ne-eqb _ 0 (c .if5 .left))
+    (ne-eqb _ 0 (one .if1 .left), ne-eqb _ 0 (two .if2 .left), ne-eqb _ 0 (three .if3 .left), ne-eqb _ 0 (four .if4 .left), ne-eqb _ 0 (c .if5 .left))
 
 pub missing-column-spec : {M : Type 1} → statement M
 missing-column-spec =

@@ -38,9 +38,11 @@ number-requires c κs = search needs
 returns : tie.Need-returns
 returns c =
     λ text back says trips held said numbered.
-    let a = c .before .before .before .before .before .before .before .args in
-    falls back says (a .call) trips (a .stops .now) (a .last .now) (a .rows .now) (a .counts) held said (a .trip) (a .stop) numbered
-    (c .before .before .before .before .before .before .before .pre .2) _ _ _ (let z : a .call .sequence ≤ getD (a .last .now) (3 * a .trip + 2) 0 = omega (arith, c .if1 .taken, c .before .before .number .ensures .0) in z)
+    let read = c .before .before in
+    let start = read .before .before .before .before .before in
+    let a = start .args in
+    falls back says (a .call) trips (a .stops .now) (a .last .now) (a .rows .now) (a .counts) held said (a .trip) (a .stop) numbered (start .pre .2) _ _ _
+    (let z : a .call .sequence ≤ getD (a .last .now) (3 * a .trip + 2) 0 = omega (arith, c .if1 .taken, read .number .ensures .0) in z)
 
 is-too-many-requires : tie.Need-is-too-many-requires
 is-too-many-requires c κs = search needs
@@ -48,18 +50,25 @@ is-too-many-requires c κs = search needs
 returns-2 : tie.Need-returns-2
 returns-2 c =
     λ text back says trips held said numbered.
-    let a = c .before .before .before .before .before .before .before .before .before .args in
+    let rises = c .before .before in
+    let start = rises .before .before .before .before .before .before .before in
+    let a = start .args in
+    let sequence = getD (a .last .now) (3 * a .trip + 2) 0 in
     next-stop-too-many back says (a .call) trips (a .stops .now) (a .last .now) (a .rows .now) (a .counts) held said (a .trip) (a .stop) numbered
-    (c .before .before .before .before .before .before .before .before .before .pre .2) (let z : getD (a .last .now) (3 * a .trip + 2) 0 < a .call .sequence = omega (arith, c .before .before .if1 .left, c .before .before .before .before .number .ensures .0) in z)
-    _ _ _ (too-many (a .counts .stops) (a .stop) mostStops (sym (c .before .is-too-many .ensures) ∙ c .if2 .taken))
+    (start .pre .2) (let z : sequence < a .call .sequence = omega (arith, rises .if1 .left, rises .before .before .number .ensures .0) in z) _ _ _
+    (too-many (a .counts .stops) (a .stop) mostStops (sym (c .before .is-too-many .ensures) ∙ c .if2 .taken))
 
 returns-3 : tie.Need-returns-3
 returns-3 c =
     λ text back says trips held said numbered.
-    let a = c .before .before .before .before .before .before .before .before .before .before .before .args in
+    let few = c .before .before in
+    let rises = few .before .before in
+    let start = rises .before .before .before .before .before .before .before in
+    let a = start .args in
+    let sequence = getD (a .last .now) (3 * a .trip + 2) 0 in
     row-too-many back says (a .call) trips (a .stops .now) (a .last .now) (a .rows .now) (a .counts) held said (a .trip) (a .stop) numbered
-    (c .before .before .before .before .before .before .before .before .before .before .before .pre .2) (let z : getD (a .last .now) (3 * a .trip + 2) 0 < a .call .sequence = omega (arith, c .before .before .before .before .if1 .left, c .before .before .before .before .before .before .number .ensures .0) in z)
-    (few-enough (a .counts .stops) (a .stop) mostStops (sym (c .before .before .before .is-too-many .ensures) ∙ c .before .before .if2 .left)) _ _ _ (c .if3 .taken)
+    (start .pre .2) (let z : sequence < a .call .sequence = omega (arith, rises .if1 .left, rises .before .before .number .ensures .0) in z)
+    (few-enough (a .counts .stops) (a .stop) mostStops (sym (few .before .is-too-many .ensures) ∙ few .if2 .left)) _ _ _ (c .if3 .taken)
 
 mul-number-2 : tie.Need-mul-number-2
 mul-number-2 c = search needs
@@ -93,14 +102,16 @@ keep-call-requires c κs = search needs
 
 enter-requires : tie.Need-enter-requires
 enter-requires c κs =
-    let a = c .before .before .before .before .before .before .before .before .before .before .before .before .before .before .before .before .before .before .before .before .before .before .before .before .before .args in
-    let fits = c .before .before .before .before .before .before .before .before .before .before .before .before .before .before .before .before .before .before .before .before .before .before .before .before .before .pre .0 in
-    let few = leb-true (countWith (a .counts .stops) (a .stop)) mostStops
-    (few-enough (a .counts .stops) (a .stop) mostStops (sym (c .before .before .before .before .before .before .before .before .before .before .before .before .before .before .before .before .before .is-too-many .ensures) ∙ c .before .before .before .before .before .before .before .before .before .before .before .before .before .before .before .before .if2 .left)) in
-    (omega (arith, few, fits .stop-cells), omega (arith, fits .few-stops))
+    let few = c .before .before .before .before .before .before .before .before .before .before .before .before .before .before .before .before in
+    let start = few .before .before .before .before .before .before .before .before .before in
+    let a = start .args in
+    let fits = start .pre .0 in
+    let room = leb-true (countWith (a .counts .stops) (a .stop)) mostStops
+    (few-enough (a .counts .stops) (a .stop) mostStops (sym (few .before .is-too-many .ensures) ∙ few .if2 .left)) in
+    (omega (arith, room, fits .stop-cells), omega (arith, fits .few-stops))
 
 add-t12 : tie.Need-add-t12
-add-t12 c = omega (arith, c .before .before .before .before .before .before .before .before .before .before .before .before .before .before .before .before .before .before .before .before .before .before .before .before .before .before .before .before .before .pre .0 .few-rows)
+add-t12 c = let few = c .before .before .before .before .before .before .before .before .before .before .before .before .before .before .before .before .before .before .before .before in omega (arith, few .before .before .before .before .before .before .before .before .before .pre .0 .few-rows)
 
 same-length : tie.Need-same-length
 same-length c = search needs
@@ -114,15 +125,20 @@ same-length-3 c = search needs
 returns-4 : tie.Need-returns-4
 returns-4 c =
     λ text back says trips held said numbered.
-    let a = c .before .before .before .before .before .before .before .before .before .before .before .before .before .before .before .before .before .before .before .before .before .before .before .before .before .before .before .before .before .args in
-    let full = c .before .before .before .before .before .before .before .before .before .before .before .before .before .before .before .before .before .before .if3 .left in
+    let full = c .before .before .before .before .before .before .before .before .before .before .before .before .before .before .before .before .before .before in
+    let few = full .before .before in
+    let rises = few .before .before in
+    let start = rises .before .before .before .before .before .before .before in
+    let a = start .args in
+    let sequence = getD (a .last .now) (3 * a .trip + 2) 0 in
     let outcome =
     next-kept back says (a .call) trips (a .stops .now) (a .last .now) (a .rows .now) (a .counts) held said (a .trip) (a .stop) numbered
-    (c .before .before .before .before .before .before .before .before .before .before .before .before .before .before .before .before .before .before .before .before .before .before .before .before .before .before .before .before .before .pre .2) (let z : getD (a .last .now) (3 * a .trip + 2) 0 < a .call .sequence = omega (arith, c .before .before .before .before .before .before .before .before .before .before .before .before .before .before .before .before .before .before .before .before .before .before .if1 .left, c .before .before .before .before .before .before .before .before .before .before .before .before .before .before .before .before .before .before .before .before .before .before .before .before .number .ensures .0) in z)
-    (few-enough (a .counts .stops) (a .stop) mostStops (sym (c .before .before .before .before .before .before .before .before .before .before .before .before .before .before .before .before .before .before .before .before .before .is-too-many .ensures) ∙ c .before .before .before .before .before .before .before .before .before .before .before .before .before .before .before .before .before .before .before .before .if2 .left))
-    (below-most (a .counts .rows) (c .before .before .before .before .before .before .before .before .before .before .before .before .before .before .before .before .before .before .before .before .before .before .before .before .before .before .before .before .before .pre .0 .few-rows) full)
+    (start .pre .2) (let z : sequence < a .call .sequence = omega (arith, rises .if1 .left, rises .before .before .number .ensures .0) in z)
+    (few-enough (a .counts .stops) (a .stop) mostStops (sym (few .before .is-too-many .ensures) ∙ few .if2 .left))
+    (below-most (a .counts .rows) (start .pre .0 .few-rows) (full .if3 .left))
     in
-    taken-as back says _ _ _ _ _ _ _ _ _ _ (ap (λ n. On (record { trips = a .counts .trips; stops = n; rows = a .counts .rows + 1 })) (c .before .before .before .enter .ensures .1)) refl
+    taken-as back says _ _ _ _ _ _ _ _ _ _
+    (ap (λ n. On (record { trips = a .counts .trips; stops = n; rows = a .counts .rows + 1 })) (c .before .before .before .enter .ensures .1)) refl
     (c .before .before .before .enter .ensures .0) (c .before .before .before .before .before .before .before .keep-call .ensures)
     (c .before .before .before .before .before .before .before .before .before .before .before .put-row .ensures
     ∙ ap (λ (r : Row). sets (a .rows .now) (12 * a .counts .rows) (rowBytes r))

@@ -44,13 +44,17 @@ same-length c = search needs
 returns : tie.Need-returns
 unfolding idLine
 returns c =
-    let a = c .before .before .before .before .before .before .before .before .before .before .before .before .before .before .before .before .before .before .before .before .before .before .before .before .args in
+    let id-put = c .before .before .before .before .before .before .before .before .before .before in
+    let word-put = id-put .before .before .before .before .before .before .before .before .before in
+    let start = word-put .before .before .before .before .before in
+    let a = start .args in
     let size : a .from + a .size - a .from ≡ a .size = omega arith in
     let id : take (a .from + a .size - a .from) (drop (a .from) (a .text .now)) ≡ slice (a .from) (a .from + a .size) (a .text .now) =
-    ap (λ n. take n (drop (a .from) (a .text .now))) size ∙ sym (slice-ahead (a .text .now) (a .from) (a .size) (omega (arith, c .before .before .before .before .before .before .before .before .before .before .before .before .before .before .before .before .before .before .before .before .before .before .before .before .pre)))
+    ap (λ n. take n (drop (a .from) (a .text .now))) size ∙ sym (slice-ahead (a .text .now) (a .from) (a .size) (omega (arith, start .pre)))
     in
-    put-then (put-then (put-then (put-then (c .before .before .before .before .before .before .before .before .before .before .before .before .before .before .before .before .before .before .before .put-text .ensures .0) (c .before .before .before .before .before .before .before .before .before .before .before .before .before .before .before .put-byte .ensures .0))
-    (put-as id (c .before .before .before .before .before .before .before .before .before .before .put-text2 .ensures .0))) (c .before .before .before .before .before .before .put-byte2 .ensures .0)) (c .before .before .put-byte3 .ensures .0)
+    let opened = put-then (word-put .put-text .ensures .0) (id-put .before .before .before .before .before .put-byte .ensures .0) in
+    let named = put-then opened (put-as id (id-put .put-text2 .ensures .0)) in
+    put-then (put-then named (c .before .before .before .before .before .before .put-byte2 .ensures .0)) (c .before .before .put-byte3 .ensures .0)
 
 pub put-id-spec : {M : Type 1} → statement M
 put-id-spec =

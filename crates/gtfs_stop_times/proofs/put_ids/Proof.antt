@@ -17,16 +17,22 @@ loop-holds : tie.Need-loop-holds Inv-loop μ-loop
 loop-holds c = put-none
 
 place-of-requires : tie.Need-place-of-requires Inv-loop μ-loop
-place-of-requires c κs = let pre = c .before .before .before .before .before .before .pre .0 in (omega (arith, c .loop-test .taken, pre .1 .chained .room, pre .2), omega (arith, c .loop-test .taken, pre .3))
+place-of-requires c κs =
+    let pre = c .before .before .before .before .before .before .pre .0 in
+    (omega (arith, c .loop-test .taken, pre .1 .chained .room, pre .2), omega (arith, c .loop-test .taken, pre .3))
 
 size-of-requires : tie.Need-size-of-requires Inv-loop μ-loop
-size-of-requires c κs = let pre = c .before .before .before .before .before .before .before .pre .0 in (omega (arith, c .before .loop-test .taken, pre .1 .chained .room, pre .2), omega (arith, c .before .loop-test .taken, pre .3))
+size-of-requires c κs =
+    let pre = c .before .before .before .before .before .before .before .pre .0 in
+    let more = c .before .loop-test .taken in (omega (arith, more, pre .1 .chained .room, pre .2), omega (arith, more, pre .3))
 
 put-id-requires : tie.Need-put-id-requires Inv-loop μ-loop
 put-id-requires c κs =
-    let pre = c .before .before .before .before .before .before .before .before .before .pre in
-    id-fits (c .before .before .before .before .loop .inv) (c .before .before .place-of .result) (c .before .size-of .result) (c .before .before .before .loop-test .taken) (pre .1) (pre .2) (c .before .before .place-of .ensures)
-    (c .before .size-of .ensures) (pre .0 .0) (pre .0 .1) (pre .0 .2)
+    let place = c .before .before in
+    let turn = place .before in
+    let pre = turn .before .before .before .before .before .before .pre in
+    id-fits (turn .before .loop .inv) (place .place-of .result) (c .before .size-of .result) (turn .loop-test .taken) (pre .1) (pre .2)
+    (place .place-of .ensures) (c .before .size-of .ensures) (pre .0 .0) (pre .0 .1) (pre .0 .2)
 
 add-i : tie.Need-add-i Inv-loop μ-loop
 add-i c = search needs
@@ -36,8 +42,11 @@ loop-less c = search needs
 
 loop-again : tie.Need-loop-again Inv-loop μ-loop
 loop-again c =
-    put-more (c .before .before .before .before .before .before .before .loop .inv) (c .before .before .before .before .before .place-of .result) (c .before .before .before .before .size-of .result) (c .before .before .before .before .before .before .loop-test .taken) (c .before .before .before .before .before .place-of .ensures) (c .before .before .before .before .size-of .ensures)
-    (c .before .before .put-id .ensures)
+    let size = c .before .before .before .before in
+    let place = size .before in
+    let turn = place .before in
+    put-more (turn .before .loop .inv) (place .place-of .result) (size .size-of .result) (turn .loop-test .taken) (place .place-of .ensures)
+    (size .size-of .ensures) (c .before .before .put-id .ensures)
 
 same-length : tie.Need-same-length Inv-loop μ-loop
 same-length c =

@@ -9,7 +9,7 @@ enum-told : tie.Need-enum-told
 enum-told c = search needs
 
 put-in-order-requires : tie.Need-put-in-order-requires
-put-in-order-requires c κs = rows-fit (c .before .before .before .before .before .before .before .before .pre .0) (c .before .before .before .before .before .before .before .before .args .out .now) (c .before .enum-told .given .1) (c .before .before .before .before .before .before .before .before .pre .1)
+put-in-order-requires c κs = let start = c .before .before .before .before .before .before .before .before in rows-fit (start .pre .0) (start .args .out .now) (c .before .enum-told .given .1) (start .pre .1)
 
 mul-result : tie.Need-mul-result
 mul-result c = search needs
@@ -22,17 +22,20 @@ slice-aggregate-put-ids c = search needs
 
 put-ids-requires : tie.Need-put-ids-requires
 put-ids-requires c κs =
-    (stops-for (c .before .before .before .before .before .before .before .before .before .pre .0), omega arith, stops-fit (c .before .before .before .before .before .before .before .before .before .pre .0) (c .before .before .before .before .before .before .before .before .before .args .out .now) (c .before .before .enum-told2 .given .1) (c .before .before .before .before .before .before .before .before .before .pre .1))
+    let start = c .before .before .before .before .before .before .before .before .before in
+    (stops-for (start .pre .0), omega arith, stops-fit (start .pre .0) (start .args .out .now) (c .before .before .enum-told2 .given .1) (start .pre .1))
 
 slice-aggregate-put-ids-2 : tie.Need-slice-aggregate-put-ids-2
 slice-aggregate-put-ids-2 c = search needs
 
 put-ids-requires-2 : tie.Need-put-ids-requires-2
-put-ids-requires-2 c κs = (
-  trips-for (c .before .before .before .before .before .before .before .before .before .before .before .before .before .before .pre .0),
-  omega arith,
-  trips-fit (c .before .before .before .before .before .before .before .before .before .before .before .before .before .before .pre .0) (c .before .before .before .before .before .before .before .before .before .before .before .before .before .before .args .out .now) _ _ (c .before .before .before .before .before .before .before .enum-told2 .given .1) (c .before .before .before .before .before .before .before .before .before .before .before .before .before .before .pre .1) (c .before .before .before .before .put-ids .ensures) (omega arith),
-)
+put-ids-requires-2 c κs =
+    let stops-put = c .before .before .before .before in
+    let start = stops-put .before .before .before .before .before .before .before .before .before .before in (
+      trips-for (start .pre .0),
+      omega arith,
+      trips-fit (start .pre .0) (start .args .out .now) _ _ (stops-put .before .before .before .enum-told2 .given .1) (start .pre .1) (stops-put .put-ids .ensures) (omega arith),
+    )
 
 same-length : tie.Need-same-length
 same-length c = search needs
@@ -45,7 +48,9 @@ same-length-2 c = search needs
 
 returns-2 : tie.Need-returns-2
 returns-2 c =
-    names-put (c .before .before .before .before .before .before .before .before .before .before .before .before .before .before .before .before .before .args .out .now) _ _ _ _ (c .before .before .before .before .before .before .before .before .before .before .enum-told2 .given .1) (c .before .before .before .before .before .before .before .before .before .before .before .before .before .before .before .before .before .pre .1) (c .before .before .before .before .before .before .before .put-ids .ensures) (c .before .before .put-ids2 .ensures)
+    let stops-put = c .before .before .before .before .before .before .before in
+    let start = stops-put .before .before .before .before .before .before .before .before .before .before in
+    names-put (start .args .out .now) _ _ _ _ (stops-put .before .before .before .enum-told2 .given .1) (start .pre .1) (stops-put .put-ids .ensures) (c .before .before .put-ids2 .ensures)
 
 pub put-wanted-spec : {M : Type 1} → statement M
 put-wanted-spec =
