@@ -16,6 +16,7 @@ FACTS = [
     ("search: an equation is missing", r"list the missing equation with its arguments"),
     ("simp: nothing to rewrite", r"`simp`: no equation of the list has an instance in the goal "),
     ("simp: a goal is left", r"give a proof of that as the last argument, `simp L t`"),
+    ("rw: a goal is left", r"give a proof of that as the last argument, `rw L t`"),
 ]
 SLIPS = [
     ("scope", r"is not in scope|that can be named from here|has no field|has no function|no field `[^`]*` on type"),
