@@ -43,9 +43,13 @@ def w_rows_with(place, **changed):
     return [tuple(row[name] for name in ROW_NUMBERS) for row in rows]
 
 
-def query_bytes(source=0, target=2, minute=590, code=0, margin=None):
-    """The query's eight bytes, or ten with a margin; case W's if nothing else is said."""
-    return struct.pack("<4H", source, target, minute, code) + (b"" if margin is None else struct.pack("<H", margin))
+def query_bytes(source=0, target=2, minute=590, code=0, margin=None, gate=None):
+    """The query's eight bytes, ten with a margin, or twelve with a gate time, ahead of which a margin of 1 stands for none; case W's if
+    nothing else is said."""
+    if gate is not None and margin is None:
+        margin = 1
+    numbers = [number for number in (source, target, minute, code, margin, gate) if number is not None]
+    return struct.pack(f"<{len(numbers)}H", *numbers)
 
 
 def time(minute):

@@ -11,6 +11,7 @@ import sys
 FACTS = [
     ("types differ", r"((as printed|computed as far as they go), )?the two types |expected type `"),
     ("values differ", r"((as printed|computed as far as they go), )?the two values "),
+    ("sides differ", r"((as printed|computed as far as they go), )?the two sides "),
     ("omega: does not follow", r"`omega`: (the goal|the part `[^`]*` of the goal) does not follow"),
     ("search: no proof", r"`search`: no proof of "),
     ("search: an equation is missing", r"list the missing equation with its arguments"),

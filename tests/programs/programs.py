@@ -26,6 +26,30 @@ Rides in the plan: 3. Expected arrival: d1 11:15. Latest: d1 11:30.
 From stop 0 take the d1 10:00 (trip 0) to stop 1, due at d1 10:30.
 Landing at stop 1 by d1 10:32, take the d1 10:32 (trip 1) to stop 2, due at d1 11:00; by d1 10:50, take the d1 10:50 (trip 3) to stop 2, due at d1 11:30.
 """
+# W where nobody catches the 10:32
+MISSED_SHEET = """plan 2 d1 11:30 d1 11:30
+0 d1 10:00 1 d1 10:30 d1 11:30
+1 d1 10:50 2 d1 11:30 d1 11:30
+"""
+MISSED_WORDS = """The file is sound. Stops: 3. Rows: 4. Classes: 2.
+Rides in the plan: 2. Expected arrival: d1 11:30. Latest: d1 11:30.
+From stop 0 take the d1 10:00 (trip 0) to stop 1, due at d1 10:30.
+Landing at stop 1 by d1 10:50, take the d1 10:50 (trip 3) to stop 2, due at d1 11:30.
+"""
+FIRST_GATE_CLOSED = """The file is sound. Stops: 3. Rows: 4. Classes: 2.
+refused 8
+There is no safe journey from stop 0 to stop 2 from d1 09:59 on, with gates that close 2 minutes before departure.
+From stop 0 there is one until d1 09:58.
+From other stops: stop 1 until d1 10:48.
+A later start cannot help. An earlier one, another target, next week's file or a relief sailing can, and so can gates that close later.
+"""
+ONWARD_GATE_CLOSED = """The file is sound. Stops: 3. Rows: 4. Classes: 2.
+refused 8
+There is no safe journey from stop 0 to stop 2 from d1 09:40 on, with gates that close 11 minutes before departure.
+From stop 0 there is none in this file, at any minute.
+From other stops: stop 1 until d1 10:39.
+Another minute cannot help. Another target, next week's file or a relief sailing can, and so can gates that close later.
+"""
 
 MISSING, FOLDER, LOOP, FAILS = None, "a folder", "a link to itself", "a file whose reading fails, for root too"
 REASONS = {FOLDER: "Is a directory", LOOP: "Too many levels of symbolic links", FAILS: "Input/output error"}
@@ -128,6 +152,31 @@ def margins():
     yield "a gain of 256, margin 257", near, query_bytes(margin=257), shorter, with_margin(fewer, 257)
 
 
+def with_gate(words, minutes, *times):
+    """A plan's words with the line on gates, which stands ahead of the first ride, and for departures the times to land by."""
+    for departs, closes in times:
+        words = words.replace(f"by d1 {departs}", f"by d1 {closes}")
+    return words.replace("\nFrom stop", f"\nGates close {minutes} before departure.\nFrom stop")
+
+
+def gates():
+    """W with a gate time at both sides of its lines: the 10:32 is for those who land at 10:30, the 10:50 for all who land by 10:40."""
+    yield "gate 0", W, query_bytes(gate=0), W_SHEET, W_WORDS
+    one, two = (("10:32", "10:31"), ("10:50", "10:49")), (("10:32", "10:30"), ("10:50", "10:48"))
+    yield "gate 1", W, query_bytes(gate=1), W_SHEET, with_gate(W_WORDS, "1 minute", *one)
+    yield "gate 2, at the first gate in its last minute", W, query_bytes(minute=598, gate=2), W_SHEET, with_gate(W_WORDS, "2 minutes", *two)
+    yield "gate 2, a minute later", W, query_bytes(minute=599, gate=2), "refused 8\n", FIRST_GATE_CLOSED
+    yield "gate 3", W, query_bytes(gate=3), MISSED_SHEET, with_gate(MISSED_WORDS, "3 minutes", ("10:50", "10:47"))
+    words = with_gate(with_margin(MISSED_WORDS, 256), "10 minutes", ("10:50", "10:40"))
+    yield "gate 10, margin 256", W, query_bytes(margin=256, gate=10), MISSED_SHEET, words
+    yield "gate 11", W, query_bytes(minute=580, gate=11), "refused 8\n", ONWARD_GATE_CLOSED
+    for gate in (31, 65535):
+        refused = query_refused(f"The query's gate time is {gate}, but it must be 0 to 30 minutes.")
+        yield f"gate {gate}", W, query_bytes(gate=gate), "refused 6\n", refused
+    margin = query_refused("The query's margin is 0, but it must be 1 to 2560 ticks.")
+    yield "gate 31 behind margin 0", W, query_bytes(margin=0, gate=31), "refused 6\n", margin
+
+
 def length_refused(length, found):
     return f"refused 1\nThe file sailings has {length} bytes, but a sailing file has 20 to 27920: it is {found}, or no sailing file.\n"
 
@@ -137,7 +186,15 @@ def query_refused(reason):
 
 
 def query_length(length):
-    return query_refused(f"The query has {length} bytes, neither 8 nor 10.")
+    return query_refused(f"The query has {length} bytes, not 8, 10 or 12.")
+
+
+def lengths():
+    """Queries that have neither 8, 10 nor 12 bytes."""
+    for length in (7, 9, 11, 13, 14, 16):
+        yield f"query of {length} bytes", W, (ASK + ASK)[:length], "refused 6\n", query_length(length)
+    for length in (17, 1000):
+        yield f"query of {length:,} bytes", W, (ASK * 125)[:length], "refused 6\n", query_length("at least 16")
 
 
 def cases():
@@ -161,13 +218,9 @@ def cases():
     # one byte ahead moves the sections away from their offsets: class 0 then has a share of 0; one behind moves the trailer
     yield "a byte ahead of W", b"\0" + W, ASK, "refused 3\n", SHARES_REFUSED
     yield "a byte behind W", W + b"\0", ASK, "refused 1\n", NO_TRAILER
-    yield "query of 7 bytes", W, ASK[:7], "refused 6\n", query_length(7)
-    yield "query of 9 bytes", W, ASK + b"\0", "refused 6\n", query_length(9)
-    yield "query of 11 bytes", W, ASK + b"\1\0\0", "refused 6\n", query_length(11)
-    yield "query of 16 bytes", W, ASK + ASK, "refused 6\n", query_length(16)
-    yield "query of 17 bytes", W, ASK + ASK + b"\0", "refused 6\n", query_length("at least 16")
-    yield "query of 1,000 bytes", W, ASK * 125, "refused 6\n", query_length("at least 16")
+    yield from lengths()
     yield from margins()
+    yield from gates()
     # a wrong file before a wrong query
     yield "both too short", W[-19:], ASK[:7], "refused 1\n", length_refused(19, "cut off")
     file, ask, sheet, words = longest()

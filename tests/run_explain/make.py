@@ -23,6 +23,10 @@ EARLIER = "A later start cannot help. An earlier one, another target, next week'
 NO_MINUTE = "Another minute cannot help. Another target, next week's file or a relief sailing can.\n"
 
 
+def or_later_gates(help_words):
+    return help_words.replace(" can.\n", " can, and so can gates that close later.\n")
+
+
 def length_refused(length, found):
     return f"refused 1\nThe file sailings has {length}, but a sailing file has 20 to 27920: it is {found}, or no sailing file.\n"
 
@@ -113,10 +117,11 @@ def rows():
 
 def queries():
     yield b"", "refused 6\nThe file query is empty.\n"
-    yield W_QUERY[:1], "refused 6\nThe query has 1 byte, neither 8 nor 10.\n"
-    yield W_QUERY[:7], "refused 6\nThe query has 7 bytes, neither 8 nor 10.\n"
-    yield W_QUERY + b"\0", "refused 6\nThe query has 9 bytes, neither 8 nor 10.\n"
-    yield W_QUERY + b"\1\0\0", "refused 6\nThe query has 11 bytes, neither 8 nor 10.\n"
+    yield W_QUERY[:1], "refused 6\nThe query has 1 byte, not 8, 10 or 12.\n"
+    yield W_QUERY[:7], "refused 6\nThe query has 7 bytes, not 8, 10 or 12.\n"
+    yield W_QUERY + b"\0", "refused 6\nThe query has 9 bytes, not 8, 10 or 12.\n"
+    yield W_QUERY + b"\1\0\0", "refused 6\nThe query has 11 bytes, not 8, 10 or 12.\n"
+    yield W_QUERY + b"\1\0\0\0\0", "refused 6\nThe query has 13 bytes, not 8, 10 or 12.\n"
     yield query_bytes(source=3), "refused 6\nThe query's source is stop 3, but there are 3 stops, numbered from 0.\n"
     yield query_bytes(target=200), "refused 6\nThe query's target is stop 200, but there are 3 stops, numbered from 0.\n"
     yield query_bytes(source=2), "refused 6\nSource and target of the query are both stop 2.\n"
@@ -126,6 +131,9 @@ def queries():
     yield query_bytes(code=17, margin=0), "refused 6\nThe query's bound code is 17, but it must be 0 or 4 to 16.\n"
     yield query_bytes(margin=0), "refused 6\nThe query's margin is 0, but it must be 1 to 2560 ticks.\n"
     yield query_bytes(margin=2561), "refused 6\nThe query's margin is 2561, but it must be 1 to 2560 ticks.\n"
+    yield query_bytes(margin=2561, gate=31), "refused 6\nThe query's margin is 2561, but it must be 1 to 2560 ticks.\n"
+    yield query_bytes(gate=31), "refused 6\nThe query's gate time is 31, but it must be 0 to 30 minutes.\n"
+    yield query_bytes(gate=65535), "refused 6\nThe query's gate time is 65535, but it must be 0 to 30 minutes.\n"
 
 
 def no_journeys():
@@ -194,17 +202,91 @@ def no_journeys():
     )
 
 
+def closed(target, start, minutes):
+    return (
+        f"refused 8\nThere is no safe journey from stop 0 to stop {target} from {start} on,"
+        f" with gates that close {minutes} before departure.\n"
+    )
+
+
+def no_journeys_through_gates():
+    """8 with a gate time: until when one stands at a stop for a gate that is still open."""
+    # a minute behind the gate of the one boat from the source
+    for gate, minutes, start, until, other in (
+        (1, "1 minute", "d1 10:00", "d1 09:59", "d1 10:49"), (2, "2 minutes", "d1 09:59", "d1 09:58", "d1 10:48"),
+    ):
+        yield sailing_file(), query_bytes(minute=601 - gate, gate=gate), SOUND_W + closed(2, start, minutes) + (
+            f"From stop 0 there is one until {until}.\n"
+            f"From other stops: stop 1 until {other}.\n" + or_later_gates(EARLIER)
+        )
+    # a gate time of 0 is not told
+    yield sailing_file(), query_bytes(minute=601, gate=0), SOUND_W + (
+        "refused 8\n"
+        "There is no safe journey from stop 0 to stop 2 from d1 10:01 on.\n"
+        "From stop 0 there is one until d1 10:00.\n"
+        "From other stops: stop 1 until d1 10:50.\n" + EARLIER
+    )
+    # the boat from the source lands by 640, a minute behind the last gate onward
+    yield sailing_file(), query_bytes(gate=11), SOUND_W + closed(2, "d1 09:50", "11 minutes") + (
+        "From stop 0 there is none in this file, at any minute.\n"
+        "From other stops: stop 1 until d1 10:39.\n" + or_later_gates(NO_MINUTE)
+    )
+    # a gate that closes in the week's first minute, and one that was never open
+    alone = "The file is sound. Stops: 2. Rows: 1. Classes: 1.\n"
+    yield sailing_file([(0, 1, 30, 40, 0, 0)], [ON_TIME], stops=2), query_bytes(0, 1, 1, gate=30), alone + (
+        closed(1, "d1 00:01", "30 minutes") + "From stop 0 there is one until d1 00:00.\nNo other stop has one.\n" + or_later_gates(EARLIER)
+    )
+    yield sailing_file([(0, 1, 29, 40, 0, 0)], [ON_TIME], stops=2), query_bytes(0, 1, 0, gate=30), alone + (
+        closed(1, "d1 00:00", "30 minutes") + "From stop 0 there is none in this file, at any minute.\n"
+        "No other stop has one either.\n" + or_later_gates(NO_MINUTE)
+    )
+
+
 def margin_said(margin):
     return f"Margin: {margin} ticks. Of two rides from one stop the earlier is expected to arrive at least that much sooner.\n"
 
 
-def w_plan(margin=""):
-    """What is told of W, with what is said of a margin."""
+def gate_said(minutes):
+    return f"Gates close {minutes} before departure.\n"
+
+
+def w_plan(said="", first="d1 10:32", second="d1 10:50"):
+    """What is told of W, with what is said of a margin and of gates, and by when one lands for either boat onward."""
     return (
-        SOUND_W + "Rides in the plan: 3. Expected arrival: d1 11:15. Latest: d1 11:30.\n" + margin
+        SOUND_W + "Rides in the plan: 3. Expected arrival: d1 11:15. Latest: d1 11:30.\n" + said
         + "From stop 0 take the d1 10:00 (trip 0) to stop 1, due at d1 10:30.\n"
-        "Landing at stop 1 by d1 10:32, take the d1 10:32 (trip 1) to stop 2, due at d1 11:00;"
-        " by d1 10:50, take the d1 10:50 (trip 3) to stop 2, due at d1 11:30.\n"
+        f"Landing at stop 1 by {first}, take the d1 10:32 (trip 1) to stop 2, due at d1 11:00;"
+        f" by {second}, take the d1 10:50 (trip 3) to stop 2, due at d1 11:30.\n"
+    )
+
+
+def plans_through_gates():
+    yield sailing_file(), query_bytes(gate=0), w_plan()
+    yield sailing_file(), query_bytes(gate=1), w_plan(gate_said("1 minute"), "d1 10:31", "d1 10:49")
+    yield sailing_file(), query_bytes(gate=2), w_plan(gate_said("2 minutes"), "d1 10:30", "d1 10:48")
+    yield sailing_file(), query_bytes(minute=598, margin=256, gate=2), w_plan(
+        margin_said(256) + gate_said("2 minutes"), "d1 10:30", "d1 10:48")
+    # nobody lands by 10:29, so the 10:32 is no choice; all land by 10:40
+    for gate, by in ((3, "d1 10:47"), (10, "d1 10:40")):
+        yield sailing_file(), query_bytes(gate=gate), SOUND_W + (
+            "Rides in the plan: 2. Expected arrival: d1 11:30. Latest: d1 11:30.\n" + gate_said(f"{gate} minutes")
+            + "From stop 0 take the d1 10:00 (trip 0) to stop 1, due at d1 10:30.\n"
+            f"Landing at stop 1 by {by}, take the d1 10:50 (trip 3) to stop 2, due at d1 11:30.\n"
+        )
+    # who stays aboard passes no gate
+    yield sailing_file([(0, 1, 600, 620, 0, 1), (1, 2, 625, 660, 0, 1)]), query_bytes(gate=10), (
+        "The file is sound. Stops: 3. Rows: 2. Classes: 2.\n"
+        "Rides in the plan: 1. Expected arrival: d1 11:04. Latest: d1 11:10.\n" + gate_said("10 minutes")
+        + "From stop 0 take the d1 10:00 (trip 0) to stop 2, due at d1 11:00.\n"
+    )
+    # a gate that closes before midnight, of a boat that leaves behind it
+    night = [(0, 1, 1380, 1430, 4, 0), (1, 2, 1442, 1445, 5, 0), (2, 3, 1450, 1500, 6, 0)]
+    yield sailing_file(night, [ON_TIME], stops=4), query_bytes(0, 3, 0, 4, gate=5), (
+        "The file is sound. Stops: 4. Rows: 3. Classes: 1.\n"
+        "Rides in the plan: 3. Expected arrival: d2 01:00. Latest: d2 01:00.\n" + gate_said("5 minutes")
+        + "From stop 0 take the d1 23:00 (trip 4) to stop 1, due at d1 23:50.\n"
+        "Landing at stop 1 by d1 23:57, take the d2 00:02 (trip 5) to stop 2, due at d2 00:05.\n"
+        "Landing at stop 2 by d2 00:05, take the d2 00:10 (trip 6) to stop 3, due at d2 01:00.\n"
     )
 
 
@@ -243,7 +325,9 @@ def cases():
     for query, words in queries():
         yield sailing_file(), query, SOUND_W + words
     yield from no_journeys()
+    yield from no_journeys_through_gates()
     yield from plans()
+    yield from plans_through_gates()
 
 
 def main():

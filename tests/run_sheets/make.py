@@ -1,5 +1,5 @@
 #!/usr/bin/env python3
-"""Files of sailings with a query each, packed one behind the other, and the sheet that document 01 asks for.
+"""Files of sailings with a query each, packed one behind the other, and the sheet that documents 01 and 02 ask for.
 
 usage: make.py CASES SHEETS
 
@@ -17,6 +17,11 @@ SELDOM_LATE = [4095, 1]
 W_SHEET = """plan 3 d1 11:15 d1 11:30
 0 d1 10:00 1 d1 10:30 d1 11:15
 1 d1 10:32 2 d1 11:00 d1 11:00
+1 d1 10:50 2 d1 11:30 d1 11:30
+"""
+# W where nobody catches the 10:32
+W_MISSED = """plan 2 d1 11:30 d1 11:30
+0 d1 10:00 1 d1 10:30 d1 11:30
 1 d1 10:50 2 d1 11:30 d1 11:30
 """
 
@@ -50,9 +55,32 @@ def long_plan():
     return sailing_file(rows, (ON_TIME, late), 4), query_bytes(0, 3, 0, 0), "\n".join(lines) + "\n"
 
 
+def seldom_by(latest):
+    """A boat that arrives at 640, which is E, and a later one that arrives at 631 and seldom at its latest."""
+    return sailing_file([(0, 2, 620, 640, 0, 0), (0, 2, 630, 631, 1, 1)], (ON_TIME, [4095] + [0] * (latest - 632) + [1]))
+
+
 W = sailing_file()
 ASK = query_bytes()
 GAINS = sailing_file([(0, 2, 10, 20, 0, 0), (0, 2, 15, 21, 1, 0)])
+ABOARD = sailing_file([(0, 1, 600, 620, 0, 1), (1, 2, 625, 660, 0, 1)])
+ABOARD_SHEET = "plan 1 d1 11:04 d1 11:10\n0 d1 10:00 2 d1 11:00 d1 11:04\n"
+LAST = sailing_file([(0, 1, 10078, 10079, 0, 0)], (ALWAYS_LATE,))
+LAST_SHEET = "plan 1 d8 01:59 d8 01:59\n0 d7 23:58 1 d7 23:59 d8 01:59\n"
+# by 4 at the latest, or as a rule by 2, but by 5 at the latest
+SAFER_FIRST = sailing_file([(0, 1, 0, 4, 0, 0), (0, 1, 1, 2, 1, 1)], (ON_TIME, [4095, 0, 0, 1]), 2)
+# W with a boat at 645 that arrives at 680
+W_AND_MORE = sailing_file(W_ROWS[:3] + [(1, 2, 645, 680, 4, 0)] + W_ROWS[3:])
+W_ALL_BY_MORE = "plan 2 d1 11:20 d1 11:20\n0 d1 10:00 1 d1 10:30 d1 11:20\n1 d1 10:45 2 d1 11:20 d1 11:20\n"
+W_SOME_BY_MORE = """plan 3 d1 11:23 d1 11:30
+0 d1 10:00 1 d1 10:30 d1 11:23
+1 d1 10:45 2 d1 11:20 d1 11:20
+1 d1 10:50 2 d1 11:30 d1 11:30
+"""
+# by a change at stop 1, where one lands by 640, or straight
+TWO_WAYS = sailing_file([(0, 1, 600, 630, 0, 1), (0, 2, 610, 700, 1, 0), (1, 2, 645, 660, 2, 0)])
+BY_CHANGE = "plan 2 d1 11:00 d1 11:00\n0 d1 10:00 1 d1 10:30 d1 11:00\n1 d1 10:45 2 d1 11:00 d1 11:00\n"
+STRAIGHT = "plan 1 d1 11:40 d1 11:40\n0 d1 10:10 2 d1 11:40 d1 11:40\n"
 CASES = [
     # W as document 01 prints it; within a bound of 4 and of 5 quarters; tables ahead of rows; asked at 600 and at 601
     (W, ASK, W_SHEET),
@@ -104,6 +132,51 @@ CASES = [
     (GAINS, query_bytes(0, 2, 10, 0, 256), "plan 1 d1 00:20 d1 00:20\n0 d1 00:10 2 d1 00:20 d1 00:20\n"),
     (GAINS, query_bytes(0, 2, 10, 0, 257), "plan 1 d1 00:21 d1 00:21\n0 d1 00:15 2 d1 00:21 d1 00:21\n"),
     (GAINS, query_bytes(0, 2, 10, 4, 257), "plan 1 d1 00:20 d1 00:20\n0 d1 00:10 2 d1 00:20 d1 00:20\n"),
+    # E3: whoever lands at 630 catches the 632 with gate times to 2, all who land by 640 the 650 with those to 10; a bound and a margin too
+    (W, query_bytes(gate=0), W_SHEET),
+    (W, query_bytes(gate=1), W_SHEET),
+    (W, query_bytes(gate=2), W_SHEET),
+    (W, query_bytes(gate=3), W_MISSED),
+    (W, query_bytes(gate=10), W_MISSED),
+    (W, query_bytes(minute=580, gate=11), refused(8)),
+    (W, query_bytes(code=4, gate=2), W_SHEET),
+    (W, query_bytes(code=4, margin=2560, gate=3), W_MISSED),
+    # asked at 600 and 601 minus the gate time; row 3 departing at 640 and at 639 plus the gate time
+    (W, query_bytes(minute=598, gate=2), W_SHEET),
+    (W, query_bytes(minute=599, gate=2), refused(8)),
+    (W, query_bytes(minute=591, gate=10), refused(8)),
+    (sailing_file(w_rows_with(3, departure=642)), query_bytes(gate=2), W_SHEET.replace("10:50", "10:42")),
+    (sailing_file(w_rows_with(3, departure=641)), query_bytes(gate=2), refused(8)),
+    (sailing_file(w_rows_with(3, departure=670)), query_bytes(minute=570, gate=30), W_MISSED.replace("10:50", "11:10")),
+    (sailing_file(w_rows_with(3, departure=669)), query_bytes(minute=570, gate=30), refused(8)),
+    # gate times of 31 and more, 13 and 14 bytes; a margin of 0 ahead; the file's own refusal first
+    (W, query_bytes(gate=31), refused(6)),
+    (W, query_bytes(gate=65535), refused(6)),
+    (W, query_bytes(gate=0) + b"\0", refused(6)),
+    (W, query_bytes(gate=0) + b"\0\0", refused(6)),
+    (W, query_bytes(margin=0, gate=2), refused(6)),
+    (W, query_bytes(minute=601, gate=31), refused(6)),
+    (sailing_file(w_rows_with(2, board=2)), query_bytes(gate=31), refused(4)),
+    # who stays aboard passes no gate; the last boat of the week, asked for 30 minutes before it and 29; a boat in the first minute of all
+    (ABOARD, query_bytes(gate=10), ABOARD_SHEET),
+    (ABOARD, query_bytes(minute=570, gate=30), ABOARD_SHEET),
+    (LAST, query_bytes(0, 1, 10048, gate=30), LAST_SHEET),
+    (LAST, query_bytes(0, 1, 10049, gate=30), refused(8)),
+    (LAST, query_bytes(0, 1, 10079, gate=30), refused(8)),
+    (sailing_file([(0, 1, 0, 1, 0, 0)], (ON_TIME,)), query_bytes(0, 1, 0, gate=1), refused(8)),
+    # the source's first boat is missed, not its second; all land in time for the 645, or not; with gate time 6 the change is not safe
+    (GAINS, query_bytes(0, 2, 5, gate=5), "plan 1 d1 00:20 d1 00:20\n0 d1 00:10 2 d1 00:20 d1 00:20\n"),
+    (GAINS, query_bytes(0, 2, 6, gate=5), "plan 1 d1 00:21 d1 00:21\n0 d1 00:15 2 d1 00:21 d1 00:21\n"),
+    (W_AND_MORE, query_bytes(gate=5), W_ALL_BY_MORE),
+    (W_AND_MORE, query_bytes(gate=6), W_SOME_BY_MORE),
+    (TWO_WAYS, query_bytes(gate=5), BY_CHANGE),
+    (TWO_WAYS, query_bytes(gate=6), STRAIGHT),
+    # asked at 600 with code 8 the bound is 680, whatever the gate time
+    (seldom_by(680), query_bytes(0, 2, 600, 8, gate=10), "plan 1 d1 10:32 d1 11:20\n0 d1 10:30 2 d1 10:31 d1 10:32\n"),
+    (seldom_by(681), query_bytes(0, 2, 600, 8, gate=10), "plan 1 d1 10:40 d1 10:40\n0 d1 10:20 2 d1 10:40 d1 10:40\n"),
+    # the gate loses the boat that gives E, and the bound follows
+    (SAFER_FIRST, query_bytes(0, 1, 0, 4), "plan 1 d1 00:04 d1 00:04\n0 d1 00:00 1 d1 00:04 d1 00:04\n"),
+    (SAFER_FIRST, query_bytes(0, 1, 0, 4, gate=1), "plan 1 d1 00:03 d1 00:05\n0 d1 00:01 1 d1 00:02 d1 00:03\n"),
     # no rows: no journey, and a wrong query first
     (sailing_file([]), ASK, refused(8)),
     (sailing_file([]), query_bytes(0, 0, 590, 0), refused(6)),
@@ -113,11 +186,7 @@ CASES = [
         query_bytes(0, 1, 0, 0),
         "plan 1 d1 00:01 d1 00:01\n0 d1 00:00 1 d1 00:01 d1 00:01\n",
     ),
-    (
-        sailing_file([(0, 1, 10078, 10079, 0, 0)], (ALWAYS_LATE,)),
-        query_bytes(0, 1, 10078, 0),
-        "plan 1 d8 01:59 d8 01:59\n0 d7 23:58 1 d7 23:59 d8 01:59\n",
-    ),
+    (LAST, query_bytes(0, 1, 10078, 0), LAST_SHEET),
     (
         sailing_file([(0, 1, 1439, 1440, 0, 0)], (ON_TIME,)),
         query_bytes(0, 1, 1439, 16),
@@ -129,11 +198,7 @@ CASES = [
         query_bytes(0, 2, 0, 0),
         "plan 1 d1 00:11 d1 00:11\n0 d1 00:05 2 d1 00:10 d1 00:11\n",
     ),
-    (
-        sailing_file([(0, 1, 600, 620, 0, 1), (1, 2, 625, 660, 0, 1)]),
-        ASK,
-        "plan 1 d1 11:04 d1 11:10\n0 d1 10:00 2 d1 11:00 d1 11:04\n",
-    ),
+    (ABOARD, ASK, ABOARD_SHEET),
     (
         sailing_file([(199, 10, 60, 61, 1999, 0), (10, 9, 61, 62, 7, 0), (9, 100, 62, 63, 8, 0)], (ON_TIME,), 200),
         query_bytes(199, 100, 60, 4),

@@ -1,4 +1,4 @@
--- Document 01, "Both sides of each line": the cases marked P, and document 02, E1, as what the definitions answer beside what the documents say.
+-- Document 01, "Both sides of each line": the cases marked P, and document 02, E1 and E3, as what the definitions answer beside what the documents say.
 use Prim.Native.Nat.{ℕ, _+_, _*_}
 use mathlib.Core.List.{List, [], _∷_, _++_, map}
 use mathlib.Core.Option.{Option, none, some}
@@ -10,7 +10,7 @@ use Rattle.file_layout.specs.CaseW.{caseW}
 use Rattle.file_encoding.specs.Encode.{encode}
 use Rattle.house.specs.HouseShare.{houseShare, houseAnswer}
 use Rattle.query.specs.declared.Query.{Query}
-use Rattle.query.specs.Query.{leastMargin, mostMargin, withMargin, plainQuery, withCode}
+use Rattle.query.specs.Query.{leastMargin, mostMargin, withMargin, withGate, plainQuery, withCode}
 use Rattle.plans.specs.Chosen.{inTicks, scanned, worthOf}
 use Rattle.plans.specs.Plan.{chosenFor}
 use Rattle.plans.specs.Examples.{Case, wWith, w, wTwice, oneTrip, seldomLate}
@@ -55,7 +55,7 @@ numberOf (some x) = x ∷ []
 -- the worth of each row without a bound, as a list of one number or none
 unfoldable pub worthsTo : ℕ → Timetable → List (List ℕ)
 worthsTo target t =
-    map (λ w. numberOf (worthOf (w .best))) (scanned (inTicks (record { target = target; bound = 0; margin = leastMargin })) t .weighed)
+    map (λ w. numberOf (worthOf (w .best))) (scanned (inTicks (record { target = target; bound = 0; margin = leastMargin; gate = 0 })) t .weighed)
 
 unfoldable pub joinedUp : List (List ℕ) → List ℕ
 joinedUp [] = []
@@ -63,7 +63,7 @@ joinedUp (xs ∷ xss) = xs ++ joinedUp xss
 
 -- the chosen rows without a bound
 unfoldable pub chosenWith : (margin target : ℕ) → Timetable → List ℕ
-chosenWith margin target t = map (λ v. v .ride .board) (chosenFor t (record { target = target; bound = 0; margin = margin }))
+chosenWith margin target t = map (λ v. v .ride .board) (chosenFor t (record { target = target; bound = 0; margin = margin; gate = 0 }))
 
 -- W's query
 abbrev pub askedOfW : Query
@@ -133,4 +133,8 @@ cases =
     ∷ record { answered = planOf fiveMinutes (withCode 8 (plainQuery 0 2 0)); expected = 0 ∷ 0 ∷ 1 ∷ 25600 ∷ 100 ∷ 200 ∷ [] }
     ∷ record { answered = planOf fiveMinutes (withMargin mostMargin (withCode 8 (plainQuery 0 2 0))); expected = 0 ∷ 0 ∷ 1 ∷ 26880 ∷ 105 ∷ 200 ∷ [] }
     ∷ record { answered = arrivalOf fiveMinutes (withMargin mostMargin (withCode 8 (plainQuery 0 2 0))); expected = 0 ∷ 0 ∷ 100 ∷ [] }
+    -- E3: gate time 0 answers as none; 31 is 6, of the plan and of the earliest safe arrival
+    ∷ record { answered = planOf w (withGate 0 askedOfW); expected = wAnswer 0 }
+    ∷ record { answered = planOf w (withGate 31 askedOfW); expected = 6 ∷ 0 ∷ [] }
+    ∷ record { answered = arrivalOf w (withGate 31 askedOfW); expected = 6 ∷ 0 ∷ [] }
     ∷ []

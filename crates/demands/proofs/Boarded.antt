@@ -8,7 +8,7 @@ use Rattle.timetable.specs.Timetable.{Timetable}
 use Rattle.query.specs.declared.Query.{Query}
 use Rattle.plans.specs.Rides.{Ride}
 use Rattle.plans.specs.Worth.{Valued, firstOpen, ridesOf}
-use Rattle.plans.specs.Journeys.{goalOf}
+use Rattle.plans.specs.Journeys.{goalOf, readyAt}
 use Rattle.plans.specs.Plan.{Plan, Window, upTo, extract, ridesFrom, chosenFor}
 use Rattle.plans.specs.Sound.{Timely}
 use Rattle.demands.specs.Walk.{Sailed, Delayed, start, choices, Boards}
@@ -29,57 +29,57 @@ module _ (t : Timetable) (timely : Timely t) (q : Query) (p : Plan) (made : Made
   chosen = chosenFor t (goalOf q (p .bound))
 
   windows : List Window
-  windows = upTo (q .source) (q .minute) (firstOpen chosen (q .source) (q .minute))
+  windows = upTo (q .source) (readyAt q) (firstOpen chosen (q .source) (readyAt q))
 
   some-share : SomeShare chosen
   unfolding chosen
   some-share v among = omega (arith, ride-delays t timely (v .ride) (for-ride t timely (goalOf q (p .bound)) v among))
 
-  -- what is met from the first window is met from the source at T
+  -- what is met from the first window is met from the source at T + g
   entry-meets :
-      {r : Ride} (e : Entry windows chosen (extract (q .target) windows chosen) r) → Meets r (e .sailed) (q .source) (q .minute)
+      {r : Ride} (e : Entry (q .gate) windows chosen (extract (q .gate) (q .target) windows chosen) r) → Meets (q .gate) r (e .sailed) (q .source) (readyAt q)
   unfolding chosen windows
   entry-meets {r} e =
-      meets-sooner (q .minute)
+      meets-sooner (readyAt q)
       (omega (
         arith,
         ap (λ w. w .minute) is,
         boards-minute (e .first .ride) (e .window .stop) (e .window .minute) (window-boards (e .window) (e .first .ride) (e .in-window)),
       ))
-      (λ s there opens. can-board (s .ride) (q .source) (e .first .ride .departs) (boards-stop (s .ride) (q .source) (q .minute) opens)
+      (λ s there opens. can-board (s .ride) (q .source) (e .first .ride .departs) (boards-stop (s .ride) (q .source) (readyAt q) opens)
       (omega (
         arith,
         window-until (e .window) (e .first .ride) (e .in-window),
         ap (λ w. w .until) is,
-        taken-after chosen (extract (q .target) windows chosen) (for-ordered t timely (goalOf q (p .bound)))
-            (λ v among. extract-member (q .target) chosen windows among) (q .source) (q .minute) (found .1) (e .delayed) s there opens,
+        taken-after chosen (extract (q .gate) (q .target) windows chosen) (for-ordered t timely (goalOf q (p .bound)))
+            (λ v among. extract-member (q .gate) (q .target) chosen windows among) (q .source) (readyAt q) (found .1) (e .delayed) s there opens,
       )))
-      (subst (λ (stop : ℕ). Meets r (e .sailed) stop (e .first .ride .departs)) (ap (λ w. w .stop) is) (e .meets))
+      (subst (λ (stop : ℕ). Meets (q .gate) r (e .sailed) stop (e .first .ride .departs)) (ap (λ w. w .stop) is) (e .meets))
     where
       found :
-          (v : Valued) × (firstOpen chosen (q .source) (q .minute) ≡ some v)
-          × (e .window ≡ record { stop = q .source; minute = q .minute; until = v .ride .departs })
-      found = up-to-is (q .source) (q .minute) (firstOpen chosen (q .source) (q .minute)) (e .among)
+          (v : Valued) × (firstOpen chosen (q .source) (readyAt q) ≡ some v)
+          × (e .window ≡ record { stop = q .source; minute = readyAt q; until = v .ride .departs })
+      found = up-to-is (q .source) (readyAt q) (firstOpen chosen (q .source) (readyAt q)) (e .among)
 
-      is : e .window ≡ record { stop = q .source; minute = q .minute; until = found .0 .ride .departs }
+      is : e .window ≡ record { stop = q .source; minute = readyAt q; until = found .0 .ride .departs }
       is = found .2
 
   pub plan-boards :
       (v : Valued) → List·Memᴰ v (p .rides)
-      → (sailed : List Sailed) × List·Memᴰ sailed (choices (ridesOf (p .rides))) × Boards (q .target) sailed (start q) (v .ride)
+      → (sailed : List Sailed) × List·Memᴰ sailed (choices (ridesOf (p .rides))) × Boards (q .gate) (q .target) sailed (start q) (v .ride)
   unfolding chosen windows ridesFrom
   plan-boards v among = (
     e .sailed,
     delayed-choice delayed,
-    meets-boards (q .target) (e .sailed)
+    meets-boards (q .gate) (q .target) (e .sailed)
         (subst (AllTimed (q .target)) (sym (delayed-rides delayed))
         (forward-timed (safe-forward timely q (p .bound) (ridesOf (p .rides)) (plan-safe t timely q p made) (plan-rising t timely q p made))))
         (start q) (entry-meets e),
   )
     where
-      e : Entry windows chosen (extract (q .target) windows chosen) (v .ride)
+      e : Entry (q .gate) windows chosen (extract (q .gate) (q .target) windows chosen) (v .ride)
       e =
-          entries (q .target) chosen (for-ordered t timely (goalOf q (p .bound))) some-share windows v
+          entries (q .gate) (q .target) chosen (for-ordered t timely (goalOf q (p .bound))) some-share windows v
           (subst (List·Memᴰ v) (made .holds) among)
 
       delayed : Delayed (ridesOf (p .rides)) (e .sailed)

@@ -11,7 +11,7 @@ use lib.Dec.{eqb}
 use lib.ListN.{length}
 use Rattle.laws.proofs.Tests.{ifb, cond-true, cond-false}
 use Rattle.laws.proofs.Options.{absent, same-thing}
-use Rattle.plans.specs.Rides.{Ride, boards}
+use Rattle.plans.specs.Rides.{Ride, ready, boards}
 use Rattle.demands.specs.Walk.{Sailed, Standing, firstSailed, landed, step, steps}
 use Rattle.plans.proofs.Open.{boards-stop, too-late}
 use Rattle.demands.proofs.Forward.{Timed, AllTimed, one, rides-forward}
@@ -20,12 +20,12 @@ abbrev pub ridesSailed : List Sailed → List Ride
 ridesSailed = map (λ s. s .ride)
 
 -- each ride of the plan in turn: boarded where it opens, passed over where not
-unfoldable pub course : List Sailed → Standing → Standing
-course [] at = at
-course (s ∷ sailed) at =
-    let boarded = course sailed (landed at (some s)) in
-    let passed = course sailed at in
-    cond (boards (s .ride) (at .stop) (at .minute)) boarded passed
+unfoldable pub course : (gate : ℕ) → List Sailed → Standing → Standing
+course gate [] at = at
+course gate (s ∷ sailed) at =
+    let boarded = course gate sailed (landed at (some s)) in
+    let passed = course gate sailed at in
+    cond (boards (s .ride) (at .stop) (ready gate (at .minute))) boarded passed
 
 -- the ride found stands in the list and opens
 pub found-sailed :
@@ -48,15 +48,15 @@ found-sailed (u ∷ sailed) stop minute {s} e =
 
 -- what holds where the passenger stands and after each landing holds all along
 pub steps-keep :
-    (P : Standing → Type 0) (target : ℕ) (sailed : List Sailed)
-    → ((at : Standing) (s : Sailed) → P at → firstSailed sailed (at .stop) (at .minute) ≡ some s → P (landed at (some s)))
-    → (k : ℕ) (at : Standing) → P at → P (steps target sailed k at)
+    (P : Standing → Type 0) (gate target : ℕ) (sailed : List Sailed)
+    → ((at : Standing) (s : Sailed) → P at → firstSailed sailed (at .stop) (ready gate (at .minute)) ≡ some s → P (landed at (some s)))
+    → (k : ℕ) (at : Standing) → P at → P (steps gate target sailed k at)
 unfolding steps step landed
-steps-keep P target sailed lands zero at here = here
-steps-keep P target sailed lands (suc k) at here =
-    steps-keep P target sailed lands k (step target sailed at)
-    (ifb (λ b. P (cond b at (landed at (firstSailed sailed (at .stop) (at .minute))))) (eqb (at .stop) target) (λ over. here)
-    (λ onward. go (firstSailed sailed (at .stop) (at .minute)) (λ s. lands at s here)))
+steps-keep P gate target sailed lands zero at here = here
+steps-keep P gate target sailed lands (suc k) at here =
+    steps-keep P gate target sailed lands k (step gate target sailed at)
+    (ifb (λ b. P (cond b at (landed at (firstSailed sailed (at .stop) (ready gate (at .minute)))))) (eqb (at .stop) target) (λ over. here)
+    (λ onward. go (firstSailed sailed (at .stop) (ready gate (at .minute))) (λ s. lands at s here)))
   where
     go : (o : Option Sailed) → ((s : Sailed) → o ≡ some s → P (landed at (some s))) → P (landed at o)
     go none lands-here = here
@@ -64,49 +64,49 @@ steps-keep P target sailed lands (suc k) at here =
 
 -- a ride that is shut stays shut: whatever lands, lands after it departs
 step-shut :
-    (target : ℕ) (r : Ride) (sailed : List Sailed) (at : Standing)
-    → ((s : Sailed) → List·Memᴰ s sailed → r .departs < s .ride .arrives) → boards r (at .stop) (at .minute) ≡ false
-    → boards r (step target sailed at .stop) (step target sailed at .minute) ≡ false
+    (gate target : ℕ) (r : Ride) (sailed : List Sailed) (at : Standing)
+    → ((s : Sailed) → List·Memᴰ s sailed → r .departs < s .ride .arrives) → boards r (at .stop) (ready gate (at .minute)) ≡ false
+    → boards r (step gate target sailed at .stop) (ready gate (step gate target sailed at .minute)) ≡ false
 unfolding step landed
-step-shut target r sailed at later shut =
-    ifb (λ b. Shut (cond b at (landed at (firstSailed sailed (at .stop) (at .minute))))) (eqb (at .stop) target) (λ over. shut)
-    (λ onward. go (firstSailed sailed (at .stop) (at .minute)) refl)
+step-shut gate target r sailed at later shut =
+    ifb (λ b. Shut (cond b at (landed at (firstSailed sailed (at .stop) (ready gate (at .minute)))))) (eqb (at .stop) target) (λ over. shut)
+    (λ onward. go (firstSailed sailed (at .stop) (ready gate (at .minute))) refl)
   where
     Shut : Standing → Type 0
-    Shut here = boards r (here .stop) (here .minute) ≡ false
+    Shut here = boards r (here .stop) (ready gate (here .minute)) ≡ false
 
-    go : (o : Option Sailed) → firstSailed sailed (at .stop) (at .minute) ≡ o → Shut (landed at o)
+    go : (o : Option Sailed) → firstSailed sailed (at .stop) (ready gate (at .minute)) ≡ o → Shut (landed at o)
     go none e = shut
     go (some s) e =
-        too-late r (s .ride .to) (s .ride .arrives + s .delay)
-        (omega (arith, later s (found-sailed sailed (at .stop) (at .minute) e .0)))
+        too-late r (s .ride .to) (ready gate (s .ride .arrives + s .delay))
+        (omega (arith, later s (found-sailed sailed (at .stop) (ready gate (at .minute)) e .0)))
 
 pass-one :
-    (target : ℕ) (s : Sailed) (sailed : List Sailed) (at : Standing) → boards (s .ride) (at .stop) (at .minute) ≡ false
-    → step target (s ∷ sailed) at ≡ step target sailed at
+    (gate target : ℕ) (s : Sailed) (sailed : List Sailed) (at : Standing) → boards (s .ride) (at .stop) (ready gate (at .minute)) ≡ false
+    → step gate target (s ∷ sailed) at ≡ step gate target sailed at
 unfolding step firstSailed
-pass-one target s sailed at shut =
-    ap (λ b. cond (eqb (at .stop) target) at (landed at (cond b (some s) (firstSailed sailed (at .stop) (at .minute))))) shut
+pass-one gate target s sailed at shut =
+    ap (λ b. cond (eqb (at .stop) target) at (landed at (cond b (some s) (firstSailed sailed (at .stop) (ready gate (at .minute)))))) shut
 
 board-one :
-    (target : ℕ) (s : Sailed) (sailed : List Sailed) (at : Standing) → s .ride .from ≢ target
-    → boards (s .ride) (at .stop) (at .minute) ≡ true → step target (s ∷ sailed) at ≡ landed at (some s)
+    (gate target : ℕ) (s : Sailed) (sailed : List Sailed) (at : Standing) → s .ride .from ≢ target
+    → boards (s .ride) (at .stop) (ready gate (at .minute)) ≡ true → step gate target (s ∷ sailed) at ≡ landed at (some s)
 unfolding step firstSailed
-board-one target s sailed at off-target opens =
-    cond-false at (landed at (firstSailed (s ∷ sailed) (at .stop) (at .minute)))
-    (ne-eqb (at .stop) target (λ there. off-target (boards-stop (s .ride) (at .stop) (at .minute) opens ∙ there)))
-    ∙ ap (landed at) (cond-true (some s) (firstSailed sailed (at .stop) (at .minute)) opens)
+board-one gate target s sailed at off-target opens =
+    cond-false at (landed at (firstSailed (s ∷ sailed) (at .stop) (ready gate (at .minute))))
+    (ne-eqb (at .stop) target (λ there. off-target (boards-stop (s .ride) (at .stop) (ready gate (at .minute)) opens ∙ there)))
+    ∙ ap (landed at) (cond-true (some s) (firstSailed sailed (at .stop) (ready gate (at .minute))) opens)
 
 -- a shut ride is passed over, now and later
 steps-pass :
-    (target : ℕ) (s : Sailed) (sailed : List Sailed)
+    (gate target : ℕ) (s : Sailed) (sailed : List Sailed)
     → ((u : Sailed) → List·Memᴰ u sailed → s .ride .departs < u .ride .arrives) → (k : ℕ) (at : Standing)
-    → boards (s .ride) (at .stop) (at .minute) ≡ false → steps target (s ∷ sailed) k at ≡ steps target sailed k at
+    → boards (s .ride) (at .stop) (ready gate (at .minute)) ≡ false → steps gate target (s ∷ sailed) k at ≡ steps gate target sailed k at
 unfolding steps
-steps-pass target s sailed later zero at shut = refl
-steps-pass target s sailed later (suc k) at shut =
-    ap (steps target (s ∷ sailed) k) (pass-one target s sailed at shut)
-    ∙ steps-pass target s sailed later k (step target sailed at) (step-shut target (s .ride) sailed at later shut)
+steps-pass gate target s sailed later zero at shut = refl
+steps-pass gate target s sailed later (suc k) at shut =
+    ap (steps gate target (s ∷ sailed) k) (pass-one gate target s sailed at shut)
+    ∙ steps-pass gate target s sailed later k (step gate target sailed at) (step-shut gate target (s .ride) sailed at later shut)
 
 -- rides behind depart no earlier, so they land later
 pub lands-later :
@@ -116,37 +116,37 @@ lands-later timed rest u among = omega (arith, timed .in-order u among, rides-fo
 
 -- a ride that opens is boarded, and the rest of the walk is in the rides behind it
 pub steps-board :
-    (target : ℕ) (s : Sailed) (sailed : List Sailed) → Timed target (s .ride) (ridesSailed sailed) → AllTimed target (ridesSailed sailed)
-    → (k : ℕ) (at : Standing) → boards (s .ride) (at .stop) (at .minute) ≡ true
-    → steps target (s ∷ sailed) (suc k) at ≡ steps target sailed k (landed at (some s))
+    (gate target : ℕ) (s : Sailed) (sailed : List Sailed) → Timed target (s .ride) (ridesSailed sailed) → AllTimed target (ridesSailed sailed)
+    → (k : ℕ) (at : Standing) → boards (s .ride) (at .stop) (ready gate (at .minute)) ≡ true
+    → steps gate target (s ∷ sailed) (suc k) at ≡ steps gate target sailed k (landed at (some s))
 unfolding steps landed
-steps-board target s sailed timed rest k at opens =
-    ap (steps target (s ∷ sailed) k) (board-one target s sailed at (timed .off-target) opens)
-    ∙ steps-pass target s sailed (λ u among. lands-later timed rest (u .ride) (Memᴰ·map (λ x. x .ride) among)) k (landed at (some s))
-    (too-late (s .ride) (s .ride .to) (s .ride .arrives + s .delay) (omega (arith, timed .forward)))
+steps-board gate target s sailed timed rest k at opens =
+    ap (steps gate target (s ∷ sailed) k) (board-one gate target s sailed at (timed .off-target) opens)
+    ∙ steps-pass gate target s sailed (λ u among. lands-later timed rest (u .ride) (Memᴰ·map (λ x. x .ride) among)) k (landed at (some s))
+    (too-late (s .ride) (s .ride .to) (ready gate (s .ride .arrives + s .delay)) (omega (arith, timed .forward)))
 
 pub steps-shut :
-    (target : ℕ) (s : Sailed) (sailed : List Sailed) → Timed target (s .ride) (ridesSailed sailed) → AllTimed target (ridesSailed sailed)
-    → (k : ℕ) (at : Standing) → boards (s .ride) (at .stop) (at .minute) ≡ false
-    → steps target (s ∷ sailed) k at ≡ steps target sailed k at
-steps-shut target s sailed timed rest =
-    steps-pass target s sailed (λ u among. lands-later timed rest (u .ride) (Memᴰ·map (λ x. x .ride) among))
+    (gate target : ℕ) (s : Sailed) (sailed : List Sailed) → Timed target (s .ride) (ridesSailed sailed) → AllTimed target (ridesSailed sailed)
+    → (k : ℕ) (at : Standing) → boards (s .ride) (at .stop) (ready gate (at .minute)) ≡ false
+    → steps gate target (s ∷ sailed) k at ≡ steps gate target sailed k at
+steps-shut gate target s sailed timed rest =
+    steps-pass gate target s sailed (λ u among. lands-later timed rest (u .ride) (Memᴰ·map (λ x. x .ride) among))
 
-steps-end : (target k : ℕ) (at : Standing) → steps target [] k at ≡ at
+steps-end : (gate target k : ℕ) (at : Standing) → steps gate target [] k at ≡ at
 unfolding steps step firstSailed landed
-steps-end target zero at = refl
-steps-end target (suc k) at =
-    ap (steps target [] k) (ifb (λ b. cond b at at ≡ at) (eqb (at .stop) target) (λ _. refl) (λ _. refl)) ∙ steps-end target k at
+steps-end gate target zero at = refl
+steps-end gate target (suc k) at =
+    ap (steps gate target [] k) (ifb (λ b. cond b at at ≡ at) (eqb (at .stop) target) (λ _. refl) (λ _. refl)) ∙ steps-end gate target k at
 
 -- as many landings as there are rides go the whole course, and more of them go no further
 pub steps-course :
-    (target : ℕ) (sailed : List Sailed) → AllTimed target (ridesSailed sailed) → (k : ℕ) → length sailed ≤ k → (at : Standing)
-    → steps target sailed k at ≡ course sailed at
+    (gate target : ℕ) (sailed : List Sailed) → AllTimed target (ridesSailed sailed) → (k : ℕ) → length sailed ≤ k → (at : Standing)
+    → steps gate target sailed k at ≡ course gate sailed at
 unfolding course
-steps-course target [] timed k enough at = steps-end target k at
-steps-course target (s ∷ sailed) (one timed rest) zero enough at = absurd (let z : ⊥ = omega arith in z)
-steps-course target (s ∷ sailed) (one timed rest) (suc k) enough at =
-    ifb (λ b. steps target (s ∷ sailed) (suc k) at ≡ cond b (course sailed (landed at (some s))) (course sailed at))
-    (boards (s .ride) (at .stop) (at .minute))
-    (λ opens. steps-board target s sailed timed rest k at opens ∙ steps-course target sailed rest k (omega arith) (landed at (some s)))
-    (λ shut. steps-shut target s sailed timed rest (suc k) at shut ∙ steps-course target sailed rest (suc k) (omega arith) at)
+steps-course gate target [] timed k enough at = steps-end gate target k at
+steps-course gate target (s ∷ sailed) (one timed rest) zero enough at = absurd (let z : ⊥ = omega arith in z)
+steps-course gate target (s ∷ sailed) (one timed rest) (suc k) enough at =
+    ifb (λ b. steps gate target (s ∷ sailed) (suc k) at ≡ cond b (course gate sailed (landed at (some s))) (course gate sailed at))
+    (boards (s .ride) (at .stop) (ready gate (at .minute)))
+    (λ opens. steps-board gate target s sailed timed rest k at opens ∙ steps-course gate target sailed rest k (omega arith) (landed at (some s)))
+    (λ shut. steps-shut gate target s sailed timed rest (suc k) at shut ∙ steps-course gate target sailed rest (suc k) (omega arith) at)

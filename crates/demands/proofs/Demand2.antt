@@ -16,8 +16,8 @@ use Rattle.plans.specs.declared.Goal.{Goal}
 use Rattle.plans.specs.Sound.{Timely}
 use Rattle.query.specs.declared.Query.{Query}
 use Rattle.query.specs.Query.{leastMargin}
-use Rattle.plans.specs.Rides.{Ride, IsRide, landsBy, opens, boards}
-use Rattle.plans.specs.Journeys.{goalOf, Onward, Begins, Journey, IsEarliest, boundOf, within, CodeStands}
+use Rattle.plans.specs.Rides.{Ride, IsRide, landsBy, ready, opens, boards}
+use Rattle.plans.specs.Journeys.{goalOf, Onward, Begins, Journey, IsEarliest, boundOf, within, CodeStands, readyAt}
 use Rattle.plans.specs.Worth.{Valued, ridesOf, valued, firstOpen, landWorth}
 use Rattle.plans.specs.Plan.{Plan, planned, earliest, chosenFor}
 use Rattle.demands.specs.SafePlan.{SafePlan, ByBoardingRow, sorted, worthsOf, expectedOf}
@@ -56,7 +56,7 @@ module _ (t : Timetable) (timely : Timely t) (goal : Goal) where
   -- it has one exactly if a safe journey within the bound begins there
   pub worth-exactly :
       (i : ℕ) → ((w : ℕ) × HasWorth t goal i w)
-      ↔ ((r : Ride) × (r .board ≡ i) × ((end : ℕ) × Onward t (goal .target) r end × T (within (goal .bound) end)))
+      ↔ ((r : Ride) × (r .board ≡ i) × ((end : ℕ) × Onward t (goal .gate) (goal .target) r end × T (within (goal .bound) end)))
   worth-exactly = row-reaches t timely goal
 
   -- its ride is the ride that boards there and stays aboard while the next row's worth equals the boarded row's
@@ -87,8 +87,8 @@ module _ (t : Timetable) (timely : Timely t) (goal : Goal) where
 
 -- without a bound, a row has a worth exactly if it begins a safe journey
 pub worth-begins :
-    (t : Timetable) → Timely t → (target margin i : ℕ)
-    → ((w : ℕ) × HasWorth t (record { target = target; bound = 0; margin = margin }) i w) ↔ Begins t target i
+    (t : Timetable) → Timely t → (gate target margin i : ℕ)
+    → ((w : ℕ) × HasWorth t (record { target = target; bound = 0; margin = margin; gate = gate }) i w) ↔ Begins t gate target i
 worth-begins = row-begins
 
 module _ (t : Timetable) (timely : Timely t) (q : Query) where
@@ -120,7 +120,7 @@ module _ (t : Timetable) (timely : Timely t) (q : Query) where
     rising = plan-rising t timely q p (plan-made t q p is-plan)
 
     -- its worths and its expected arrival are those that its own rides give
-    pub own-worths : valued (q .target) (ridesOf (p .rides)) ≡ p .rides
+    pub own-worths : valued (q .gate) (q .target) (ridesOf (p .rides)) ≡ p .rides
     own-worths = plan-valued t timely q p (plan-made t q p is-plan)
 
     pub own-expected : expectedOf q (ridesOf (p .rides)) ≡ some (p .expected)
@@ -132,7 +132,7 @@ module _ (t : Timetable) (timely : Timely t) (q : Query) where
 
     -- the first of them is the one to begin with: it boards at the source, at or after T, and its worth is the expected arrival
     pub first-ride :
-        (v : Valued) × (rest : List Valued) × (p .rides ≡ v ∷ rest) × (boards (v .ride) (q .source) (q .minute) ≡ true) × (v .worth ≡ p .expected)
+        (v : Valued) × (rest : List Valued) × (p .rides ≡ v ∷ rest) × (boards (v .ride) (q .source) (readyAt q) ≡ true) × (v .worth ≡ p .expected)
     first-ride = plan-begins t q p (plan-made t q p is-plan)
 
     -- its latest minute is the largest a + M of its rides
@@ -168,34 +168,34 @@ module _ (t : Timetable) (timely : Timely t) (q : Query) where
 
     -- its worths are of these rides
     pub its-worths : ridesOf (worthsOf q rides) ≡ sorted rides
-    its-worths = valued-rides (q .target) (sorted rides)
+    its-worths = valued-rides (q .gate) (q .target) (sorted rides)
 
     -- each ride of it is worth what the rides caught after it give, whichever of the plan's rides these are
-    pub worth-in-plan : (v : Valued) → List·Memᴰ v (worthsOf q rides) → v .worth ≡ landWorth (q .target) (v .ride) (worthsOf q rides)
-    worth-in-plan = worth-in-whole (q .target) (sorted rides) (safe-timed timely q bound rides safe)
+    pub worth-in-plan : (v : Valued) → List·Memᴰ v (worthsOf q rides) → v .worth ≡ landWorth (q .gate) (q .target) (v .ride) (worthsOf q rides)
+    worth-in-plan = worth-in-whole (q .gate) (q .target) (sorted rides) (safe-timed timely q bound rides safe)
 
     -- and the ride caught is the first to depart of those that can be
     pub caught-first :
         (s m : ℕ) (v u : Valued) → firstOpen (worthsOf q rides) s m ≡ some v → List·Memᴰ u (worthsOf q rides) → boards (u .ride) s m ≡ true
         → v .ride .departs ≤ u .ride .departs
-    caught-first = caught-departs (q .target) (sorted rides) (safe-timed timely q bound rides safe)
+    caught-first = caught-departs (q .gate) (q .target) (sorted rides) (safe-timed timely q bound rides safe)
 
     -- whoever lands by a + M short of the target finds a ride of the plan to go on with
     pub caught-there :
         (v : Valued) → List·Memᴰ v (worthsOf q rides) → v .ride .to ≢ q .target → (m : ℕ) → m ≤ landsBy (v .ride)
-        → (u : Valued) × (firstOpen (worthsOf q rides) (v .ride .to) m ≡ some u)
+        → (u : Valued) × (firstOpen (worthsOf q rides) (v .ride .to) (ready (q .gate) m) ≡ some u)
     caught-there v among away m in-time =
-        let next = any-order .0 .goes-on (v .ride) (valued-ride (q .target) (sorted rides) among) away in
-        let found = ride-valued (q .target) (sorted rides) (next .1) in
-        finds (worthsOf q rides) (v .ride .to) m (found .1)
-        (boards-earlier (found .0 .ride) (v .ride .to) (landsBy (v .ride)) m in-time
-        (subst (λ (r : Ride). boards r (v .ride .to) (landsBy (v .ride)) ≡ true) (sym (found .2)) (T-true (next .2))))
+        let next = any-order .0 .goes-on (v .ride) (valued-ride (q .gate) (q .target) (sorted rides) among) away in
+        let found = ride-valued (q .gate) (q .target) (sorted rides) (next .1) in
+        finds (worthsOf q rides) (v .ride .to) (ready (q .gate) m) (found .1)
+        (boards-earlier (found .0 .ride) (v .ride .to) (ready (q .gate) (landsBy (v .ride))) (ready (q .gate) m) (omega arith)
+        (subst (λ (r : Ride). boards r (v .ride .to) (ready (q .gate) (landsBy (v .ride))) ≡ true) (sym (found .2)) (T-true (next .2))))
 
   -- a safe plan as written, by boarding row rising: worths that the rides caught after each ride give are its own
   pub written-worths :
       (bound : ℕ) (vs : List Valued) → SafePlan t q bound (ridesOf vs) → ByBoardingRow (ridesOf vs)
-      → ((v : Valued) → List·Memᴰ v vs → v .worth ≡ landWorth (q .target) (v .ride) vs) → worthsOf q (ridesOf vs) ≡ vs
+      → ((v : Valued) → List·Memᴰ v vs → v .worth ≡ landWorth (q .gate) (q .target) (v .ride) vs) → worthsOf q (ridesOf vs) ≡ vs
   written-worths bound vs safe rising agree =
       let as-listed = sorted-same rising in
-      ap (valued (q .target)) as-listed
-      ∙ own-in-whole (q .target) vs (subst (AllTimed (q .target)) as-listed (safe-timed timely q bound (ridesOf vs) safe)) agree
+      ap (valued (q .gate) (q .target)) as-listed
+      ∙ own-in-whole (q .gate) (q .target) vs (subst (AllTimed (q .target)) as-listed (safe-timed timely q bound (ridesOf vs) safe)) agree

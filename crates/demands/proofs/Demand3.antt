@@ -49,7 +49,7 @@ module _ {t : Timetable} (timely : Timely t) (q : Query) where
     pub safe-plan-carries : (x : ℕ) → expectedOf q rides ≡ some x → Carries q (sorted rides) (latestOf (worthsOf q rides)) x
     safe-plan-carries x e =
         let in-order = safe-sorted t q bound rides safe in
-        rides-carry bound (sorted rides) (in-order .0) (in-order .1) (worthsOf q rides) (valued-rides (q .target) (sorted rides)) x
+        rides-carry bound (sorted rides) (in-order .0) (in-order .1) (worthsOf q rides) (valued-rides (q .gate) (q .target) (sorted rides)) x
         (expected-sorted q rides ∙ e)
 
     -- L: no choice boards more rides, and one boards as many
@@ -79,5 +79,5 @@ module _ {t : Timetable} (timely : Timely t) (q : Query) where
     -- every ride is boarded under some such delays
     pub every-ride-boarded :
         (v : Valued) → List·Memᴰ v (p .rides)
-        → (sailed : List Sailed) × List·Memᴰ sailed (choices (ridesOf (p .rides))) × Boards (q .target) sailed (start q) (v .ride)
+        → (sailed : List Sailed) × List·Memᴰ sailed (choices (ridesOf (p .rides))) × Boards (q .gate) (q .target) sailed (start q) (v .ride)
     every-ride-boarded = plan-boards t timely q p (plan-made t q p is-planned)

@@ -15,7 +15,7 @@ use Rattle.laws.proofs.Tests.{ifb, either}
 use Rattle.laws.proofs.Options.{same-thing}
 use Rattle.laws.proofs.Members.{head-or-later}
 use Rattle.timetable.specs.Timetable.{maximumDelay}
-use Rattle.plans.specs.Rides.{Ride, landsBy, boards}
+use Rattle.plans.specs.Rides.{Ride, landsBy, ready, boards}
 use Rattle.plans.specs.Worth.{Valued, firstOpen, ridesOf}
 use Rattle.plans.specs.Plan.{Window, inWindow, wanted, upTo, windowsOf, extract}
 use Rattle.demands.specs.Walk.{Sailed, Delayed, delay-first}
@@ -45,20 +45,20 @@ unfolding upTo
 up-to-is stop minute none there = absurd (List·Memᴰ·not-nil there)
 up-to-is stop minute (some v) there = (v, refl, List·Memᴰ·eq-of-singleton there)
 
--- a window that a ride opens: from a up to the first ride at or after a + M
-pub record Opened (target : ℕ) (r : Ride) (behind : List Valued) (w : Window) : Type 0 where
+-- a window that a ride opens: from a + g up to the first ride at or after a + M + g
+pub record Opened (gate target : ℕ) (r : Ride) (behind : List Valued) (w : Window) : Type 0 where
   pub away : r .to ≢ target
   pub safe : Valued
-  pub is-first : firstOpen behind (r .to) (landsBy r) ≡ some safe
-  pub is : w ≡ record { stop = r .to; minute = r .arrives; until = safe .ride .departs }
+  pub is-first : firstOpen behind (r .to) (ready gate (landsBy r)) ≡ some safe
+  pub is : w ≡ record { stop = r .to; minute = ready gate (r .arrives); until = safe .ride .departs }
 
-pub window-opened : (target : ℕ) (r : Ride) (behind : List Valued) {w : Window} → List·Memᴰ w (windowsOf target r behind) → Opened target r behind w
+pub window-opened : (gate target : ℕ) (r : Ride) (behind : List Valued) {w : Window} → List·Memᴰ w (windowsOf gate target r behind) → Opened gate target r behind w
 unfolding windowsOf
-window-opened target r behind {w} there =
-    ifb (λ b. eqb (r .to) target ≡ b → List·Memᴰ w (cond b [] (upTo (r .to) (r .arrives) (firstOpen behind (r .to) (landsBy r))))
-    → Opened target r behind w)
+window-opened gate target r behind {w} there =
+    ifb (λ b. eqb (r .to) target ≡ b → List·Memᴰ w (cond b [] (upTo (r .to) (ready gate (r .arrives)) (firstOpen behind (r .to) (ready gate (landsBy r)))))
+    → Opened gate target r behind w)
     (eqb (r .to) target) (λ _ _ none-there. absurd (List·Memᴰ·not-nil none-there))
-    (λ e _ in-it. let found = up-to-is (r .to) (r .arrives) (firstOpen behind (r .to) (landsBy r)) in-it in
+    (λ e _ in-it. let found = up-to-is (r .to) (ready gate (r .arrives)) (firstOpen behind (r .to) (ready gate (landsBy r))) in-it in
     record { away = eqb-false (r .to) target e; safe = found .0; is-first = found .1; is = found .2 }) refl there
 
 -- no ride that can be boarded departs before the first
@@ -84,44 +84,44 @@ taken-after chosen taken ordered part stop minute is-first delayed s there opens
     )
 
 -- a delay of u after which r is met
-record Landing (u r : Ride) (sailed : List Sailed) : Type 0 where
+record Landing (gate : ℕ) (u r : Ride) (sailed : List Sailed) : Type 0 where
   delay : ℕ
   below : delay < length (u .shares)
-  meets : Meets r sailed (u .to) (u .arrives + delay)
+  meets : Meets gate r sailed (u .to) (ready gate (u .arrives + delay))
 
--- one who would meet r from a minute meets it by landing then, or at a + M if that is sooner and nothing departs between
+-- one who, ready at a minute, would meet r meets it by landing a gate time ahead of it, or at a + M if that is sooner and nothing departs between
 landing :
-    (u : Ride) {r : Ride} {sailed : List Sailed} {minute : ℕ} → 0 < length (u .shares) → u .arrives ≤ minute
-    → ((s : Sailed) → List·Memᴰ s sailed → boards (s .ride) (u .to) (landsBy u) ≡ true → minute ≤ s .ride .departs)
-    → Meets r sailed (u .to) minute → Landing u r sailed
-landing u {r} {sailed} {minute} some-share from none-between meets = pick (decLe minute (landsBy u))
+    (gate : ℕ) (u : Ride) {r : Ride} {sailed : List Sailed} {minute : ℕ} → 0 < length (u .shares) → ready gate (u .arrives) ≤ minute
+    → ((s : Sailed) → List·Memᴰ s sailed → boards (s .ride) (u .to) (ready gate (landsBy u)) ≡ true → minute ≤ s .ride .departs)
+    → Meets gate r sailed (u .to) minute → Landing gate u r sailed
+landing gate u {r} {sailed} {minute} some-share from none-between meets = pick (decLe minute (ready gate (landsBy u)))
   where
-    in-range : (a m n : ℕ) → 0 < n → m ≤ a + pred n → a ≤ m → m - a < n
+    in-range : (a m n : ℕ) → 0 < n → m ≤ ready gate (a + pred n) → ready gate a ≤ m → m - ready gate a < n
     in-range a m n positive before from = omega arith
 
     last-share : (n : ℕ) → 0 < n → pred n < n
     last-share n positive = omega arith
 
-    pick : Dec (minute ≤ landsBy u) → Landing u r sailed
+    pick : Dec (minute ≤ ready gate (landsBy u)) → Landing gate u r sailed
     pick (yes before) =
         record {
-          delay = minute - u .arrives;
+          delay = minute - ready gate (u .arrives);
           below = in-range (u .arrives) minute (length (u .shares)) some-share before from;
-          meets = subst (Meets r sailed (u .to)) (omega arith) meets;
+          meets = subst (Meets gate r sailed (u .to)) (omega arith) meets;
         }
     pick (no after) =
         record {
           delay = maximumDelay (u .shares);
           below = last-share (length (u .shares)) some-share;
           meets =
-              meets-sooner (landsBy u) (omega (arith, after))
+              meets-sooner (ready gate (landsBy u)) (omega (arith, after))
               (λ s there opens.
-              can-board (s .ride) (u .to) minute (boards-stop (s .ride) (u .to) (landsBy u) opens) (none-between s there opens))
+              can-board (s .ride) (u .to) minute (boards-stop (s .ride) (u .to) (ready gate (landsBy u)) opens) (none-between s there opens))
               meets;
         }
 
 -- one who stands in a window at the minute of a chosen ride there meets r, under some choice for the rides taken
-pub record Entry (ws : List Window) (chosen taken : List Valued) (r : Ride) : Type 0 where
+pub record Entry (gate : ℕ) (ws : List Window) (chosen taken : List Valued) (r : Ride) : Type 0 where
   pub window : Window
   pub among : List·Memᴰ window ws
   pub first : Valued
@@ -129,7 +129,7 @@ pub record Entry (ws : List Window) (chosen taken : List Valued) (r : Ride) : Ty
   pub in-window : inWindow window (first .ride) ≡ true
   pub sailed : List Sailed
   pub delayed : Delayed (ridesOf taken) sailed
-  pub meets : Meets r sailed (window .stop) (first .ride .departs)
+  pub meets : Meets gate r sailed (window .stop) (first .ride .departs)
 
 -- the ride itself can be boarded when it departs
 window-departs : (w : Window) (r : Ride) → inWindow w r ≡ true → boards r (w .stop) (r .departs) ≡ true
@@ -139,9 +139,9 @@ abbrev pub SomeShare : List Valued → Type 0
 SomeShare vs = (v : Valued) → List·Memᴰ v vs → 0 < length (v .ride .shares)
 
 -- a ride taken by a window of the list
-module _ {ws : List Window} {u : Valued} {behind taken : List Valued} (w : Window) (among : List·Memᴰ w ws)
+module _ {gate : ℕ} {ws : List Window} {u : Valued} {behind taken : List Valued} (w : Window) (among : List·Memᴰ w ws)
     (in-it : inWindow w (u .ride) ≡ true) (some-share : 0 < length (u .ride .shares)) where
-  entry-itself : SomeShare taken → Entry ws (u ∷ behind) (u ∷ taken) (u .ride)
+  entry-itself : SomeShare taken → Entry gate ws (u ∷ behind) (u ∷ taken) (u .ride)
   entry-itself shares =
       record {
         window = w;
@@ -163,7 +163,7 @@ module _ {ws : List Window} {u : Valued} {behind taken : List Valued} (w : Windo
   -- and what is met from the window that it opens
   entry-onward :
       {r : Ride} {target : ℕ} → Ordered behind → ((v : Valued) → List·Memᴰ v taken → List·Memᴰ v behind) → {more : List Window}
-      (e : Entry more behind taken r) → Opened target (u .ride) behind (e .window) → Entry ws (u ∷ behind) (u ∷ taken) r
+      (e : Entry gate more behind taken r) → Opened gate target (u .ride) behind (e .window) → Entry gate ws (u ∷ behind) (u ∷ taken) r
   entry-onward {r} ordered part e opened =
       record {
         window = w;
@@ -177,31 +177,31 @@ module _ {ws : List Window} {u : Valued} {behind taken : List Valued} (w : Windo
       }
     where
       none-between :
-          (s : Sailed) → List·Memᴰ s (e .sailed) → boards (s .ride) (u .ride .to) (landsBy (u .ride)) ≡ true
+          (s : Sailed) → List·Memᴰ s (e .sailed) → boards (s .ride) (u .ride .to) (ready gate (landsBy (u .ride))) ≡ true
           → e .first .ride .departs ≤ s .ride .departs
       none-between s there opens =
           omega (
             arith,
             window-until (e .window) (e .first .ride) (e .in-window),
             ap (λ x. x .until) (opened .is),
-            taken-after behind taken ordered part (u .ride .to) (landsBy (u .ride)) (opened .is-first) (e .delayed) s there opens,
+            taken-after behind taken ordered part (u .ride .to) (ready gate (landsBy (u .ride))) (opened .is-first) (e .delayed) s there opens,
           )
 
-      landed : Landing (u .ride) r (e .sailed)
+      landed : Landing gate (u .ride) r (e .sailed)
       landed =
-          landing (u .ride) some-share
+          landing gate (u .ride) some-share
           (omega (
             arith,
             ap (λ x. x .minute) (opened .is),
             boards-minute (e .first .ride) (e .window .stop) (e .window .minute) (window-boards (e .window) (e .first .ride) (e .in-window)),
           ))
-          none-between (subst (λ (stop : ℕ). Meets r (e .sailed) stop (e .first .ride .departs)) (ap (λ x. x .stop) (opened .is)) (e .meets))
+          none-between (subst (λ (stop : ℕ). Meets gate r (e .sailed) stop (e .first .ride .departs)) (ap (λ x. x .stop) (opened .is)) (e .meets))
 
 -- what is met from an older window is met all the same: a ride taken before does not depart then and there
 entry-older :
-    {ws more : List Window} {u : Valued} {behind taken : List Valued} {r : Ride} → 0 < length (u .ride .shares)
-    → ((v : Valued) → List·Memᴰ v behind → Before u v) → (e : Entry more behind taken r) → List·Memᴰ (e .window) ws
-    → Entry ws (u ∷ behind) (u ∷ taken) r
+    {gate : ℕ} {ws more : List Window} {u : Valued} {behind taken : List Valued} {r : Ride} → 0 < length (u .ride .shares)
+    → ((v : Valued) → List·Memᴰ v behind → Before u v) → (e : Entry gate more behind taken r) → List·Memᴰ (e .window) ws
+    → Entry gate ws (u ∷ behind) (u ∷ taken) r
 entry-older {u = u} some-share before e among =
     record {
       window = e .window;
@@ -232,7 +232,7 @@ entry-older {u = u} some-share before e among =
         (λ _ _. refl) refl
 
 entry-passed :
-    {ws : List Window} {u : Valued} {behind taken : List Valued} {r : Ride} → Entry ws behind taken r → Entry ws (u ∷ behind) taken r
+    {gate : ℕ} {ws : List Window} {u : Valued} {behind taken : List Valued} {r : Ride} → Entry gate ws behind taken r → Entry gate ws (u ∷ behind) taken r
 entry-passed e =
     record {
       window = e .window;
@@ -246,46 +246,46 @@ entry-passed e =
     }
 
 pub entries :
-    (target : ℕ) (chosen : List Valued) → Ordered chosen → SomeShare chosen → (ws : List Window) (v : Valued)
-    → List·Memᴰ v (extract target ws chosen) → Entry ws chosen (extract target ws chosen) (v .ride)
+    (gate target : ℕ) (chosen : List Valued) → Ordered chosen → SomeShare chosen → (ws : List Window) (v : Valued)
+    → List·Memᴰ v (extract gate target ws chosen) → Entry gate ws chosen (extract gate target ws chosen) (v .ride)
 unfolding extract
-entries target [] ordered shares ws v there = absurd (List·Memᴰ·not-nil there)
-entries target (u ∷ behind) (ahead before ordered) shares ws v there =
+entries gate target [] ordered shares ws v there = absurd (List·Memᴰ·not-nil there)
+entries gate target (u ∷ behind) (ahead before ordered) shares ws v there =
     ifb
-    (λ b. wanted ws (u .ride) ≡ b → List·Memᴰ v (cond b (u ∷ taken) passed) → Entry ws (u ∷ behind) (cond b (u ∷ taken) passed) (v .ride))
+    (λ b. wanted ws (u .ride) ≡ b → List·Memᴰ v (cond b (u ∷ taken) passed) → Entry gate ws (u ∷ behind) (cond b (u ∷ taken) passed) (v .ride))
     (wanted ws (u .ride))
-    (λ _ wants among. head-or-later (Entry ws (u ∷ behind) (u ∷ taken) (v .ride)) among (itself wants)
-    (λ later. onward wants (entries target behind ordered shares-behind (windowsOf target (u .ride) behind ++ ws) v later)))
-    (λ _ _ among. entry-passed (entries target behind ordered shares-behind ws v among)) refl there
+    (λ _ wants among. head-or-later (Entry gate ws (u ∷ behind) (u ∷ taken) (v .ride)) among (itself wants)
+    (λ later. onward wants (entries gate target behind ordered shares-behind (windowsOf gate target (u .ride) behind ++ ws) v later)))
+    (λ _ _ among. entry-passed (entries gate target behind ordered shares-behind ws v among)) refl there
   where
     taken : List Valued
-    taken = extract target (windowsOf target (u .ride) behind ++ ws) behind
+    taken = extract gate target (windowsOf gate target (u .ride) behind ++ ws) behind
 
     passed : List Valued
-    passed = extract target ws behind
+    passed = extract gate target ws behind
 
     shares-behind : SomeShare behind
     shares-behind x among = shares x (List·Memᴰ·tail among)
 
     part : (x : Valued) → List·Memᴰ x taken → List·Memᴰ x behind
-    part x among = extract-member target behind (windowsOf target (u .ride) behind ++ ws) among
+    part x among = extract-member gate target behind (windowsOf gate target (u .ride) behind ++ ws) among
 
     some-share : 0 < length (u .ride .shares)
     some-share = shares u (List·Memᴰ·head refl)
 
-    itself : wanted ws (u .ride) ≡ true → v ≡ u → Entry ws (u ∷ behind) (u ∷ taken) (v .ride)
+    itself : wanted ws (u .ride) ≡ true → v ≡ u → Entry gate ws (u ∷ behind) (u ∷ taken) (v .ride)
     itself wants same =
         let found = wanted-in ws (u .ride) wants in
-        subst (λ (x : Valued). Entry ws (u ∷ behind) (u ∷ taken) (x .ride)) (sym same)
+        subst (λ (x : Valued). Entry gate ws (u ∷ behind) (u ∷ taken) (x .ride)) (sym same)
         (entry-itself (found .0) (found .1) (found .2) some-share (λ x among. shares-behind x (part x among)))
 
     onward :
-        wanted ws (u .ride) ≡ true → Entry (windowsOf target (u .ride) behind ++ ws) behind taken (v .ride)
-        → Entry ws (u ∷ behind) (u ∷ taken) (v .ride)
+        wanted ws (u .ride) ≡ true → Entry gate (windowsOf gate target (u .ride) behind ++ ws) behind taken (v .ride)
+        → Entry gate ws (u ∷ behind) (u ∷ taken) (v .ride)
     onward wants e =
         let found = wanted-in ws (u .ride) wants in
         ⊎-elim
-        (λ (own : List·Memᴰ (e .window) (windowsOf target (u .ride) behind)).
-        entry-onward (found .0) (found .1) (found .2) some-share ordered part e (window-opened target (u .ride) behind own))
+        (λ (own : List·Memᴰ (e .window) (windowsOf gate target (u .ride) behind)).
+        entry-onward (found .0) (found .1) (found .2) some-share ordered part e (window-opened gate target (u .ride) behind own))
         (λ (older : List·Memᴰ (e .window) ws). entry-older some-share before e older)
-        (List·Memᴰ·append-cases (windowsOf target (u .ride) behind) (e .among))
+        (List·Memᴰ·append-cases (windowsOf gate target (u .ride) behind) (e .among))

@@ -9,7 +9,7 @@ use lib.Dec.{T}
 use lib.ListN.{length}
 use Rattle.laws.proofs.Tests.{T-true, true-T}
 use Rattle.timetable.specs.Classes.{sum, shareTotal}
-use Rattle.plans.specs.Rides.{Ride, landsBy, boards}
+use Rattle.plans.specs.Rides.{Ride, landsBy, ready, boards}
 use Rattle.plans.proofs.Open.{boards-earlier}
 
 -- one ride, and the rides behind it
@@ -28,14 +28,14 @@ pub data Served (target : ℕ) (rides : List Ride) (stop minute : ℕ) : Type 0 
   over : stop ≡ target → Served target rides stop minute
   onward : (next : Ride) → List·Memᴰ next rides → T (boards next stop minute) → Served target rides stop minute
 
--- each ride goes on from its latest landing, or ends at the target
-pub data Forward (target : ℕ) : List Ride → Type 0 where
-  none : Forward target []
+-- each ride goes on from when its latest landing is ready, or ends at the target
+pub data Forward (gate target : ℕ) : List Ride → Type 0 where
+  none : Forward gate target []
   one :
-      {r : Ride} {behind : List Ride} → Timed target r behind → Served target behind (r .to) (landsBy r) → Forward target behind
-      → Forward target (r ∷ behind)
+      {r : Ride} {behind : List Ride} → Timed target r behind → Served target behind (r .to) (ready gate (landsBy r)) → Forward gate target behind
+      → Forward gate target (r ∷ behind)
 
-pub forward-timed : {target : ℕ} {rides : List Ride} → Forward target rides → AllTimed target rides
+pub forward-timed : {gate target : ℕ} {rides : List Ride} → Forward gate target rides → AllTimed target rides
 forward-timed none = none
 forward-timed (one timed goes-on rest) = one timed (forward-timed rest)
 

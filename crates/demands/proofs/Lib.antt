@@ -31,3 +31,5 @@ pub mod Largest
 pub mod Demanded
 pub mod OnePlan
 pub mod AnyMargin
+pub mod AnyGate
+pub mod GateNone

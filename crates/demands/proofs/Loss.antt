@@ -16,8 +16,8 @@ use Rattle.timetable.specs.Ticks.{ticksAMinute, quotientUp}
 use Rattle.query.specs.declared.Query.{Query}
 use Rattle.plans.specs.declared.Goal.{Goal}
 use Rattle.plans.specs.Sound.{Timely}
-use Rattle.plans.specs.Rides.{Ride, IsRide, landsBy, boards}
-use Rattle.plans.specs.Journeys.{goalOf, within}
+use Rattle.plans.specs.Rides.{Ride, IsRide, landsBy, ready, boards}
+use Rattle.plans.specs.Journeys.{goalOf, within, readyAt}
 use Rattle.plans.specs.Worth.{Valued, weigh, firstOpen, caught, worthOr, landWorth, arrivalWorth, changeWorth}
 use Rattle.plans.specs.Chosen.{Aim, inTicks}
 use Rattle.plans.specs.FromRow.{chosenFrom}
@@ -41,13 +41,13 @@ use Rattle.demands.proofs.Walked.{forward, begins-served, begins-elsewh
 
 -- away from the target standing there is worth the first ride that can be boarded
 standing-is :
-    (target : ℕ) (vs : List Valued) (s m : ℕ) (v : Valued) → s ≢ target → firstOpen vs s m ≡ some v → standingWorth target vs s m ≡ v .worth
+    (gate target : ℕ) (vs : List Valued) (s m : ℕ) (v : Valued) → s ≢ target → firstOpen vs s (ready gate m) ≡ some v → standingWorth gate target vs s m ≡ v .worth
 unfolding standingWorth caught worthOr
-standing-is target vs s m v away e = cond-false (ticksAMinute * m) (caught vs s m) (ne-eqb s target away) ∙ ap (worthOr 0) e
+standing-is gate target vs s m v away e = cond-false (ticksAMinute * m) (caught vs s (ready gate m)) (ne-eqb s target away) ∙ ap (worthOr 0) e
 
-standing-over : (target : ℕ) (vs : List Valued) (s m : ℕ) → s ≡ target → standingWorth target vs s m ≡ ticksAMinute * m
+standing-over : (gate target : ℕ) (vs : List Valued) (s m : ℕ) → s ≡ target → standingWorth gate target vs s m ≡ ticksAMinute * m
 unfolding standingWorth
-standing-over target vs s m there = cond-true (ticksAMinute * m) (caught vs s m) (eq-eqb s target there)
+standing-over gate target vs s m there = cond-true (ticksAMinute * m) (caught vs s (ready gate m)) (eq-eqb s target there)
 
 module _ (t : Timetable) (timely : Timely t) (goal : Goal) where
   abbrev chosen : List Valued
@@ -57,20 +57,20 @@ module _ (t : Timetable) (timely : Timely t) (goal : Goal) where
   slack = goal .margin - 1
 
   -- a ride's boarding row is worth no more than the ride, if it goes on among the chosen rows
-  ride-worth :
+  pub ride-worth :
       (r : Ride) → IsRide t r → within (goal .bound) (landsBy r) ≡ true
-      → (r .to ≢ goal .target → (u : Valued) × (firstOpen chosen (r .to) (landsBy r) ≡ some u))
-      → AtMost (bestInTicks t goal (r .board)) (landWorth (goal .target) r chosen)
+      → (r .to ≢ goal .target → (u : Valued) × (firstOpen chosen (r .to) (ready (goal .gate) (landsBy r)) ≡ some u))
+      → AtMost (bestInTicks t goal (r .board)) (landWorth (goal .gate) (goal .target) r chosen)
   unfolding landWorth
   ride-worth r is b on =
-      ifb (λ c. eqb (r .to) (goal .target) ≡ c → AtMost (bestInTicks t goal (r .board)) (cond c (arrivalWorth r) (changeWorth r chosen)))
+      ifb (λ c. eqb (r .to) (goal .target) ≡ c → AtMost (bestInTicks t goal (r .board)) (cond c (arrivalWorth r) (changeWorth (goal .gate) r chosen)))
       (eqb (r .to) (goal .target))
       (λ e _. ride-at-most aim t r is (ticks-landed goal) (arrivalWorth r) (ticks-at-target goal r _ (eqb-true (r .to) (goal .target) e) b))
       (λ e _. let away = eqb-false (r .to) (goal .target) e in
       let found = on away in
-      ride-at-most aim t r is (ticks-landed goal) (changeWorth r chosen)
-      (ticks-elsewhere goal r behind away (found .0) (sym (sees (landsBy r) (omega arith)) ∙ found .1)
-      ∙ ap some (change-same r behind chosen (ride-delays t timely r is) (λ m late _. sym (sees m late)))))
+      ride-at-most aim t r is (ticks-landed goal) (changeWorth (goal .gate) r chosen)
+      (ticks-elsewhere goal r behind away (found .0) (sym (sees (ready (goal .gate) (landsBy r)) (omega arith)) ∙ found .1)
+      ∙ ap some (change-same (goal .gate) r behind chosen (ride-delays t timely r is) (λ m late _. sym (sees m (omega arith))))))
       refl
     where
       aim : Aim
@@ -84,12 +84,12 @@ module _ (t : Timetable) (timely : Timely t) (goal : Goal) where
 
   -- one away from the target finds a chosen row; what it is worth there exceeds what the plan's rides give by the slack a ride still to come
   record Loses (rides : List Ride) (at : Standing) (most : ℕ) : Type 0 where
-    found : at .stop ≢ goal .target → (v : Valued) × (firstOpen chosen (at .stop) (at .minute) ≡ some v)
+    found : at .stop ≢ goal .target → (v : Valued) × (firstOpen chosen (at .stop) (ready (goal .gate) (at .minute)) ≡ some v)
     loss :
-        standingWorth (goal .target) chosen (at .stop) (at .minute) + slack * at .boarded
-        ≤ worthAt (goal .target) rides at + slack * most
+        standingWorth (goal .gate) (goal .target) chosen (at .stop) (at .minute) + slack * at .boarded
+        ≤ worthAt (goal .gate) (goal .target) rides at + slack * most
 
-  ends-there : (at : Standing) (most : ℕ) → at .stop ≡ goal .target → AtMostRides [] at most → Loses [] at most
+  ends-there : (at : Standing) (most : ℕ) → at .stop ≡ goal .target → AtMostRides (goal .gate) [] at most → Loses [] at most
   unfolding course
   ends-there at most there within =
       record {
@@ -97,36 +97,36 @@ module _ (t : Timetable) (timely : Timely t) (goal : Goal) where
         loss =
             omega (
               arith,
-              standing-over (goal .target) chosen (at .stop) (at .minute) there,
-              worth-over (goal .target) [] at there,
+              standing-over (goal .gate) (goal .target) chosen (at .stop) (at .minute) there,
+              worth-over (goal .gate) (goal .target) [] at there,
               mul-le-mul-left slack (within [] undelayed),
             );
       }
 
   -- the landings of a ride lose no more than the rides still to come, so the ride loses one more
   landings-lose :
-      (r : Ride) (behind : List Ride) (at : Standing) (most : ℕ) → Timed (goal .target) r behind → boards r (at .stop) (at .minute) ≡ true
+      (r : Ride) (behind : List Ride) (at : Standing) (most : ℕ) → Timed (goal .target) r behind → boards r (at .stop) (ready (goal .gate) (at .minute)) ≡ true
       → Landings r (λ minute. Loses behind (off at r minute) most)
-      → landWorth (goal .target) r chosen + slack * suc (at .boarded) ≤ worthAt (goal .target) (r ∷ behind) at + slack * most
+      → landWorth (goal .gate) (goal .target) r chosen + slack * suc (at .boarded) ≤ worthAt (goal .gate) (goal .target) (r ∷ behind) at + slack * most
   landings-lose r behind at most timed opens each =
-      rw (land-mean (goal .target) r chosen (timed .full), worth-boards (goal .target) r behind at timed opens)
+      rw (land-mean (goal .gate) (goal .target) r chosen (timed .full), worth-boards (goal .gate) (goal .target) r behind at timed opens)
       (up-within (weigh (r .shares) (r .arrives) ours) (weigh (r .shares) (r .arrives) theirs) (slack * suc (at .boarded)) (slack * most)
       (weigh-within (r .shares) (r .arrives) ours theirs (slack * suc (at .boarded)) (slack * most) (timed .full)
       (λ minute from below. each minute from below .loss)))
     where
       ours : ℕ → ℕ
-      ours = standingWorth (goal .target) chosen (r .to)
+      ours = standingWorth (goal .gate) (goal .target) chosen (r .to)
 
       theirs : ℕ → ℕ
-      theirs minute = worthAt (goal .target) behind (off at r minute)
+      theirs minute = worthAt (goal .gate) (goal .target) behind (off at r minute)
 
   board-loses :
       (r : Ride) (behind : List Ride) (at : Standing) (most : ℕ) → IsRide t r → within (goal .bound) (landsBy r) ≡ true
-      → Timed (goal .target) r behind → boards r (at .stop) (at .minute) ≡ true
+      → Timed (goal .target) r behind → boards r (at .stop) (ready (goal .gate) (at .minute)) ≡ true
       → Landings r (λ minute. Loses behind (off at r minute) most) → Loses (r ∷ behind) at most
   board-loses r behind at most is b timed opens each =
       found-at-most (Loses (r ∷ behind) at most)
-      (ride-first t timely (inTicks goal) 0 r is zero-le (at .stop) (at .minute) (landWorth (goal .target) r chosen) opens away
+      (ride-first t timely (inTicks goal) 0 r is zero-le (at .stop) (ready (goal .gate) (at .minute)) (landWorth (goal .gate) (goal .target) r chosen) opens away
       (ride-worth r is b (λ on. each (landsBy r) (omega arith) (omega (arith, ride-delays t timely r is)) .found on)))
       (λ v e h. record {
         found = λ _. (v, e);
@@ -134,36 +134,36 @@ module _ (t : Timetable) (timely : Timely t) (goal : Goal) where
             omega (
               arith,
               h,
-              standing-is (goal .target) chosen (at .stop) (at .minute) v away e,
+              standing-is (goal .gate) (goal .target) chosen (at .stop) (at .minute) v away e,
               landings-lose r behind at most timed opens each,
             );
       })
     where
       away : at .stop ≢ goal .target
-      away there = timed .off-target (boards-stop r (at .stop) (at .minute) opens ∙ there)
+      away there = timed .off-target (boards-stop r (at .stop) (ready (goal .gate) (at .minute)) opens ∙ there)
 
   pass-loses :
-      (r : Ride) (behind : List Ride) (at : Standing) (most : ℕ) → boards r (at .stop) (at .minute) ≡ false → Loses behind at most
+      (r : Ride) (behind : List Ride) (at : Standing) (most : ℕ) → boards r (at .stop) (ready (goal .gate) (at .minute)) ≡ false → Loses behind at most
       → Loses (r ∷ behind) at most
   pass-loses r behind at most shut l =
-      record { found = l .found; loss = omega (arith, l .loss, worth-passes (goal .target) r behind at shut) }
+      record { found = l .found; loss = omega (arith, l .loss, worth-passes (goal .gate) (goal .target) r behind at shut) }
 
   rides-lose :
-      (most : ℕ) {rides : List Ride} → Forward (goal .target) rides
+      (most : ℕ) {rides : List Ride} → Forward (goal .gate) (goal .target) rides
       → ((r : Ride) → List·Memᴰ r rides → IsRide t r × (within (goal .bound) (landsBy r) ≡ true)) → (at : Standing)
-      → Served (goal .target) rides (at .stop) (at .minute) → AtMostRides rides at most → Loses rides at most
+      → Served (goal .target) rides (at .stop) (ready (goal .gate) (at .minute)) → AtMostRides (goal .gate) rides at most → Loses rides at most
   rides-lose most Forward.none are at (onward next among opens) within = absurd (List·Memᴰ·not-nil among)
   rides-lose most Forward.none are at (over there) within = ends-there at most there within
   rides-lose most (Forward.one {r = r} {behind = behind} timed goes-on rest) are at served within =
       let here = are r (List·Memᴰ·head refl) in
-      ifb (λ b. Loses (r ∷ behind) at most) (boards r (at .stop) (at .minute))
+      ifb (λ b. Loses (r ∷ behind) at most) (boards r (at .stop) (ready (goal .gate) (at .minute)))
       (λ opens. board-loses r behind at most (here .0) (here .1) timed opens
       (λ minute from below.
       rides-lose most rest (λ x n. are x (List·Memᴰ·tail n)) (off at r minute)
-      (served-sooner minute (landing-latest r minute from below) goes-on) (most-boarded r behind at most opens within minute from below)))
+      (served-sooner (ready (goal .gate) minute) (omega (arith, landing-latest r minute from below)) goes-on) (most-boarded (goal .gate) r behind at most opens within minute from below)))
       (λ shut. pass-loses r behind at most shut
       (rides-lose most rest (λ x n. are x (List·Memᴰ·tail n)) at (served-behind shut served)
-      (most-passed r behind at most (timed .full) shut within)))
+      (most-passed (goal .gate) r behind at most (timed .full) shut within)))
 
 -- against any safe plan within the bound
 pub plan-loss :
@@ -180,9 +180,9 @@ plan-loss t timely q p made rides set x e =
     omega (
       arith,
       lost .loss,
-      standing-is (q .target) (chosenFrom (inTicks goal) t 0) (q .source) (q .minute) (made .first)
+      standing-is (q .gate) (q .target) (chosenFrom (inTicks goal) t 0) (q .source) (q .minute) (made .first)
           (begins-elsewhere q (p .bound) (sorted rides) safe)
-          (sym (ap (λ (l : List Valued). firstOpen l (q .source) (q .minute)) (chosen-for t goal)) ∙ made .begins),
+          (sym (ap (λ (l : List Valued). firstOpen l (q .source) (readyAt q)) (chosen-for t goal)) ∙ made .begins),
       made .worth,
       expected-worth timely q (p .bound) (sorted rides) safe rising x (expected-sorted q rides ∙ e),
     )

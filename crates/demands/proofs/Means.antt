@@ -9,7 +9,7 @@ use lib.Dec.{eqb}
 use lib.ListN.{length}
 use Rattle.laws.proofs.Tests.{ifb}
 use Rattle.timetable.specs.Classes.{sum, shareTotal}
-use Rattle.plans.specs.Rides.{Ride}
+use Rattle.plans.specs.Rides.{Ride, ready}
 use Rattle.timetable.specs.Ticks.{ticksAMinute, quotientUp}
 use Rattle.plans.proofs.Weighing.{weigh-less}
 use Rattle.plans.specs.Worth.{weigh, Valued, caught, arrivalWorth, changeWorth, landWorth}
@@ -62,9 +62,9 @@ up-loses n = omega arith
 pub up-within : (m n x y : ℕ) → m + shareTotal * x ≤ n + shareTotal * y → quotientUp shareTotal m + x ≤ quotientUp shareTotal n + y
 up-within m n x y h = omega arith
 
--- at the target the minute itself counts, elsewhere the ride caught
-unfoldable pub standingWorth : ℕ → List Valued → ℕ → ℕ → ℕ
-standingWorth target behind stop minute = cond (eqb stop target) (ticksAMinute * minute) (caught behind stop minute)
+-- at the target the minute itself counts, elsewhere the ride caught by one who is there from that minute on
+unfoldable pub standingWorth : (gate target : ℕ) → List Valued → (stop minute : ℕ) → ℕ
+standingWorth gate target behind stop minute = cond (eqb stop target) (ticksAMinute * minute) (caught behind stop (ready gate minute))
 
 -- the mean minute is the arrival and the mean delay
 pub weigh-minutes :
@@ -87,12 +87,12 @@ arrival-mean r full =
 
 -- every ride is worth the mean of what its landings are worth, rounded up once
 pub land-mean :
-    (target : ℕ) (r : Ride) (behind : List Valued) → sum (r .shares) ≡ shareTotal
-    → landWorth target r behind ≡ quotientUp shareTotal (weigh (r .shares) (r .arrives) (standingWorth target behind (r .to)))
+    (gate target : ℕ) (r : Ride) (behind : List Valued) → sum (r .shares) ≡ shareTotal
+    → landWorth gate target r behind ≡ quotientUp shareTotal (weigh (r .shares) (r .arrives) (standingWorth gate target behind (r .to)))
 unfolding landWorth changeWorth standingWorth
-land-mean target r behind full =
+land-mean gate target r behind full =
     ifb (
     λ b.
-    cond b (arrivalWorth r) (changeWorth r behind)
-    ≡ quotientUp shareTotal (weigh (r .shares) (r .arrives) (λ m. cond b (ticksAMinute * m) (caught behind (r .to) m))))
+    cond b (arrivalWorth r) (changeWorth gate r behind)
+    ≡ quotientUp shareTotal (weigh (r .shares) (r .arrives) (λ m. cond b (ticksAMinute * m) (caught behind (r .to) (ready gate m)))))
     (eqb (r .to) target) (λ ends. arrival-mean r full) (λ goes-on. refl)

@@ -7,34 +7,34 @@ use mathlib.Core.Option.{some}
 use mathlib.Core.Path.{_≡_, refl, sym, _∙_, ap, subst}
 use native.Mathlib.Omega.{arith}
 use Rattle.laws.proofs.Tests.{ifb, cond-true, cond-false}
-use Rattle.plans.specs.Rides.{Ride, boards}
+use Rattle.plans.specs.Rides.{Ride, ready, boards}
 use Rattle.demands.specs.Walk.{Sailed, Standing, firstSailed, landed, steps, Boards}
 use Rattle.plans.proofs.Open.{boards-stop, boards-earlier, too-late}
 use Rattle.demands.proofs.Forward.{Timed, AllTimed, one}
 use Rattle.demands.proofs.Course.{ridesSailed, found-sailed, steps-keep, steps-board, steps-shut, lands-later}
 
--- going through the rides in turn from a stop and a minute, one boards r
-pub data Meets (r : Ride) : List Sailed → ℕ → ℕ → Type 0 where
+-- going through the rides in turn, ready at a stop at a minute, one boards r
+pub data Meets (gate : ℕ) (r : Ride) : List Sailed → (stop minute : ℕ) → Type 0 where
   here :
       {s : Sailed} {sailed : List Sailed} {stop minute : ℕ} → s .ride ≡ r → boards (s .ride) stop minute ≡ true
-      → Meets r (s ∷ sailed) stop minute
+      → Meets gate r (s ∷ sailed) stop minute
   lands :
       {s : Sailed} {sailed : List Sailed} {stop minute : ℕ} → boards (s .ride) stop minute ≡ true
-      → Meets r sailed (s .ride .to) (s .ride .arrives + s .delay) → Meets r (s ∷ sailed) stop minute
+      → Meets gate r sailed (s .ride .to) (ready gate (s .ride .arrives + s .delay)) → Meets gate r (s ∷ sailed) stop minute
   passes :
-      {s : Sailed} {sailed : List Sailed} {stop minute : ℕ} → boards (s .ride) stop minute ≡ false → Meets r sailed stop minute
-      → Meets r (s ∷ sailed) stop minute
+      {s : Sailed} {sailed : List Sailed} {stop minute : ℕ} → boards (s .ride) stop minute ≡ false → Meets gate r sailed stop minute
+      → Meets gate r (s ∷ sailed) stop minute
 
 -- one who comes sooner boards the same, if nothing more can be boarded then
 pub meets-sooner :
-    {r : Ride} {sailed : List Sailed} {stop minute : ℕ} (soon : ℕ) → soon ≤ minute
+    {gate : ℕ} {r : Ride} {sailed : List Sailed} {stop minute : ℕ} (soon : ℕ) → soon ≤ minute
     → ((s : Sailed) → List·Memᴰ s sailed → boards (s .ride) stop soon ≡ true → boards (s .ride) stop minute ≡ true)
-    → Meets r sailed stop minute → Meets r sailed stop soon
+    → Meets gate r sailed stop minute → Meets gate r sailed stop soon
 meets-sooner {stop = stop} {minute = minute} soon before same (here {s = s} is opens) =
     here is (boards-earlier (s .ride) stop minute soon before opens)
 meets-sooner {stop = stop} {minute = minute} soon before same (lands {s = s} opens onward) =
     lands (boards-earlier (s .ride) stop minute soon before opens) onward
-meets-sooner {r} {stop = stop} {minute = minute} soon before same (passes {s = s} {sailed = sailed} shut onward) =
+meets-sooner {r = r} {stop = stop} {minute = minute} soon before same (passes {s = s} {sailed = sailed} shut onward) =
     passes still (meets-sooner soon before (λ u there. same u (List·Memᴰ·tail there)) onward)
   where
     still : boards (s .ride) stop soon ≡ false
@@ -44,55 +44,55 @@ meets-sooner {r} {stop = stop} {minute = minute} soon before same (passes {s = s
 
 -- the ride that was first is first in the longer list, where its head can't be boarded
 later-boards :
-    (target : ℕ) (s : Sailed) (sailed : List Sailed) → Timed target (s .ride) (ridesSailed sailed) → AllTimed target (ridesSailed sailed)
-    → (at next : Standing) → boards (s .ride) (next .stop) (next .minute) ≡ false → (more : ℕ → ℕ)
-    → ((k : ℕ) → steps target (s ∷ sailed) (more k) at ≡ steps target sailed k next) → {r : Ride} → Boards target sailed next r
-    → Boards target (s ∷ sailed) at r
+    (gate target : ℕ) (s : Sailed) (sailed : List Sailed) → Timed target (s .ride) (ridesSailed sailed) → AllTimed target (ridesSailed sailed)
+    → (at next : Standing) → boards (s .ride) (next .stop) (ready gate (next .minute)) ≡ false → (more : ℕ → ℕ)
+    → ((k : ℕ) → steps gate target (s ∷ sailed) (more k) at ≡ steps gate target sailed k next) → {r : Ride} → Boards gate target sailed next r
+    → Boards gate target (s ∷ sailed) at r
 unfolding firstSailed landed
-later-boards target s sailed timed rest at next shut more same {r} b =
+later-boards gate target s sailed timed rest at next shut more same {r} b =
     record {
       landings = more (b .landings);
       delay = b .delay;
       short = subst (λ (x : Standing). x .stop ≢ target) (sym (same (b .landings))) (b .short);
       first =
-          ap (λ x. firstSailed (s ∷ sailed) (x .stop) (x .minute)) (same (b .landings))
-          ∙ cond-false (some s) (firstSailed sailed (then .stop) (then .minute)) still-shut ∙ b .first;
+          ap (λ x. firstSailed (s ∷ sailed) (x .stop) (ready gate (x .minute))) (same (b .landings))
+          ∙ cond-false (some s) (firstSailed sailed (then .stop) (ready gate (then .minute))) still-shut ∙ b .first;
     }
   where
     then : Standing
-    then = steps target sailed (b .landings) next
+    then = steps gate target sailed (b .landings) next
 
     Shut : Standing → Type 0
-    Shut x = boards (s .ride) (x .stop) (x .minute) ≡ false
+    Shut x = boards (s .ride) (x .stop) (ready gate (x .minute)) ≡ false
 
-    landing : (x : Standing) (u : Sailed) → Shut x → firstSailed sailed (x .stop) (x .minute) ≡ some u → Shut (landed x (some u))
+    landing : (x : Standing) (u : Sailed) → Shut x → firstSailed sailed (x .stop) (ready gate (x .minute)) ≡ some u → Shut (landed x (some u))
     landing x u _ found =
-        too-late (s .ride) (u .ride .to) (u .ride .arrives + u .delay)
+        too-late (s .ride) (u .ride .to) (ready gate (u .ride .arrives + u .delay))
         (omega (
           arith,
-          lands-later timed rest (u .ride) (Memᴰ·map (λ x. x .ride) (found-sailed sailed (x .stop) (x .minute) found .0)),
+          lands-later timed rest (u .ride) (Memᴰ·map (λ x. x .ride) (found-sailed sailed (x .stop) (ready gate (x .minute)) found .0)),
         ))
 
     still-shut : Shut then
-    still-shut = steps-keep Shut target sailed landing (b .landings) next shut
+    still-shut = steps-keep Shut gate target sailed landing (b .landings) next shut
 
 pub meets-boards :
-    (target : ℕ) {r : Ride} (sailed : List Sailed) → AllTimed target (ridesSailed sailed) → (at : Standing) → Meets r sailed (at .stop) (at .minute)
-    → Boards target sailed at r
+    (gate target : ℕ) {r : Ride} (sailed : List Sailed) → AllTimed target (ridesSailed sailed) → (at : Standing) → Meets gate r sailed (at .stop) (ready gate (at .minute))
+    → Boards gate target sailed at r
 unfolding firstSailed steps landed
-meets-boards target {r} (s ∷ sailed) (one timed rest) at (here is opens) =
+meets-boards gate target {r} (s ∷ sailed) (one timed rest) at (here is opens) =
     record {
       landings = 0;
       delay = s .delay;
-      short = λ there. timed .off-target (boards-stop (s .ride) (at .stop) (at .minute) opens ∙ there);
+      short = λ there. timed .off-target (boards-stop (s .ride) (at .stop) (ready gate (at .minute)) opens ∙ there);
       first =
-          cond-true (some s) (firstSailed sailed (at .stop) (at .minute)) opens
+          cond-true (some s) (firstSailed sailed (at .stop) (ready gate (at .minute))) opens
           ∙ ap (λ x. some (record { ride = x; delay = s .delay })) is;
     }
-meets-boards target (s ∷ sailed) (one timed rest) at (lands opens onward) =
-    later-boards target s sailed timed rest at (landed at (some s))
-    (too-late (s .ride) (s .ride .to) (s .ride .arrives + s .delay) (omega (arith, timed .forward))) suc
-    (λ k. steps-board target s sailed timed rest k at opens) (meets-boards target sailed rest (landed at (some s)) onward)
-meets-boards target (s ∷ sailed) (one timed rest) at (passes shut onward) =
-    later-boards target s sailed timed rest at at shut (λ k. k) (λ k. steps-shut target s sailed timed rest k at shut)
-    (meets-boards target sailed rest at onward)
+meets-boards gate target (s ∷ sailed) (one timed rest) at (lands opens onward) =
+    later-boards gate target s sailed timed rest at (landed at (some s))
+    (too-late (s .ride) (s .ride .to) (ready gate (s .ride .arrives + s .delay)) (omega (arith, timed .forward))) suc
+    (λ k. steps-board gate target s sailed timed rest k at opens) (meets-boards gate target sailed rest (landed at (some s)) onward)
+meets-boards gate target (s ∷ sailed) (one timed rest) at (passes shut onward) =
+    later-boards gate target s sailed timed rest at at shut (λ k. k) (λ k. steps-shut gate target s sailed timed rest k at shut)
+    (meets-boards gate target sailed rest at onward)

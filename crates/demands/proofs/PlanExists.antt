@@ -16,8 +16,8 @@ use Rattle.timetable.specs.Timetable.{Timetable}
 use Rattle.plans.specs.declared.Goal.{Goal}
 use Rattle.plans.specs.Sound.{Timely}
 use Rattle.query.specs.declared.Query.{Query}
-use Rattle.plans.specs.Rides.{Ride, IsRide, landsBy, boards}
-use Rattle.plans.specs.Journeys.{goalOf, Onward, leaves, changes, Journey, boundOf, within, CodeStands}
+use Rattle.plans.specs.Rides.{Ride, IsRide, landsBy, ready, boards}
+use Rattle.plans.specs.Journeys.{goalOf, Onward, leaves, changes, Journey, boundOf, within, CodeStands, readyAt}
 use Rattle.plans.specs.Worth.{Valued, firstOpen, arrivalWorth, changeWorth}
 use Rattle.plans.specs.Chosen.{inTicks}
 use Rattle.plans.specs.Plan.{planned, earliest, chosenFor}
@@ -49,11 +49,11 @@ within-bound q e after (inr quarters) = or-right (eqb (boundOf q e) 0) (leb e (b
 module _ (t : Timetable) (timely : Timely t) where
   -- the boarding row of a ride has a worth, if what is boarded after it has one
   change-exists :
-      (goal : Goal) (r next : Ride) → IsRide t r → IsRide t next → boards next (r .to) (landsBy r) ≡ true → within (goal .bound) (landsBy r) ≡ true
+      (goal : Goal) (r next : Ride) → IsRide t r → IsRide t next → boards next (r .to) (ready (goal .gate) (landsBy r)) ≡ true → within (goal .bound) (landsBy r) ≡ true
       → (w : ℕ) × AtMost (bestInTicks t goal (next .board)) w → (w : ℕ) × AtMost (bestInTicks t goal (r .board)) w
   change-exists goal r next is is' caught b further =
       let aim = inTicks goal in
-      let late : landsBy r ≤ next .departs = boards-minute next (r .to) (landsBy r) caught in
+      let late : ready (goal .gate) (landsBy r) ≤ next .departs = boards-minute next (r .to) (ready (goal .gate) (landsBy r)) caught in
       ifb (λ c. eqb (r .to) (goal .target) ≡ c → Some) (eqb (r .to) (goal .target))
       (λ q _. (
         arrivalWorth r,
@@ -63,9 +63,9 @@ module _ (t : Timetable) (timely : Timely t) where
       (λ q _. found-at-most Some
       (ride-first t timely aim (suc (r .leave)) next is'
       (boards-behind t timely r next is is' (let z : r .arrives ≤ next .departs = omega arith in z))
-      (r .to) (landsBy r) (further .0) caught (eqb-false (r .to) (goal .target) q) (further .1))
+      (r .to) (ready (goal .gate) (landsBy r)) (further .0) caught (eqb-false (r .to) (goal .target) q) (further .1))
       (λ u e _. (
-        changeWorth r (chosenFrom aim t (suc (r .leave))),
+        changeWorth (goal .gate) r (chosenFrom aim t (suc (r .leave))),
         ride-at-most aim t r is (ticks-landed goal) _
             (ticks-elsewhere goal r _ (eqb-false (r .to) (goal .target) q) u e),
       ))) refl
@@ -75,7 +75,7 @@ module _ (t : Timetable) (timely : Timely t) where
 
   -- the row where a safe journey within the bound boards has a worth
   pub ticks-exist :
-      (goal : Goal) {r : Ride} {end : ℕ} → Onward t (goal .target) r end → within (goal .bound) end ≡ true
+      (goal : Goal) {r : Ride} {end : ℕ} → Onward t (goal .gate) (goal .target) r end → within (goal .bound) end ≡ true
       → (w : ℕ) × AtMost (bestInTicks t goal (r .board)) w
   ticks-exist goal (leaves {r} is e) b = (
     arrivalWorth r,
@@ -83,22 +83,22 @@ module _ (t : Timetable) (timely : Timely t) where
         (ticks-at-target goal r _ e b),
   )
   ticks-exist goal (changes {r} {next} {end} is caught on) b =
-      let late : landsBy r ≤ next .departs = boards-minute next (r .to) (landsBy r) (T-true caught) in
-      change-exists goal r next is (onward-ride t (goal .target) on) (T-true caught)
-      (within-earlier (goal .bound) (landsBy r) end (let z : landsBy r ≤ end = omega (arith, onward-after t (goal .target) timely on) in z) b)
+      let late : ready (goal .gate) (landsBy r) ≤ next .departs = boards-minute next (r .to) (ready (goal .gate) (landsBy r)) (T-true caught) in
+      change-exists goal r next is (onward-ride t (goal .gate) (goal .target) on) (T-true caught)
+      (within-earlier (goal .bound) (landsBy r) end (let z : landsBy r ≤ end = omega (arith, onward-after t (goal .gate) (goal .target) timely on) in z) b)
       (ticks-exist goal on b)
 
   -- a journey within the bound finds a first chosen row
   journey-begins :
       (q : Query) (bound end : ℕ) → q .source ≢ q .target → Journey t q end → within bound end ≡ true
-      → firstOpen (chosenFor t (goalOf q bound)) (q .source) (q .minute) ≡ none → ⊥
+      → firstOpen (chosenFor t (goalOf q bound)) (q .source) (readyAt q) ≡ none → ⊥
   journey-begins q bound end apart j b h =
       let some' = ticks-exist (goalOf q bound) (j .onward) b in
       found-at-most ⊥
-      (ride-first t timely (inTicks (goalOf q bound)) 0 (j .first) (onward-ride t (q .target) (j .onward)) zero-le (q .source)
-      (q .minute) (some' .0)
+      (ride-first t timely (inTicks (goalOf q bound)) 0 (j .first) (onward-ride t (q .gate) (q .target) (j .onward)) zero-le (q .source)
+      (readyAt q) (some' .0)
       (T-true (j .in-time)) apart (some' .1))
-      (λ v e _. absent {a = v} (sym h ∙ ap (λ (l : List Valued). firstOpen l (q .source) (q .minute)) (chosen-for t (goalOf q bound)) ∙ e))
+      (λ v e _. absent {a = v} (sym h ∙ ap (λ (l : List Valued). firstOpen l (q .source) (readyAt q)) (chosen-for t (goalOf q bound)) ∙ e))
 
   pub plan-exists : (q : Query) → CodeStands (q .code) → q .source ≢ q .target → (planned t q ≡ none) ↔ ((end : ℕ) → Journey t q end → ⊥)
   plan-exists q stands apart = (

@@ -11,8 +11,8 @@ use Rattle.laws.proofs.Members.{head-or-later, mapped, mapped-from}
 use Rattle.timetable.specs.Timetable.{Timetable}
 use Rattle.plans.specs.Sound.{Timely}
 use Rattle.query.specs.declared.Query.{Query}
-use Rattle.plans.specs.Rides.{Ride, IsRide, landsBy, boards}
-use Rattle.plans.specs.Journeys.{goalOf, within}
+use Rattle.plans.specs.Rides.{Ride, IsRide, landsBy, ready, boards}
+use Rattle.plans.specs.Journeys.{goalOf, within, readyAt}
 use Rattle.plans.specs.Worth.{Valued, ridesOf, firstOpen, valued}
 use Rattle.plans.specs.Chosen.{worthOf}
 use Rattle.plans.specs.Plan.{Plan}
@@ -33,43 +33,43 @@ ordered-rising (ahead {v} {vs} before o) =
     before-all (λ next m. let found = mapped-from (λ (u : Valued). u .ride) vs m in
     subst (λ (r : Ride). v .ride .board < r .board) (sym (found .2)) (before (found .0) (found .1) .rows)) (ordered-rising o)
 
--- after each ride not ending at the target, one boards at its landing stop at or after a + M
+-- after each ride not ending at the target, one boards at its landing stop at or after a + M + g
 own-goes-on :
-    (target : ℕ) {vs : List Valued} → OwnWorth target vs → (v : Valued) → List·Memᴰ v vs → v .ride .to ≢ target
-    → (next : Valued) × List·Memᴰ next vs × (boards (next .ride) (v .ride .to) (landsBy (v .ride)) ≡ true)
-own-goes-on target own.nobody v m away = absurd (List·Memᴰ·not-nil m)
-own-goes-on target (own.ahead {v = u} {vs = us} moves worth on rest) v m away =
+    (gate target : ℕ) {vs : List Valued} → OwnWorth gate target vs → (v : Valued) → List·Memᴰ v vs → v .ride .to ≢ target
+    → (next : Valued) × List·Memᴰ next vs × (boards (next .ride) (v .ride .to) (ready gate (landsBy (v .ride))) ≡ true)
+own-goes-on gate target own.nobody v m away = absurd (List·Memᴰ·not-nil m)
+own-goes-on gate target (own.ahead {v = u} {vs = us} moves worth on rest) v m away =
     head-or-later Next m
     (λ q. let found = on (λ e. away (ap (λ (x : Valued). x .ride .to) q ∙ e)) in (
       found .0,
       List·Memᴰ·tail (found-member us _ _ (found .1)),
-      subst (λ (x : Valued). boards (found .0 .ride) (x .ride .to) (landsBy (x .ride)) ≡ true) (sym q) (found-boards us _ _ (found .1)),
+      subst (λ (x : Valued). boards (found .0 .ride) (x .ride .to) (ready gate (landsBy (x .ride))) ≡ true) (sym q) (found-boards us _ _ (found .1)),
     ))
-    (λ n. let found = own-goes-on target rest v n away in (found .0, List·Memᴰ·tail (found .1), found .2))
+    (λ n. let found = own-goes-on gate target rest v n away in (found .0, List·Memᴰ·tail (found .1), found .2))
   where
     Next : Type 0
-    Next = (next : Valued) × List·Memᴰ next (u ∷ us) × (boards (next .ride) (v .ride .to) (landsBy (v .ride)) ≡ true)
+    Next = (next : Valued) × List·Memᴰ next (u ∷ us) × (boards (next .ride) (v .ride .to) (ready gate (landsBy (v .ride))) ≡ true)
 
 module _ (t : Timetable) (timely : Timely t) (q : Query) (p : Plan) (made : Made t q p) where
   pub plan-rising : ByBoardingRow (ridesOf (p .rides))
   plan-rising = ordered-rising (plan-ordered t timely q p made)
 
   -- its worths are those that its own rides give
-  pub plan-valued : valued (q .target) (ridesOf (p .rides)) ≡ p .rides
-  plan-valued = own-valued (q .target) (plan-own t timely q p made)
+  pub plan-valued : valued (q .gate) (q .target) (ridesOf (p .rides)) ≡ p .rides
+  plan-valued = own-valued (q .gate) (q .target) (plan-own t timely q p made)
 
   pub plan-expected : expectedOf q (ridesOf (p .rides)) ≡ some (p .expected)
   unfolding expectedOf
   plan-expected =
-      ap (λ (l : List Ride). worthOf (firstOpen (valued (q .target) l) (q .source) (q .minute))) (sorted-same plan-rising)
-      ∙ ap (λ (l : List Valued). worthOf (firstOpen l (q .source) (q .minute))) plan-valued
+      ap (λ (l : List Ride). worthOf (firstOpen (valued (q .gate) (q .target) l) (q .source) (readyAt q))) (sorted-same plan-rising)
+      ∙ ap (λ (l : List Valued). worthOf (firstOpen l (q .source) (readyAt q))) plan-valued
       ∙ ap worthOf (plan-first t timely q p made) ∙ worth-of (made .first) ∙ ap some (sym (made .worth))
 
   -- its latest minute is the largest a + M of its rides
   pub plan-last :
       ((v : Valued) → List·Memᴰ v (p .rides) → landsBy (v .ride) ≤ p .latest) × ((v : Valued) × List·Memᴰ v (p .rides) × (landsBy (v .ride) ≡ p .latest))
   plan-last =
-      let last = lands-last (p .rides) (made .first) (found-member (p .rides) (q .source) (q .minute) (plan-first t timely q p made)) in
+      let last = lands-last (p .rides) (made .first) (found-member (p .rides) (q .source) (readyAt q) (plan-first t timely q p made)) in
       (λ v m. subst (λ k. landsBy (v .ride) ≤ k) (sym (made .ends)) (lands-by (p .rides) v m), (last .0, last .1, last .2 ∙ sym (made .ends)))
 
   -- a ride of the plan is that of one of its chosen rows
@@ -110,14 +110,14 @@ module _ (t : Timetable) (timely : Timely t) (q : Query) (p : Plan) (made : Made
             (for-within t timely (goalOf q (p .bound)) (f .0) (plan-member t timely q p made (f .0) (f .1))));
         begins = (
           made .first .ride,
-          mapped (λ (v : Valued). v .ride) (found-member (p .rides) (q .source) (q .minute) (plan-first t timely q p made)),
-          true-T (found-boards (p .rides) (q .source) (q .minute) (plan-first t timely q p made)),
+          mapped (λ (v : Valued). v .ride) (found-member (p .rides) (q .source) (readyAt q) (plan-first t timely q p made)),
+          true-T (found-boards (p .rides) (q .source) (readyAt q) (plan-first t timely q p made)),
         );
         goes-on =
             λ r m away. let f = plan-ride m in
-            let next = own-goes-on (q .target) (plan-own t timely q p made) (f .0) (f .1) (λ e. away (ap (λ (x : Ride). x .to) (f .2) ∙ e)) in (
+            let next = own-goes-on (q .gate) (q .target) (plan-own t timely q p made) (f .0) (f .1) (λ e. away (ap (λ (x : Ride). x .to) (f .2) ∙ e)) in (
               next .0 .ride,
               mapped (λ (v : Valued). v .ride) (next .1),
-              true-T (subst (λ (x : Ride). boards (next .0 .ride) (x .to) (landsBy x) ≡ true) (sym (f .2)) (next .2)),
+              true-T (subst (λ (x : Ride). boards (next .0 .ride) (x .to) (ready (q .gate) (landsBy x)) ≡ true) (sym (f .2)) (next .2)),
             );
       }

@@ -11,10 +11,10 @@ use Rattle.laws.proofs.Options.{same-thing}
 use Rattle.laws.proofs.Tests.{T-true, true-T}
 use Rattle.laws.proofs.Members.{head-or-later}
 use Rattle.timetable.specs.Timetable.{Timetable}
-use Rattle.plans.specs.Journeys.{goalOf}
+use Rattle.plans.specs.Journeys.{goalOf, readyAt}
 use Rattle.plans.specs.Sound.{Timely}
 use Rattle.query.specs.declared.Query.{Query}
-use Rattle.plans.specs.Rides.{landsBy, boards}
+use Rattle.plans.specs.Rides.{landsBy, ready, boards}
 use Rattle.plans.specs.Worth.{Valued, firstOpen}
 use Rattle.plans.specs.Plan.{Window, inWindow, wanted, upTo, windowsOf, extract, ridesFrom, Plan, chosenFor}
 use Rattle.demands.specs.Words.{InPlan}
@@ -40,75 +40,75 @@ module _ (q : Query) (whole : List Valued) where
   -- each ride that they take out is in the plan
   extract-in-plan :
       (vs : List Valued) → Ordered vs → ((x : Valued) → List·Memᴰ x vs → Moves (x .ride)) → ((x : Valued) → List·Memᴰ x vs → List·Memᴰ x whole)
-      → Ends vs → (ws : List Window) → Wants ws → (x : Valued) → List·Memᴰ x (extract (q .target) ws vs) → InPlan q whole x
+      → Ends vs → (ws : List Window) → Wants ws → (x : Valued) → List·Memᴰ x (extract (q .gate) (q .target) ws vs) → InPlan q whole x
   unfolding extract Ends Wants
   extract-in-plan [] o moves sub ends ws given x m = absurd (List·Memᴰ·not-nil m)
   extract-in-plan (v ∷ vs) (ahead before o) moves sub ends ws given x m =
       let further : Ends vs = λ u n s k late.
       sym (first-further v vs s k (too-late (v .ride) s k (let z : v .ride .departs < k = omega (arith, before u n .minutes) in z)))
       ∙ ends u (List·Memᴰ·tail n) s k late in
-      let gone : v .ride .departs < landsBy (v .ride) = omega (arith, moves v (List·Memᴰ·head refl) .forward) in
+      let gone : v .ride .departs < ready (q .gate) (landsBy (v .ride)) = omega (arith, moves v (List·Memᴰ·head refl) .forward) in
       let go = extract-in-plan vs o (λ y n. moves y (List·Memᴰ·tail n)) (λ y n. sub y (List·Memᴰ·tail n)) further in
-      on-taking (q .target) (InPlan q whole x) ws v vs
+      on-taking (q .gate) (q .target) (InPlan q whole x) ws v vs
       (λ wants h. let w = wanted-in ws (v .ride) wants in
       let here = given v (sub v (List·Memᴰ·head refl)) (w .0) (w .1) (w .2) in
       head-or-later (InPlan q whole x) (subst (λ (l : List Valued). List·Memᴰ x l) h m) (λ e. subst (λ (y : Valued). InPlan q whole y) (sym e) here)
-      (λ n. go (windowsOf (q .target) (v .ride) vs ++ ws)
-      (λ y k u among e. ⊎-elim (λ own. let opened = window-opened (q .target) (v .ride) vs own in
+      (λ n. go (windowsOf (q .gate) (q .target) (v .ride) vs ++ ws)
+      (λ y k u among e. ⊎-elim (λ own. let opened = window-opened (q .gate) (q .target) (v .ride) vs own in
       words.next here (opened .away)
-      (sym (ends v (List·Memᴰ·head refl) (v .ride .to) (landsBy (v .ride)) gone) ∙ first-further v vs _ _ (too-late (v .ride) _ _ gone)
+      (sym (ends v (List·Memᴰ·head refl) (v .ride .to) (ready (q .gate) (landsBy (v .ride))) gone) ∙ first-further v vs _ _ (too-late (v .ride) _ _ gone)
       ∙ opened .is-first) k
       (true-T (subst (λ (w : Window). boards (y .ride) (w .stop) (w .minute) ≡ true) (opened .is) (window-boards u (y .ride) e)))
       (subst (λ (w : Window). y .ride .departs ≤ w .until) (opened .is) (window-until u (y .ride) e)))
-      (λ older. given y k u older e) (List·Memᴰ·append-cases (windowsOf (q .target) (v .ride) vs) among)) x n))
+      (λ older. given y k u older e) (List·Memᴰ·append-cases (windowsOf (q .gate) (q .target) (v .ride) vs) among)) x n))
       (λ _ h. go ws given x (subst (λ (l : List Valued). List·Memᴰ x l) h m))
 
 -- for each ride that is taken out, so are those that its window wants
 window-taken :
-    (target : ℕ) (vs : List Valued) → Ordered vs → ((x : Valued) → List·Memᴰ x vs → Moves (x .ride)) → (ws : List Window) (u x safe : Valued)
-    → List·Memᴰ u (extract target ws vs) → u .ride .to ≢ target → firstOpen vs (u .ride .to) (landsBy (u .ride)) ≡ some safe → List·Memᴰ x vs
-    → boards (x .ride) (u .ride .to) (u .ride .arrives) ≡ true → x .ride .departs ≤ safe .ride .departs → List·Memᴰ x (extract target ws vs)
+    (gate target : ℕ) (vs : List Valued) → Ordered vs → ((x : Valued) → List·Memᴰ x vs → Moves (x .ride)) → (ws : List Window) (u x safe : Valued)
+    → List·Memᴰ u (extract gate target ws vs) → u .ride .to ≢ target → firstOpen vs (u .ride .to) (ready gate (landsBy (u .ride))) ≡ some safe → List·Memᴰ x vs
+    → boards (x .ride) (u .ride .to) (ready gate (u .ride .arrives)) ≡ true → x .ride .departs ≤ safe .ride .departs → List·Memᴰ x (extract gate target ws vs)
 unfolding extract
-window-taken target [] o moves ws u x safe m away e k b h = absurd (List·Memᴰ·not-nil m)
-window-taken target (v ∷ vs) (ahead before o) moves ws u x safe m away e k b h =
-    let quick : u .ride .departs < u .ride .arrives = moves u (extract-member target (v ∷ vs) ws m) .forward in
-    let late : u .ride .arrives ≤ x .ride .departs = boards-minute (x .ride) (u .ride .to) (u .ride .arrives) b in
+window-taken gate target [] o moves ws u x safe m away e k b h = absurd (List·Memᴰ·not-nil m)
+window-taken gate target (v ∷ vs) (ahead before o) moves ws u x safe m away e k b h =
+    let quick : u .ride .departs < u .ride .arrives = moves u (extract-member gate target (v ∷ vs) ws m) .forward in
+    let late : ready gate (u .ride .arrives) ≤ x .ride .departs = boards-minute (x .ride) (u .ride .to) (ready gate (u .ride .arrives)) b in
     -- x leaves later than what leaves no later than u
     let behind : v .ride .departs ≤ u .ride .departs → List·Memᴰ x vs = λ no-later.
     head-or-later (List·Memᴰ x vs) k
     (λ q. absurd (let same : x .ride .departs ≡ v .ride .departs = ap (λ (y : Valued). y .ride .departs) q in let z : ⊥ = omega arith in z))
     (λ n. n) in
-    let skip : v .ride .departs ≤ u .ride .departs → firstOpen vs (u .ride .to) (landsBy (u .ride)) ≡ some safe = λ no-later.
-    sym (first-further v vs (u .ride .to) (landsBy (u .ride)) (too-late (v .ride) (u .ride .to) (landsBy (u .ride)) (omega arith))) ∙ e in
-    let further : (us : List Window) → List·Memᴰ u (extract target us vs) → List·Memᴰ x (extract target us vs) = λ us n.
-    let no-later : v .ride .departs ≤ u .ride .departs = before u (extract-member target vs us n) .minutes in
-    window-taken target vs o (λ y l. moves y (List·Memᴰ·tail l)) us u x safe n away (skip no-later) (behind no-later) b h in
-    on-taking target (List·Memᴰ x (extract target ws (v ∷ vs))) ws v vs
+    let skip : v .ride .departs ≤ u .ride .departs → firstOpen vs (u .ride .to) (ready gate (landsBy (u .ride))) ≡ some safe = λ no-later.
+    sym (first-further v vs (u .ride .to) (ready gate (landsBy (u .ride))) (too-late (v .ride) (u .ride .to) (ready gate (landsBy (u .ride))) (omega arith))) ∙ e in
+    let further : (us : List Window) → List·Memᴰ u (extract gate target us vs) → List·Memᴰ x (extract gate target us vs) = λ us n.
+    let no-later : v .ride .departs ≤ u .ride .departs = before u (extract-member gate target vs us n) .minutes in
+    window-taken gate target vs o (λ y l. moves y (List·Memᴰ·tail l)) us u x safe n away (skip no-later) (behind no-later) b h in
+    on-taking gate target (List·Memᴰ x (extract gate target ws (v ∷ vs))) ws v vs
     (λ _ t. subst (λ (l : List Valued). List·Memᴰ x l) (sym t)
-    (head-or-later (List·Memᴰ x (v ∷ extract target (windowsOf target (v .ride) vs ++ ws) vs)) (subst (λ (l : List Valued). List·Memᴰ u l) t m)
+    (head-or-later (List·Memᴰ x (v ∷ extract gate target (windowsOf gate target (v .ride) vs ++ ws) vs)) (subst (λ (l : List Valued). List·Memᴰ u l) t m)
     (λ q. let no-later : v .ride .departs ≤ u .ride .departs = le-of-eq (ap (λ (y : Valued). y .ride .departs) (sym q)) in
-    List·Memᴰ·tail (extract-wanted target vs (windowsOf target (v .ride) vs ++ ws) (behind no-later)
-    (subst (λ (y : Valued). wanted (windowsOf target (y .ride) vs ++ ws) (x .ride) ≡ true) q
-    (windows-want target (u .ride) vs ws away (skip no-later) (x .ride) b h))))
-    (λ n. List·Memᴰ·tail (further (windowsOf target (v .ride) vs ++ ws) n))))
+    List·Memᴰ·tail (extract-wanted gate target vs (windowsOf gate target (v .ride) vs ++ ws) (behind no-later)
+    (subst (λ (y : Valued). wanted (windowsOf gate target (y .ride) vs ++ ws) (x .ride) ≡ true) q
+    (windows-want gate target (u .ride) vs ws away (skip no-later) (x .ride) b h))))
+    (λ n. List·Memᴰ·tail (further (windowsOf gate target (v .ride) vs ++ ws) n))))
     (λ _ t. subst (λ (l : List Valued). List·Memᴰ x l) (sym t) (further ws (subst (λ (l : List Valued). List·Memᴰ u l) t m)))
 
 module _ (q : Query) (chosen : List Valued) (o : Ordered chosen) (moves : (x : Valued) → List·Memᴰ x chosen → Moves (x .ride)) where
   -- the window at the source wants the first chosen row alone
   first-alone :
-      (x : Valued) → List·Memᴰ x chosen → (w : Window) → List·Memᴰ w (upTo (q .source) (q .minute) (firstOpen chosen (q .source) (q .minute)))
+      (x : Valued) → List·Memᴰ x chosen → (w : Window) → List·Memᴰ w (upTo (q .source) (readyAt q) (firstOpen chosen (q .source) (readyAt q)))
       → inWindow w (x .ride) ≡ true → InPlan q chosen x
   first-alone x m w among e =
-      let last = up-to-is (q .source) (q .minute) (firstOpen chosen (q .source) (q .minute)) among in
-      let caught : boards (x .ride) (q .source) (q .minute) ≡ true =
+      let last = up-to-is (q .source) (readyAt q) (firstOpen chosen (q .source) (readyAt q)) among in
+      let caught : boards (x .ride) (q .source) (readyAt q) ≡ true =
       subst (λ (u : Window). boards (x .ride) (u .stop) (u .minute) ≡ true) (last .2) (window-boards w (x .ride) e) in
       let no-later : x .ride .departs ≤ last .0 .ride .departs =
       subst (λ (u : Window). x .ride .departs ≤ u .until) (last .2) (window-until w (x .ride) e) in
-      let found = first-before chosen o (q .source) (q .minute) x m caught in
+      let found = first-before chosen o (q .source) (readyAt q) x m caught in
       ⊎-elim (λ same. words.first (found .1 ∙ ap some same))
       (λ b. let same : last .0 ≡ found .0 = same-thing (sym (last .1) ∙ found .1) in
-      let there = boards-stop (found .0 .ride) (q .source) (q .minute) (found-boards chosen (q .source) (q .minute) (found .1)) in
-      let sooner : found .0 .ride .departs < x .ride .departs = b .apart (there ∙ sym (boards-stop (x .ride) (q .source) (q .minute) caught)) in
+      let there = boards-stop (found .0 .ride) (q .source) (readyAt q) (found-boards chosen (q .source) (readyAt q) (found .1)) in
+      let sooner : found .0 .ride .departs < x .ride .departs = b .apart (there ∙ sym (boards-stop (x .ride) (q .source) (readyAt q) caught)) in
       let then : last .0 .ride .departs ≡ found .0 .ride .departs = ap (λ (y : Valued). y .ride .departs) same in
       absurd (let z : ⊥ = omega arith in z)) (found .2)
 
@@ -119,11 +119,11 @@ module _ (q : Query) (chosen : List Valued) (o : Ordered chosen) (moves : (x : V
   pub in-plan-rides : (v : Valued) → InPlan q chosen v → List·Memᴰ v (ridesFrom q chosen)
   unfolding ridesFrom
   in-plan-rides v (words.first e) =
-      found-member _ (q .source) (q .minute)
-      (extract-first (q .target) chosen _ (q .source) (q .minute) e
-      (up-to-wants (q .source) (q .minute) v e (v .ride) (found-boards chosen (q .source) (q .minute) e) (le-refl (v .ride .departs))))
+      found-member _ (q .source) (readyAt q)
+      (extract-first (q .gate) (q .target) chosen _ (q .source) (readyAt q) e
+      (up-to-wants (q .source) (readyAt q) v e (v .ride) (found-boards chosen (q .source) (readyAt q) e) (le-refl (v .ride .departs))))
   in-plan-rides v (words.next {u} {v = x} {safe} before away e m b h) =
-      window-taken (q .target) chosen o moves _ u x safe (in-plan-rides u before) away e m (T-true b) h
+      window-taken (q .gate) (q .target) chosen o moves _ u x safe (in-plan-rides u before) away e m (T-true b) h
 
 -- so the plan's rides are those of document 01 and nothing else
 pub plan-set :

@@ -10,7 +10,7 @@ use native.Mathlib.Omega.{arith}
 use lib.Dec.{eqb}
 use lib.ListN.{length}
 use Rattle.laws.proofs.Tests.{ifb, T-true}
-use Rattle.plans.specs.Rides.{Ride, boards, landsBy}
+use Rattle.plans.specs.Rides.{Ride, boards, landsBy, ready}
 use Rattle.demands.specs.Walk.{Sailed, Standing, firstSailed, landed, step, steps}
 use Rattle.demands.proofs.Forward.{Served, over, onward, Forward, served-sooner, served-behind, delay-latest}
 use Rattle.demands.proofs.Course.{ridesSailed, course, found-sailed, steps-keep}
@@ -21,39 +21,39 @@ InRange sailed = (s : Sailed) → List·Memᴰ s sailed → s .delay < length (s
 
 -- the course ends at the target
 pub course-reaches :
-    (target : ℕ) (sailed : List Sailed) → Forward target (ridesSailed sailed) → InRange sailed → (at : Standing)
-    → Served target (ridesSailed sailed) (at .stop) (at .minute) → course sailed at .stop ≡ target
+    (gate target : ℕ) (sailed : List Sailed) → Forward gate target (ridesSailed sailed) → InRange sailed → (at : Standing)
+    → Served target (ridesSailed sailed) (at .stop) (ready gate (at .minute)) → course gate sailed at .stop ≡ target
 unfolding course landed
-course-reaches target [] forward ranged at (over there) = there
-course-reaches target [] forward ranged at (onward next among opens) = absurd (List·Memᴰ·not-nil among)
-course-reaches target (s ∷ sailed) (Forward.one timed goes-on rest) ranged at served =
-    ifb (λ b. cond b (course sailed (landed at (some s))) (course sailed at) .stop ≡ target)
-    (boards (s .ride) (at .stop) (at .minute))
+course-reaches gate target [] forward ranged at (over there) = there
+course-reaches gate target [] forward ranged at (onward next among opens) = absurd (List·Memᴰ·not-nil among)
+course-reaches gate target (s ∷ sailed) (Forward.one timed goes-on rest) ranged at served =
+    ifb (λ b. cond b (course gate sailed (landed at (some s))) (course gate sailed at) .stop ≡ target)
+    (boards (s .ride) (at .stop) (ready gate (at .minute)))
     (λ opens.
-    course-reaches target sailed rest behind (landed at (some s))
-    (served-sooner (s .ride .arrives + s .delay) (delay-latest (s .ride) (s .delay) (ranged s (List·Memᴰ·head refl))) goes-on))
-    (λ shut. course-reaches target sailed rest behind at (served-behind shut served))
+    course-reaches gate target sailed rest behind (landed at (some s))
+    (served-sooner (ready gate (s .ride .arrives + s .delay)) (omega (arith, delay-latest (s .ride) (s .delay) (ranged s (List·Memᴰ·head refl)))) goes-on))
+    (λ shut. course-reaches gate target sailed rest behind at (served-behind shut served))
   where
     behind : InRange sailed
     behind u there = ranged u (List·Memᴰ·tail there)
 
 -- wherever one lands in the plan, one is served
 pub steps-served :
-    (target : ℕ) (sailed : List Sailed) → InRange sailed
-    → ((r : Ride) → List·Memᴰ r (ridesSailed sailed) → Served target (ridesSailed sailed) (r .to) (landsBy r)) → (k : ℕ) (at : Standing)
-    → Served target (ridesSailed sailed) (at .stop) (at .minute)
-    → Served target (ridesSailed sailed) (steps target sailed k at .stop) (steps target sailed k at .minute)
+    (gate target : ℕ) (sailed : List Sailed) → InRange sailed
+    → ((r : Ride) → List·Memᴰ r (ridesSailed sailed) → Served target (ridesSailed sailed) (r .to) (ready gate (landsBy r))) → (k : ℕ) (at : Standing)
+    → Served target (ridesSailed sailed) (at .stop) (ready gate (at .minute))
+    → Served target (ridesSailed sailed) (steps gate target sailed k at .stop) (ready gate (steps gate target sailed k at .minute))
 unfolding landed
-steps-served target sailed ranged goes-on =
-    steps-keep (λ at. Served target (ridesSailed sailed) (at .stop) (at .minute)) target sailed lands
+steps-served gate target sailed ranged goes-on =
+    steps-keep (λ at. Served target (ridesSailed sailed) (at .stop) (ready gate (at .minute))) gate target sailed lands
   where
     lands :
-        (at : Standing) (s : Sailed) → Served target (ridesSailed sailed) (at .stop) (at .minute)
-        → firstSailed sailed (at .stop) (at .minute) ≡ some s
-        → Served target (ridesSailed sailed) (landed at (some s) .stop) (landed at (some s) .minute)
+        (at : Standing) (s : Sailed) → Served target (ridesSailed sailed) (at .stop) (ready gate (at .minute))
+        → firstSailed sailed (at .stop) (ready gate (at .minute)) ≡ some s
+        → Served target (ridesSailed sailed) (landed at (some s) .stop) (ready gate (landed at (some s) .minute))
     lands at s served found =
-        let there = found-sailed sailed (at .stop) (at .minute) found .0 in
-        served-sooner (s .ride .arrives + s .delay) (delay-latest (s .ride) (s .delay) (ranged s there))
+        let there = found-sailed sailed (at .stop) (ready gate (at .minute)) found .0 in
+        served-sooner (ready gate (s .ride .arrives + s .delay)) (omega (arith, delay-latest (s .ride) (s .delay) (ranged s there)))
         (goes-on (s .ride) (Memᴰ·map (λ x. x .ride) there))
 
 -- one who is served away from the target finds a ride
@@ -78,31 +78,31 @@ served-finds sailed stop minute (onward next among opens) elsewhere = find saile
 
 -- nobody lands later than the latest minute
 pub steps-in-time :
-    (target last : ℕ) (sailed : List Sailed) → InRange sailed → ((r : Ride) → List·Memᴰ r (ridesSailed sailed) → landsBy r ≤ last)
-    → (k : ℕ) (at : Standing) → at .minute ≤ last → steps target sailed k at .minute ≤ last
+    (gate target last : ℕ) (sailed : List Sailed) → InRange sailed → ((r : Ride) → List·Memᴰ r (ridesSailed sailed) → landsBy r ≤ last)
+    → (k : ℕ) (at : Standing) → at .minute ≤ last → steps gate target sailed k at .minute ≤ last
 unfolding landed
-steps-in-time target last sailed ranged by-last = steps-keep (λ at. at .minute ≤ last) target sailed lands
+steps-in-time gate target last sailed ranged by-last = steps-keep (λ at. at .minute ≤ last) gate target sailed lands
   where
     lands :
-        (at : Standing) (s : Sailed) → at .minute ≤ last → firstSailed sailed (at .stop) (at .minute) ≡ some s
+        (at : Standing) (s : Sailed) → at .minute ≤ last → firstSailed sailed (at .stop) (ready gate (at .minute)) ≡ some s
         → landed at (some s) .minute ≤ last
     lands at s before found =
-        let there = found-sailed sailed (at .stop) (at .minute) found .0 in
+        let there = found-sailed sailed (at .stop) (ready gate (at .minute)) found .0 in
         le-trans (delay-latest (s .ride) (s .delay) (ranged s there)) (by-last (s .ride) (Memᴰ·map (λ x. x .ride) there))
 
 -- a landing boards one ride at most
 pub steps-count :
-    (target : ℕ) (sailed : List Sailed) (k : ℕ) (at : Standing) → steps target sailed k at .boarded ≤ at .boarded + k
+    (gate target : ℕ) (sailed : List Sailed) (k : ℕ) (at : Standing) → steps gate target sailed k at .boarded ≤ at .boarded + k
 unfolding steps step landed
-steps-count target sailed zero at = omega arith
-steps-count target sailed (suc k) at =
-    omega (arith, steps-count target sailed k (step target sailed at), one-more)
+steps-count gate target sailed zero at = omega arith
+steps-count gate target sailed (suc k) at =
+    omega (arith, steps-count gate target sailed k (step gate target sailed at), one-more)
   where
     go : (o : Option Sailed) → landed at o .boarded ≤ suc (at .boarded)
     go none = omega arith
     go (some s) = omega arith
 
-    one-more : step target sailed at .boarded ≤ suc (at .boarded)
+    one-more : step gate target sailed at .boarded ≤ suc (at .boarded)
     one-more =
-        ifb (λ b. cond b at (landed at (firstSailed sailed (at .stop) (at .minute))) .boarded ≤ suc (at .boarded))
-        (eqb (at .stop) target) (λ there. omega arith) (λ onward. go (firstSailed sailed (at .stop) (at .minute)))
+        ifb (λ b. cond b at (landed at (firstSailed sailed (at .stop) (ready gate (at .minute)))) .boarded ≤ suc (at .boarded))
+        (eqb (at .stop) target) (λ there. omega arith) (λ onward. go (firstSailed sailed (at .stop) (ready gate (at .minute))))

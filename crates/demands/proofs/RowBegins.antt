@@ -28,7 +28,7 @@ use Rattle.demands.proofs.BestRide.{weighs, has-worth}
 module _ (t : Timetable) (timely : Timely t) (goal : Goal) where
   -- a safe journey goes on from ride r, and its last a + M is within the bound
   abbrev pub Reaches : Ride → Type 0
-  Reaches r = (end : ℕ) × Onward t (goal .target) r end × T (within (goal .bound) end)
+  Reaches r = (end : ℕ) × Onward t (goal .gate) (goal .target) r end × T (within (goal .bound) end)
 
   -- each best ride begins one
   ticks-reach : (i : ℕ) → i < length (t .rows) → (v : Valued) → bestInTicks t goal i ≡ some v → Reaches (v .ride)
@@ -37,9 +37,9 @@ module _ (t : Timetable) (timely : Timely t) (goal : Goal) where
       each-best (inTicks goal) t (λ v. Reaches (v .ride)) (λ i h later w e. landing i h later w (off-is goal _ _ w e))
       (λ i j before inside same u e on. (
         on .0,
-        onward-earlier t (goal .target) i (on .1)
+        onward-earlier t (goal .gate) (goal .target) i (on .1)
             (boarded-earlier (inTicks goal) t i j before same (u .ride) (best-boards (inTicks goal) t j inside u e .row)
-            (onward-ride t (goal .target) (on .1))),
+            (onward-ride t (goal .gate) (goal .target) (on .1))),
         on .2,
       ))
     where
@@ -61,16 +61,16 @@ module _ (t : Timetable) (timely : Timely t) (goal : Goal) where
         (λ v e _. (
           v .worth,
           subst (λ k. HasWorth t goal k (v .worth)) (begun .1)
-              (has-worth t goal (begun .0 .board) (board-inside t timely (begun .0) (onward-ride t (goal .target) on)) v e),
+              (has-worth t goal (begun .0 .board) (board-inside t timely (begun .0) (onward-ride t (goal .gate) (goal .target) on)) v e),
         )),
   )
 
 -- without a bound: exactly if it begins a safe journey
 pub row-begins :
-    (t : Timetable) → Timely t → (target margin i : ℕ)
-    → ((w : ℕ) × HasWorth t (record { target = target; bound = 0; margin = margin }) i w) ↔ Begins t target i
-row-begins t timely target margin i =
-    let exactly = row-reaches t timely (record { target = target; bound = 0; margin = margin }) i in (
+    (t : Timetable) → Timely t → (gate target margin i : ℕ)
+    → ((w : ℕ) × HasWorth t (record { target = target; bound = 0; margin = margin; gate = gate }) i w) ↔ Begins t gate target i
+row-begins t timely gate target margin i =
+    let exactly = row-reaches t timely (record { target = target; bound = 0; margin = margin; gate = gate }) i in (
       λ worth. let r = exactly .0 worth in (r .0, r .2 .0, r .1, r .2 .1),
       λ begun. exactly .1 (begun .0, begun .2, (begun .1, begun .3, tt)),
     )

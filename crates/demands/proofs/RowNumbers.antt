@@ -8,8 +8,9 @@ use lib.Dec.{eqb}
 use Rattle.laws.proofs.Tests.{ifb}
 use Rattle.timetable.specs.Classes.{shareTotal}
 use Rattle.query.specs.declared.Query.{Query}
-use Rattle.plans.specs.Rides.{Ride, boards}
+use Rattle.plans.specs.Rides.{Ride, boards, ready}
 use Rattle.timetable.specs.Ticks.{quotientUp}
+use Rattle.plans.specs.Journeys.{readyAt}
 use Rattle.plans.specs.Worth.{Valued, weigh, firstOpen, caught, worthOr, arrivalWorth, changeWorth, landWorth, valued}
 use Rattle.plans.specs.Chosen.{worthOf}
 use Rattle.demands.specs.SafePlan.{ByBoardingRow, expectedOf}
@@ -42,28 +43,28 @@ caught-worth vs us stop minute e = through (firstOpen vs stop minute) ∙ ap or-
     through none = refl
     through (some v) = refl
 
-land-bare : (target : ℕ) (r : Ride) (behind : List Valued) → landWorth target (unnumbered r) (map bare behind) ≡ landWorth target r behind
+land-bare : (gate target : ℕ) (r : Ride) (behind : List Valued) → landWorth gate target (unnumbered r) (map bare behind) ≡ landWorth gate target r behind
 unfolding landWorth changeWorth arrivalWorth
-land-bare target r behind =
+land-bare gate target r behind =
     ap (λ f. cond (eqb (r .to) target) (arrivalWorth r) (quotientUp shareTotal (weigh (r .shares) (r .arrives) f)))
-    (fun-ext (λ minute. caught-worth (map bare behind) behind (r .to) minute (first-worth behind (r .to) minute)))
+    (fun-ext (λ minute. caught-worth (map bare behind) behind (r .to) (ready gate minute) (first-worth behind (r .to) (ready gate minute))))
 
-valued-bare : (target : ℕ) (rides : List Ride) → valued target (map unnumbered rides) ≡ map bare (valued target rides)
+valued-bare : (gate target : ℕ) (rides : List Ride) → valued gate target (map unnumbered rides) ≡ map bare (valued gate target rides)
 unfolding valued
-valued-bare target [] = refl
-valued-bare target (r ∷ rides) =
+valued-bare gate target [] = refl
+valued-bare gate target (r ∷ rides) =
     ap₂ (λ w behind. record { ride = unnumbered r; worth = w } ∷ behind)
-    (ap (landWorth target (unnumbered r)) (valued-bare target rides) ∙ land-bare target r (valued target rides)) (valued-bare target rides)
+    (ap (landWorth gate target (unnumbered r)) (valued-bare gate target rides) ∙ land-bare gate target r (valued gate target rides)) (valued-bare gate target rides)
 
 -- rides that agree but for their row numbers have the same worths, one by one
 pub same-worths :
-    (target : ℕ) (rides others : List Ride) → map unnumbered rides ≡ map unnumbered others
-    → map (λ v. v .worth) (valued target rides) ≡ map (λ v. v .worth) (valued target others)
-same-worths target rides others same =
-    sym (worths rides) ∙ ap (λ x. map (λ v. v .worth) (valued target x)) same ∙ worths others
+    (gate target : ℕ) (rides others : List Ride) → map unnumbered rides ≡ map unnumbered others
+    → map (λ v. v .worth) (valued gate target rides) ≡ map (λ v. v .worth) (valued gate target others)
+same-worths gate target rides others same =
+    sym (worths rides) ∙ ap (λ x. map (λ v. v .worth) (valued gate target x)) same ∙ worths others
   where
-    worths : (x : List Ride) → map (λ v. v .worth) (valued target (map unnumbered x)) ≡ map (λ v. v .worth) (valued target x)
-    worths x = ap (map (λ v. v .worth)) (valued-bare target x) ∙ map-map (λ v. v .worth) bare (valued target x)
+    worths : (x : List Ride) → map (λ v. v .worth) (valued gate target (map unnumbered x)) ≡ map (λ v. v .worth) (valued gate target x)
+    worths x = ap (map (λ v. v .worth)) (valued-bare gate target x) ∙ map-map (λ v. v .worth) bare (valued gate target x)
 
 -- and plans of such rides, each by boarding row rising, the same expected arrival
 pub same-expected :
@@ -74,9 +75,9 @@ same-expected q rides others rise rise' same =
     ap arrival (sorted-same rise) ∙ sym (bared rides) ∙ ap arrival same ∙ bared others ∙ sym (ap arrival (sorted-same rise'))
   where
     arrival : List Ride → Option ℕ
-    arrival x = worthOf (firstOpen (valued (q .target) x) (q .source) (q .minute))
+    arrival x = worthOf (firstOpen (valued (q .gate) (q .target) x) (q .source) (readyAt q))
 
     bared : (x : List Ride) → arrival (map unnumbered x) ≡ arrival x
     bared x =
-        ap (λ vs. worthOf (firstOpen vs (q .source) (q .minute))) (valued-bare (q .target) x)
-        ∙ first-worth (valued (q .target) x) (q .source) (q .minute)
+        ap (λ vs. worthOf (firstOpen vs (q .source) (readyAt q))) (valued-bare (q .gate) (q .target) x)
+        ∙ first-worth (valued (q .gate) (q .target) x) (q .source) (readyAt q)

@@ -15,7 +15,7 @@ use Rattle.laws.proofs.Downward.{downward, from-greater}
 use Rattle.timetable.specs.Timetable.{Timetable, rowOf}
 use Rattle.plans.specs.declared.Goal.{Goal}
 use Rattle.plans.specs.Sound.{Timely}
-use Rattle.plans.specs.Rides.{Ride, IsRide, rideOf, landsBy}
+use Rattle.plans.specs.Rides.{Ride, IsRide, rideOf, landsBy, ready}
 use Rattle.plans.specs.Worth.{Valued, firstOpen, changeWorth}
 use Rattle.plans.specs.Chosen.{Aim, inTicks, worthOf}
 use Rattle.plans.specs.Plan.{chosenFor}
@@ -95,18 +95,18 @@ module _ (t : Timetable) (timely : Timely t) (goal : Goal) where
       ap (λ (l : List Valued). firstOpen l s m) (chosen-for t goal)
       ∙ landing-sees t timely (inTicks goal) (rideOf t i i) (row-is-ride (inTicks goal) t i h) 0 zero-le s m late
 
-  change-all : (i : ℕ) → i < length (t .rows) → changeWorth (rideOf t i i) (chosenFor t goal)
-      ≡ changeWorth (rideOf t i i) (chosenInTicks t goal (suc i))
+  change-all : (i : ℕ) → i < length (t .rows) → changeWorth (goal .gate) (rideOf t i i) (chosenFor t goal)
+      ≡ changeWorth (goal .gate) (rideOf t i i) (chosenInTicks t goal (suc i))
   change-all i h =
-      change-same (rideOf t i i) _ _ (ride-delays t timely (rideOf t i i) (row-is-ride (inTicks goal) t i h))
-      (λ m late _. landing-same i h (rideOf t i i .to) m late)
+      change-same (goal .gate) (rideOf t i i) _ _ (ride-delays t timely (rideOf t i i) (row-is-ride (inTicks goal) t i h))
+      (λ m late _. landing-same i h (rideOf t i i .to) m (omega arith))
 
   -- each open way bounds the row's worth
   way-bounds : (i : ℕ) → i < length (t .rows) → (w : ℕ) → OpenWay t goal i w → AtMost (bestInTicks t goal i) w
   unfolding offAt
   way-bounds i h w (off-at-target e b) = row-off (inTicks goal) t i _ (ticks-at-target goal (rideOf t i i) _ e (T-true b))
   way-bounds i h w (off-elsewhere {safe = safe} away m b) =
-      let found = finds (chosenFor t goal) (rideOf t i i .to) (landsBy (rideOf t i i)) m (T-true b) in
+      let found = finds (chosenFor t goal) (rideOf t i i .to) (ready (goal .gate) (landsBy (rideOf t i i))) m (T-true b) in
       row-off (inTicks goal) t i _
       (ticks-elsewhere goal (rideOf t i i) _ away (found .0) (sym (landing-same i h _ _ (omega arith)) ∙ found .1)
       ∙ ap some (sym (change-all i h)))
@@ -120,7 +120,7 @@ module _ (t : Timetable) (timely : Timely t) (goal : Goal) where
       → OpenWay t goal i w
   off-way i h w (arrives e b) = off-at-target e (true-T b)
   off-way i h w (goes-on {u = u} away e) =
-      let all = landing-same i h (rideOf t i i .to) (landsBy (rideOf t i i)) (let z : rideOf t i i .arrives ≤ landsBy (rideOf t i i) = omega arith in z)
+      let all = landing-same i h (rideOf t i i .to) (ready (goal .gate) (landsBy (rideOf t i i))) (let z : rideOf t i i .arrives ≤ ready (goal .gate) (landsBy (rideOf t i i)) = omega arith in z)
       ∙ e in
       subst (λ x. OpenWay t goal i x) (change-all i h)
       (off-elsewhere {safe = u} away (found-member _ _ _ all) (true-T (found-boards _ _ _ all)))

@@ -10,7 +10,7 @@ use lib.Dec.{T, eqb}
 use Rattle.laws.proofs.Tests.{ifb, T-true}
 use Rattle.timetable.specs.Timetable.{Timetable}
 use Rattle.query.specs.declared.Query.{Query}
-use Rattle.plans.specs.Rides.{Ride, IsRide, landsBy, boards}
+use Rattle.plans.specs.Rides.{Ride, IsRide, landsBy, ready, boards}
 use Rattle.demands.specs.SafePlan.{SafePlan, ByBoardingRow, before-all, sorted}
 use Rattle.plans.specs.Sound.{Timely}
 use Rattle.demands.proofs.Forward.{Timed, AllTimed, Served, over, onward, Forward, forward-timed}
@@ -30,13 +30,13 @@ module _ {t : Timetable} (timely : Timely t) where
 
 module _ {t : Timetable} (q : Query) (bound : ℕ) (all : List Ride) (safe : SafePlan t q bound all) where
   -- from each ride's latest landing one is served by the plan
-  pub plan-serves : (r : Ride) → List·Memᴰ r all → Served (q .target) all (r .to) (landsBy r)
+  pub plan-serves : (r : Ride) → List·Memᴰ r all → Served (q .target) all (r .to) (ready (q .gate) (landsBy r))
   plan-serves r among =
-      ifb (λ b. eqb (r .to) (q .target) ≡ b → Served (q .target) all (r .to) (landsBy r)) (eqb (r .to) (q .target))
+      ifb (λ b. eqb (r .to) (q .target) ≡ b → Served (q .target) all (r .to) (ready (q .gate) (landsBy r))) (eqb (r .to) (q .target))
       (λ ends _. over (eqb-true (r .to) (q .target) ends))
       (λ elsewhere _. next (safe .goes-on r among (eqb-false (r .to) (q .target) elsewhere))) refl
     where
-      next : (next : Ride) × List·Memᴰ next all × T (boards next (r .to) (landsBy r)) → Served (q .target) all (r .to) (landsBy r)
+      next : (next : Ride) × List·Memᴰ next all × T (boards next (r .to) (ready (q .gate) (landsBy r))) → Served (q .target) all (r .to) (ready (q .gate) (landsBy r))
       next found = onward (found .0) (found .1) (found .2)
 
 module _ {t : Timetable} (timely : Timely t) (q : Query) (bound : ℕ) (all : List Ride) (safe : SafePlan t q bound all) where
@@ -46,7 +46,7 @@ module _ {t : Timetable} (timely : Timely t) (q : Query) (bound : ℕ) (all : Li
       ((r : Ride) → List·Memᴰ r rides → List·Memᴰ r all)
       × ((r later : Ride) → List·Memᴰ r rides → List·Memᴰ later all → r .departs < later .departs → List·Memᴰ later rides)
 
-  part-forward : (rides : List Ride) → ByBoardingRow rides → Closing rides → Forward (q .target) rides
+  part-forward : (rides : List Ride) → ByBoardingRow rides → Closing rides → Forward (q .gate) (q .target) rides
   unfolding Closing
   part-forward [] rising closing = Forward.none
   part-forward (r ∷ rides) (before-all before rising) closing =
@@ -79,16 +79,16 @@ module _ {t : Timetable} (timely : Timely t) (q : Query) (bound : ℕ) (all : Li
           pick (inl same) = absurd (let z : ⊥ = omega (arith, ap (λ x. x .departs) same) in z)
           pick (inr there) = there
 
-      serves : Served (q .target) all (r .to) (landsBy r) → Served (q .target) rides (r .to) (landsBy r)
+      serves : Served (q .target) all (r .to) (ready (q .gate) (landsBy r)) → Served (q .target) rides (r .to) (ready (q .gate) (landsBy r))
       serves (over there) = over there
       serves (onward next among opens) =
           onward next
-          (behind next among (omega (arith, boards-minute next (r .to) (landsBy r) (T-true opens), departs-before t timely r is))) opens
+          (behind next among (omega (arith, boards-minute next (r .to) (ready (q .gate) (landsBy r)) (T-true opens), departs-before t timely r is))) opens
 
       keeps : (u later : Ride) → List·Memᴰ u rides → List·Memᴰ later all → u .departs < later .departs → List·Memᴰ later rides
       keeps u later u-among among after = behind later among (omega (arith, in-order u u-among))
 
-  pub safe-forward : ByBoardingRow all → Forward (q .target) all
+  pub safe-forward : ByBoardingRow all → Forward (q .gate) (q .target) all
   unfolding Closing
   safe-forward rising = part-forward all rising (λ r among. among, λ r later _ among _. among)
 

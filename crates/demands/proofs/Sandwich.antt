@@ -12,7 +12,7 @@ use lib.Dec.{eqb}
 use lib.ListN.{length}
 use Rattle.laws.proofs.Tests.{ifb, cond-true, cond-false}
 use Rattle.timetable.specs.Classes.{sum, shareTotal}
-use Rattle.plans.specs.Rides.{Ride, boards}
+use Rattle.plans.specs.Rides.{Ride, ready, boards}
 use Rattle.timetable.specs.Ticks.{ticksAMinute, quotientUp}
 use Rattle.plans.specs.Worth.{weigh, firstOpen, worthOr, caught, landWorth, valued}
 use Rattle.demands.specs.Walk.{Sailed, Delayed, delay-first, undelayed, Standing, landed}
@@ -25,67 +25,67 @@ use Rattle.plans.proofs.Open.{boards-stop}
 use Rattle.demands.proofs.Course.{course}
 
 -- the sum over all choices of weight × ticks at the end, for one who stands there
-unfoldable pub mean : List Ride → Standing → ℕ
-mean rides at = total (λ sailed. ticksAMinute * course sailed at .minute) rides
+unfoldable pub mean : (gate : ℕ) → List Ride → Standing → ℕ
+mean gate rides at = total (λ sailed. ticksAMinute * course gate sailed at .minute) rides
 
-mean-end : (at : Standing) → mean [] at ≡ ticksAMinute * at .minute
+mean-end : (gate : ℕ) (at : Standing) → mean gate [] at ≡ ticksAMinute * at .minute
 unfolding mean course
-mean-end at = total-nil (λ sailed. ticksAMinute * course sailed at .minute)
+mean-end gate at = total-nil (λ sailed. ticksAMinute * course gate sailed at .minute)
 
 -- where one stands after a ride that landed at this minute
 abbrev pub off : Standing → Ride → ℕ → Standing
 off at r minute = record { stop = r .to; minute = minute; boarded = suc (at .boarded) }
 
 mean-boards :
-    (r : Ride) (behind : List Ride) (at : Standing) → boards r (at .stop) (at .minute) ≡ true
-    → mean (r ∷ behind) at ≡ weigh (r .shares) (r .arrives) (λ minute. mean behind (off at r minute))
+    (gate : ℕ) (r : Ride) (behind : List Ride) (at : Standing) → boards r (at .stop) (ready gate (at .minute)) ≡ true
+    → mean gate (r ∷ behind) at ≡ weigh (r .shares) (r .arrives) (λ minute. mean gate behind (off at r minute))
 unfolding mean course landed
-mean-boards r behind at opens =
-    total-cons (λ sailed. ticksAMinute * course sailed at .minute) r behind
+mean-boards gate r behind at opens =
+    total-cons (λ sailed. ticksAMinute * course gate sailed at .minute) r behind
     ∙ ap (λ b. weigh (r .shares) 0
-    (λ v. total (λ sailed. ticksAMinute * cond b (course sailed (off at r (r .arrives + v))) (course sailed at) .minute) behind)) opens
-    ∙ sym (weigh-shift (r .shares) (r .arrives) 0 (λ minute. mean behind (off at r minute)))
-    ∙ ap (λ a. weigh (r .shares) a (λ minute. mean behind (off at r minute))) (add-zero (r .arrives))
+    (λ v. total (λ sailed. ticksAMinute * cond b (course gate sailed (off at r (r .arrives + v))) (course gate sailed at) .minute) behind)) opens
+    ∙ sym (weigh-shift (r .shares) (r .arrives) 0 (λ minute. mean gate behind (off at r minute)))
+    ∙ ap (λ a. weigh (r .shares) a (λ minute. mean gate behind (off at r minute))) (add-zero (r .arrives))
 
 mean-passes :
-    (r : Ride) (behind : List Ride) (at : Standing) → sum (r .shares) ≡ shareTotal → boards r (at .stop) (at .minute) ≡ false
-    → mean (r ∷ behind) at ≡ shareTotal * mean behind at
+    (gate : ℕ) (r : Ride) (behind : List Ride) (at : Standing) → sum (r .shares) ≡ shareTotal → boards r (at .stop) (ready gate (at .minute)) ≡ false
+    → mean gate (r ∷ behind) at ≡ shareTotal * mean gate behind at
 unfolding mean course landed
-mean-passes r behind at full shut =
-    total-cons (λ sailed. ticksAMinute * course sailed at .minute) r behind
+mean-passes gate r behind at full shut =
+    total-cons (λ sailed. ticksAMinute * course gate sailed at .minute) r behind
     ∙ ap (λ b. weigh (r .shares) 0
-    (λ v. total (λ sailed. ticksAMinute * cond b (course sailed (off at r (r .arrives + v))) (course sailed at) .minute) behind)) shut
-    ∙ weigh-constant (r .shares) 0 (mean behind at) ∙ ap (λ n. n * mean behind at) full
+    (λ v. total (λ sailed. ticksAMinute * cond b (course gate sailed (off at r (r .arrives + v))) (course gate sailed at) .minute) behind)) shut
+    ∙ weigh-constant (r .shares) 0 (mean gate behind at) ∙ ap (λ n. n * mean gate behind at) full
 
 -- what standing there is worth by the plan's own worths
-abbrev pub worthAt : ℕ → List Ride → Standing → ℕ
-worthAt target rides at = standingWorth target (valued target rides) (at .stop) (at .minute)
+abbrev pub worthAt : (gate target : ℕ) → List Ride → Standing → ℕ
+worthAt gate target rides at = standingWorth gate target (valued gate target rides) (at .stop) (at .minute)
 
 pub worth-boards :
-    (target : ℕ) (r : Ride) (behind : List Ride) (at : Standing) → Timed target r behind → boards r (at .stop) (at .minute) ≡ true
-    → worthAt target (r ∷ behind) at ≡ quotientUp shareTotal (weigh (r .shares) (r .arrives) (λ minute. worthAt target behind (off at r minute)))
+    (gate target : ℕ) (r : Ride) (behind : List Ride) (at : Standing) → Timed target r behind → boards r (at .stop) (ready gate (at .minute)) ≡ true
+    → worthAt gate target (r ∷ behind) at ≡ quotientUp shareTotal (weigh (r .shares) (r .arrives) (λ minute. worthAt gate target behind (off at r minute)))
 unfolding standingWorth caught worthOr firstOpen valued
-worth-boards target r behind at timed opens =
-    cond-false (ticksAMinute * at .minute) (caught (valued target (r ∷ behind)) (at .stop) (at .minute))
-    (ne-eqb (at .stop) target (λ there. timed .off-target (boards-stop r (at .stop) (at .minute) opens ∙ there)))
+worth-boards gate target r behind at timed opens =
+    cond-false (ticksAMinute * at .minute) (caught (valued gate target (r ∷ behind)) (at .stop) (ready gate (at .minute)))
+    (ne-eqb (at .stop) target (λ there. timed .off-target (boards-stop r (at .stop) (ready gate (at .minute)) opens ∙ there)))
     ∙ ap (worthOr 0)
-    (cond-true (some (record { ride = r; worth = landWorth target r (valued target behind) }))
-    (firstOpen (valued target behind) (at .stop) (at .minute)) opens)
-    ∙ land-mean target r (valued target behind) (timed .full)
+    (cond-true (some (record { ride = r; worth = landWorth gate target r (valued gate target behind) }))
+    (firstOpen (valued gate target behind) (at .stop) (ready gate (at .minute))) opens)
+    ∙ land-mean gate target r (valued gate target behind) (timed .full)
 
 pub worth-passes :
-    (target : ℕ) (r : Ride) (behind : List Ride) (at : Standing) → boards r (at .stop) (at .minute) ≡ false
-    → worthAt target (r ∷ behind) at ≡ worthAt target behind at
+    (gate target : ℕ) (r : Ride) (behind : List Ride) (at : Standing) → boards r (at .stop) (ready gate (at .minute)) ≡ false
+    → worthAt gate target (r ∷ behind) at ≡ worthAt gate target behind at
 unfolding standingWorth caught firstOpen valued
-worth-passes target r behind at shut =
+worth-passes gate target r behind at shut =
     ap (λ o. cond (eqb (at .stop) target) (ticksAMinute * at .minute) (worthOr 0 o))
-    (cond-false (some (record { ride = r; worth = landWorth target r (valued target behind) }))
-    (firstOpen (valued target behind) (at .stop) (at .minute)) shut)
+    (cond-false (some (record { ride = r; worth = landWorth gate target r (valued gate target behind) }))
+    (firstOpen (valued gate target behind) (at .stop) (ready gate (at .minute))) shut)
 
-pub worth-over : (target : ℕ) (rides : List Ride) (at : Standing) → at .stop ≡ target → worthAt target rides at ≡ ticksAMinute * at .minute
+pub worth-over : (gate target : ℕ) (rides : List Ride) (at : Standing) → at .stop ≡ target → worthAt gate target rides at ≡ ticksAMinute * at .minute
 unfolding standingWorth
-worth-over target rides at there =
-    cond-true (ticksAMinute * at .minute) (caught (valued target rides) (at .stop) (at .minute)) (eq-eqb (at .stop) target there)
+worth-over gate target rides at there =
+    cond-true (ticksAMinute * at .minute) (caught (valued gate target rides) (at .stop) (ready gate (at .minute))) (eq-eqb (at .stop) target there)
 
 -- the delays of a ride, where its landings are served
 abbrev pub Landings : (r : Ride) → (ℕ → Type 0) → Type 0
@@ -93,46 +93,46 @@ Landings r P = (minute : ℕ) → r .arrives ≤ minute → minute < r .arrives 
 
 -- A ≤ 4,096^R × X: rounding up only adds
 board-within :
-    (target : ℕ) (r : Ride) (behind : List Ride) (at : Standing) → Timed target r behind → boards r (at .stop) (at .minute) ≡ true
-    → Landings r (λ minute. mean behind (off at r minute) ≤ shareTotal ^ length behind * worthAt target behind (off at r minute))
-    → mean (r ∷ behind) at ≤ shareTotal ^ suc (length behind) * worthAt target (r ∷ behind) at
-board-within target r behind at timed opens each =
-    rw (mean-boards r behind at opens, worth-boards target r behind at timed opens, pow-succ' shareTotal (length behind))
-    (round (shareTotal ^ length behind) (weigh (r .shares) (r .arrives) (λ minute. mean behind (off at r minute))) worths
+    (gate target : ℕ) (r : Ride) (behind : List Ride) (at : Standing) → Timed target r behind → boards r (at .stop) (ready gate (at .minute)) ≡ true
+    → Landings r (λ minute. mean gate behind (off at r minute) ≤ shareTotal ^ length behind * worthAt gate target behind (off at r minute))
+    → mean gate (r ∷ behind) at ≤ shareTotal ^ suc (length behind) * worthAt gate target (r ∷ behind) at
+board-within gate target r behind at timed opens each =
+    rw (mean-boards gate r behind at opens, worth-boards gate target r behind at timed opens, pow-succ' shareTotal (length behind))
+    (round (shareTotal ^ length behind) (weigh (r .shares) (r .arrives) (λ minute. mean gate behind (off at r minute))) worths
     (le-trans
-    (weigh-less (r .shares) (r .arrives) (λ minute. mean behind (off at r minute))
-    (λ minute. shareTotal ^ length behind * worthAt target behind (off at r minute)) each)
-    (le-of-eq (weigh-scale (r .shares) (r .arrives) (shareTotal ^ length behind) (λ minute. worthAt target behind (off at r minute))))))
+    (weigh-less (r .shares) (r .arrives) (λ minute. mean gate behind (off at r minute))
+    (λ minute. shareTotal ^ length behind * worthAt gate target behind (off at r minute)) each)
+    (le-of-eq (weigh-scale (r .shares) (r .arrives) (shareTotal ^ length behind) (λ minute. worthAt gate target behind (off at r minute))))))
   where
     worths : ℕ
-    worths = weigh (r .shares) (r .arrives) (λ minute. worthAt target behind (off at r minute))
+    worths = weigh (r .shares) (r .arrives) (λ minute. worthAt gate target behind (off at r minute))
 
     round : (power landings sums : ℕ) → landings ≤ power * sums → landings ≤ shareTotal * power * quotientUp shareTotal sums
     round power landings sums each = omega (arith, mul-le-mul-left power (up-reaches sums))
 
 pass-within :
-    (target : ℕ) (r : Ride) (behind : List Ride) (at : Standing) → Timed target r behind → boards r (at .stop) (at .minute) ≡ false
-    → mean behind at ≤ shareTotal ^ length behind * worthAt target behind at
-    → mean (r ∷ behind) at ≤ shareTotal ^ suc (length behind) * worthAt target (r ∷ behind) at
-pass-within target r behind at timed shut further =
-    rw (mean-passes r behind at (timed .full) shut, worth-passes target r behind at shut, pow-succ' shareTotal (length behind))
+    (gate target : ℕ) (r : Ride) (behind : List Ride) (at : Standing) → Timed target r behind → boards r (at .stop) (ready gate (at .minute)) ≡ false
+    → mean gate behind at ≤ shareTotal ^ length behind * worthAt gate target behind at
+    → mean gate (r ∷ behind) at ≤ shareTotal ^ suc (length behind) * worthAt gate target (r ∷ behind) at
+pass-within gate target r behind at timed shut further =
+    rw (mean-passes gate r behind at (timed .full) shut, worth-passes gate target r behind at shut, pow-succ' shareTotal (length behind))
     (omega arith)
 
 pub mean-within :
-    (target : ℕ) {rides : List Ride} → Forward target rides → (at : Standing) → Served target rides (at .stop) (at .minute)
-    → mean rides at ≤ shareTotal ^ length rides * worthAt target rides at
-mean-within target Forward.none at (onward next among opens) = absurd (List·Memᴰ·not-nil among)
-mean-within target Forward.none at (over there) = omega (arith, mean-end at, worth-over target [] at there)
-mean-within target (Forward.one {r = r} {behind = behind} timed goes-on rest) at served =
-    ifb (λ b. mean (r ∷ behind) at ≤ shareTotal ^ suc (length behind) * worthAt target (r ∷ behind) at)
-    (boards r (at .stop) (at .minute))
-    (λ opens. board-within target r behind at timed opens
-    (λ minute from below. mean-within target rest (off at r minute) (served-sooner minute (landing-latest r minute from below) goes-on)))
-    (λ shut. pass-within target r behind at timed shut (mean-within target rest at (served-behind shut served)))
+    (gate target : ℕ) {rides : List Ride} → Forward gate target rides → (at : Standing) → Served target rides (at .stop) (ready gate (at .minute))
+    → mean gate rides at ≤ shareTotal ^ length rides * worthAt gate target rides at
+mean-within gate target Forward.none at (onward next among opens) = absurd (List·Memᴰ·not-nil among)
+mean-within gate target Forward.none at (over there) = omega (arith, mean-end gate at, worth-over gate target [] at there)
+mean-within gate target (Forward.one {r = r} {behind = behind} timed goes-on rest) at served =
+    ifb (λ b. mean gate (r ∷ behind) at ≤ shareTotal ^ suc (length behind) * worthAt gate target (r ∷ behind) at)
+    (boards r (at .stop) (ready gate (at .minute)))
+    (λ opens. board-within gate target r behind at timed opens
+    (λ minute from below. mean-within gate target rest (off at r minute) (served-sooner (ready gate minute) (omega (arith, landing-latest r minute from below)) goes-on)))
+    (λ shut. pass-within gate target r behind at timed shut (mean-within gate target rest at (served-behind shut served)))
 
 -- under no choice are more rides boarded in all
-abbrev pub AtMostRides : List Ride → Standing → ℕ → Type 0
-AtMostRides rides at most = (sailed : List Sailed) → Delayed rides sailed → course sailed at .boarded ≤ most
+abbrev pub AtMostRides : (gate : ℕ) → List Ride → Standing → ℕ → Type 0
+AtMostRides gate rides at most = (sailed : List Sailed) → Delayed rides sailed → course gate sailed at .boarded ≤ most
 
 -- one away from the target has a ride before him, whose rounding loses less than one
 abbrev gap : ℕ → Standing → ℕ
@@ -142,18 +142,18 @@ gap-one : (target : ℕ) (at : Standing) → gap target at ≤ 1
 gap-one target at = ifb (λ b. cond b 0 1 ≤ 1) (eqb (at .stop) target) (λ _. omega arith) (λ _. omega arith)
 
 -- 4,096^R × (X + rides so far) is at most A + 4,096^R × L, and less where a ride is still to come
-Above : ℕ → List Ride → Standing → ℕ → Type 0
-Above target rides at most =
-    shareTotal ^ length rides * worthAt target rides at + shareTotal ^ length rides * at .boarded + gap target at
-    ≤ mean rides at + shareTotal ^ length rides * most
+Above : (gate target : ℕ) → List Ride → Standing → ℕ → Type 0
+Above gate target rides at most =
+    shareTotal ^ length rides * worthAt gate target rides at + shareTotal ^ length rides * at .boarded + gap target at
+    ≤ mean gate rides at + shareTotal ^ length rides * most
 
 board-above :
-    (target : ℕ) (r : Ride) (behind : List Ride) (at : Standing) (most : ℕ) → Timed target r behind
-    → boards r (at .stop) (at .minute) ≡ true → Landings r (λ minute. Above target behind (off at r minute) most)
-    → Above target (r ∷ behind) at most
+    (gate target : ℕ) (r : Ride) (behind : List Ride) (at : Standing) (most : ℕ) → Timed target r behind
+    → boards r (at .stop) (ready gate (at .minute)) ≡ true → Landings r (λ minute. Above gate target behind (off at r minute) most)
+    → Above gate target (r ∷ behind) at most
 unfolding Above
-board-above target r behind at most timed opens each =
-    rw (mean-boards r behind at opens, worth-boards target r behind at timed opens, pow-succ' shareTotal (length behind))
+board-above gate target r behind at most timed opens each =
+    rw (mean-boards gate r behind at opens, worth-boards gate target r behind at timed opens, pow-succ' shareTotal (length behind))
     (round (shareTotal ^ length behind) (one-le-pow (length behind) shareTotal (omega arith))
     (weigh (r .shares) (r .arrives) means) (weigh (r .shares) (r .arrives) worths) (at .boarded) (gap target at) (gap-one target at) summed)
   where
@@ -161,10 +161,10 @@ board-above target r behind at most timed opens each =
     power = shareTotal ^ length behind
 
     means : ℕ → ℕ
-    means minute = mean behind (off at r minute)
+    means minute = mean gate behind (off at r minute)
 
     worths : ℕ → ℕ
-    worths minute = worthAt target behind (off at r minute)
+    worths minute = worthAt gate target behind (off at r minute)
 
     summed :
         power * weigh (r .shares) (r .arrives) worths + shareTotal * (power * suc (at .boarded))
@@ -183,62 +183,62 @@ board-above target r behind at most timed opens each =
     round n positive landings sums b g small each = omega (arith, mul-le-mul-left n (up-loses sums))
 
 pass-above :
-    (target : ℕ) (r : Ride) (behind : List Ride) (at : Standing) (most : ℕ) → Timed target r behind
-    → boards r (at .stop) (at .minute) ≡ false → Above target behind at most → Above target (r ∷ behind) at most
+    (gate target : ℕ) (r : Ride) (behind : List Ride) (at : Standing) (most : ℕ) → Timed target r behind
+    → boards r (at .stop) (ready gate (at .minute)) ≡ false → Above gate target behind at most → Above gate target (r ∷ behind) at most
 unfolding Above
-pass-above target r behind at most timed shut further =
-    rw (mean-passes r behind at (timed .full) shut, worth-passes target r behind at shut, pow-succ' shareTotal (length behind))
+pass-above gate target r behind at most timed shut further =
+    rw (mean-passes gate r behind at (timed .full) shut, worth-passes gate target r behind at shut, pow-succ' shareTotal (length behind))
     (omega arith)
 
 -- what holds of every choice holds of the choices behind a first ride boarded, or passed over
 pub most-boarded :
-    (r : Ride) (behind : List Ride) (at : Standing) (most : ℕ) → boards r (at .stop) (at .minute) ≡ true
-    → AtMostRides (r ∷ behind) at most → Landings r (λ minute. AtMostRides behind (off at r minute) most)
+    (gate : ℕ) (r : Ride) (behind : List Ride) (at : Standing) (most : ℕ) → boards r (at .stop) (ready gate (at .minute)) ≡ true
+    → AtMostRides gate (r ∷ behind) at most → Landings r (λ minute. AtMostRides gate behind (off at r minute) most)
 unfolding course landed
-most-boarded r behind at most opens within minute from below sailed delayed =
-    subst (λ (m : ℕ). course sailed (off at r m) .boarded ≤ most) (omega arith)
-    (subst (λ (b : Bool). cond b (course sailed (off at r (r .arrives + (minute - r .arrives)))) (course sailed at) .boarded ≤ most) opens
+most-boarded gate r behind at most opens within minute from below sailed delayed =
+    subst (λ (m : ℕ). course gate sailed (off at r m) .boarded ≤ most) (omega arith)
+    (subst (λ (b : Bool). cond b (course gate sailed (off at r (r .arrives + (minute - r .arrives)))) (course gate sailed at) .boarded ≤ most) opens
     (within (late r (minute - r .arrives) ∷ sailed) (delay-first refl (omega arith) delayed)))
 
 pub most-passed :
-    (r : Ride) (behind : List Ride) (at : Standing) (most : ℕ) → sum (r .shares) ≡ shareTotal → boards r (at .stop) (at .minute) ≡ false
-    → AtMostRides (r ∷ behind) at most → AtMostRides behind at most
+    (gate : ℕ) (r : Ride) (behind : List Ride) (at : Standing) (most : ℕ) → sum (r .shares) ≡ shareTotal → boards r (at .stop) (ready gate (at .minute)) ≡ false
+    → AtMostRides gate (r ∷ behind) at most → AtMostRides gate behind at most
 unfolding course landed
-most-passed r behind at most full shut within sailed delayed =
-    subst (λ (b : Bool). cond b (course sailed (off at r (r .arrives + 0))) (course sailed at) .boarded ≤ most) shut
+most-passed gate r behind at most full shut within sailed delayed =
+    subst (λ (b : Bool). cond b (course gate sailed (off at r (r .arrives + 0))) (course gate sailed at) .boarded ≤ most) shut
     (within (late r 0 ∷ sailed) (delay-first refl (let z : 0 < length (r .shares) = omega (arith, shares-stand (r .shares) full) in z) delayed))
 
 mean-above :
-    (target most : ℕ) {rides : List Ride} → Forward target rides → (at : Standing) → Served target rides (at .stop) (at .minute)
-    → AtMostRides rides at most → Above target rides at most
+    (gate target most : ℕ) {rides : List Ride} → Forward gate target rides → (at : Standing) → Served target rides (at .stop) (ready gate (at .minute))
+    → AtMostRides gate rides at most → Above gate target rides at most
 unfolding Above course
-mean-above target most Forward.none at (onward next among opens) within = absurd (List·Memᴰ·not-nil among)
-mean-above target most Forward.none at (over there) within =
+mean-above gate target most Forward.none at (onward next among opens) within = absurd (List·Memᴰ·not-nil among)
+mean-above gate target most Forward.none at (over there) within =
     omega (
       arith,
-      mean-end at,
-      worth-over target [] at there,
+      mean-end gate at,
+      worth-over gate target [] at there,
       within [] undelayed,
       cond-true {A = ℕ} 0 1 (eq-eqb (at .stop) target there),
     )
-mean-above target most (Forward.one {r = r} {behind = behind} timed goes-on rest) at served within =
-    ifb (λ b. Above target (r ∷ behind) at most) (boards r (at .stop) (at .minute))
-    (λ opens. board-above target r behind at most timed opens
+mean-above gate target most (Forward.one {r = r} {behind = behind} timed goes-on rest) at served within =
+    ifb (λ b. Above gate target (r ∷ behind) at most) (boards r (at .stop) (ready gate (at .minute)))
+    (λ opens. board-above gate target r behind at most timed opens
     (λ minute from below.
-    mean-above target most rest (off at r minute) (served-sooner minute (landing-latest r minute from below) goes-on)
-    (most-boarded r behind at most opens within minute from below)))
-    (λ shut. pass-above target r behind at most timed shut
-    (mean-above target most rest at (served-behind shut served) (most-passed r behind at most (timed .full) shut within)))
+    mean-above gate target most rest (off at r minute) (served-sooner (ready gate minute) (omega (arith, landing-latest r minute from below)) goes-on)
+    (most-boarded gate r behind at most opens within minute from below)))
+    (λ shut. pass-above gate target r behind at most timed shut
+    (mean-above gate target most rest at (served-behind shut served) (most-passed gate r behind at most (timed .full) shut within)))
 
 -- 4,096^R × X < A + 4,096^R × L, for one who sets out away from the target
 pub mean-strictly-above :
-    (target most : ℕ) {rides : List Ride} → Forward target rides → (at : Standing) → Served target rides (at .stop) (at .minute)
-    → AtMostRides rides at most → at .stop ≢ target
-    → shareTotal ^ length rides * worthAt target rides at < mean rides at + shareTotal ^ length rides * most
+    (gate target most : ℕ) {rides : List Ride} → Forward gate target rides → (at : Standing) → Served target rides (at .stop) (ready gate (at .minute))
+    → AtMostRides gate rides at most → at .stop ≢ target
+    → shareTotal ^ length rides * worthAt gate target rides at < mean gate rides at + shareTotal ^ length rides * most
 unfolding Above
-mean-strictly-above target most forward at served within elsewhere =
+mean-strictly-above gate target most forward at served within elsewhere =
     omega (
       arith,
-      mean-above target most forward at served within,
+      mean-above gate target most forward at served within,
       cond-false {A = ℕ} 0 1 (ne-eqb (at .stop) target elsewhere),
     )

@@ -8,7 +8,7 @@ use mathlib.Core.Path.{_≡_, refl, sym, subst}
 use lib.Dec.{T}
 use Rattle.laws.proofs.Members.{head-or-later}
 use Rattle.timetable.specs.Classes.{sum}
-use Rattle.plans.specs.Rides.{Ride, IsRide, rideOf, landsBy, boards}
+use Rattle.plans.specs.Rides.{Ride, IsRide, rideOf, landsBy, ready, boards}
 use Rattle.plans.specs.Journeys.{within}
 use Rattle.plans.specs.Worth.{weigh, firstOpen, worthOr, caught, arrivalWorth, changeWorth, landWorth, valued}
 use Rattle.plans.specs.Chosen.{whenSafe, offInTicks, worthOf, offInMinutes, nextOf, getOff, stayOn, leastOf, firstAt, leads, others, choose, bestOf, scan, scanned}
@@ -43,6 +43,6 @@ later-boat-safe =
           (of-two (λ y. 0 ≡ y .from → 600 ≡ y .departs → rideOf small 0 0 ≡ y) (λ e _. absurd (let z : ⊥ = omega arith in z)) (λ _ _. refl) r' n) r m;
       each-within = of-two (λ r. T (within 0 (landsBy r))) tt tt;
       begins = (rideOf small 0 0, List·Memᴰ·tail (List·Memᴰ·head refl), tt);
-      goes-on = of-two (λ r. r .to ≢ 2 → (next : Ride) × List·Memᴰ next laterBoat × T (boards next (r .to) (landsBy r))) (λ away. absurd (away refl))
+      goes-on = of-two (λ r. r .to ≢ 2 → (next : Ride) × List·Memᴰ next laterBoat × T (boards next (r .to) (ready 0 (landsBy r)))) (λ away. absurd (away refl))
           (λ _. (rideOf small 2 2, List·Memᴰ·head refl, tt));
     }

@@ -12,6 +12,7 @@ use Rattle.laws.proofs.Members.{head-or-later}
 use Rattle.timetable.specs.Timetable.{Timetable, rowOf}
 use Rattle.query.specs.declared.Query.{Query}
 use Rattle.plans.specs.Rides.{Ride}
+use Rattle.plans.specs.Journeys.{readyAt}
 use Rattle.plans.specs.Worth.{valued, firstOpen}
 use Rattle.plans.specs.Chosen.{worthOf}
 use Rattle.demands.specs.SafePlan.{SafePlan, ByBoardingRow, no-rides, before-all, insert, sorted, expectedOf}
@@ -112,7 +113,7 @@ sorted-same (before-all {r} {rides} before rising) = ap (insert r) (sorted-same 
 pub expected-sorted : (q : Query) (rides : List Ride) → expectedOf q (sorted rides) ≡ expectedOf q rides
 unfolding expectedOf
 expected-sorted q rides =
-    ap (λ (l : List Ride). worthOf (firstOpen (valued (q .target) l) (q .source) (q .minute))) (sorted-same (sorted-rising rides))
+    ap (λ (l : List Ride). worthOf (firstOpen (valued (q .gate) (q .target) l) (q .source) (readyAt q))) (sorted-same (sorted-rising rides))
 
 module _ (t : Timetable) (q : Query) (bound : ℕ) where
   -- a safe plan is its set of rides

@@ -1,4 +1,4 @@
--- Demands 2 and 3 in one record, with document 02's margin: what must be true of a plan's rides, with its expected ticks, latest minute and
+-- Demands 2 and 3 in one record, with document 02's margin and gate: what must be true of a plan's rides, with its expected ticks, latest minute and
 -- bound.
 use Prim.Native.Nat.{ℕ, _+_, _-_, _*_, _≤_, _<_}
 use mathlib.Core.List.{List, _∷_, List·Memᴰ}
@@ -10,7 +10,7 @@ use Rattle.timetable.specs.Timetable.{Timetable}
 use Rattle.query.specs.declared.Query.{Query}
 use Rattle.query.specs.Query.{leastMargin}
 use Rattle.plans.specs.Rides.{Ride, landsBy, boards}
-use Rattle.plans.specs.Journeys.{IsEarliest, boundOf, goalOf}
+use Rattle.plans.specs.Journeys.{IsEarliest, boundOf, goalOf, readyAt}
 use Rattle.plans.specs.Worth.{Valued, valued, ridesOf}
 use Rattle.plans.specs.Plan.{chosenFor}
 use Rattle.demands.specs.SafePlan.{SafePlan, ByBoardingRow, sorted, expectedOf}
@@ -24,12 +24,12 @@ pub record Demanded (t : Timetable) (q : Query) (rides : List Valued) (expected 
   -- a safe plan within the bound, by boarding row rising, with the worths that its own rides give
   pub safe : SafePlan t q bound (ridesOf rides)
   pub by-boarding-row : ByBoardingRow (ridesOf rides)
-  pub own-worths : valued (q .target) (ridesOf rides) ≡ rides
+  pub own-worths : valued (q .gate) (q .target) (ridesOf rides) ≡ rides
   -- the rides of the extraction rule over the chosen rows, and nothing else
   pub its-rides : (v : Valued) → List·Memᴰ v rides ↔ InPlan q (chosenFor t (goalOf q bound)) v
-  -- the first of its rides is the one to begin with: it boards at the source, at or after T, and its worth is the expected arrival
+  -- the first of its rides is the one to begin with: it boards at the source, at or after T + g, and its worth is the expected arrival
   pub begins :
-      (v : Valued) × (rest : List Valued) × (rides ≡ v ∷ rest) × (boards (v .ride) (q .source) (q .minute) ≡ true) × (v .worth ≡ expected)
+      (v : Valued) × (rest : List Valued) × (rides ≡ v ∷ rest) × (boards (v .ride) (q .source) (readyAt q) ≡ true) × (v .worth ≡ expected)
   -- the latest minute is the largest a + M of its rides
   pub latest-minute :
       ((v : Valued) → List·Memᴰ v rides → landsBy (v .ride) ≤ latest) × ((v : Valued) × List·Memᴰ v rides × (landsBy (v .ride) ≡ latest))
@@ -51,4 +51,4 @@ pub record Demanded (t : Timetable) (q : Query) (rides : List Valued) (expected 
   -- and every ride is boarded under some such delays
   pub every-ride-boarded :
       (v : Valued) → List·Memᴰ v rides
-      → (sailed : List Sailed) × List·Memᴰ sailed (choices (ridesOf rides)) × Boards (q .target) sailed (start q) (v .ride)
+      → (sailed : List Sailed) × List·Memᴰ sailed (choices (ridesOf rides)) × Boards (q .gate) (q .target) sailed (start q) (v .ride)

@@ -7,19 +7,19 @@ use mathlib.Core.Path.{_≡_}
 use lib.ListN.{length}
 use Rattle.timetable.specs.Classes.{shareTotal}
 use Rattle.query.specs.declared.Query.{Query}
-use Rattle.plans.specs.Rides.{Ride}
+use Rattle.plans.specs.Rides.{Ride, ready}
 use Rattle.demands.specs.Walk.{Sailed, Standing, firstSailed, steps, start, walked, choices, weightedArrivals, longestWay}
 
 -- where the passenger stands after k landings
 abbrev pub standsAfter : Query → List Sailed → ℕ → Standing
-standsAfter q sailed k = steps (q .target) sailed k (start q)
+standsAfter q sailed k = steps (q .gate) (q .target) sailed k (start q)
 
 -- the rides, with this latest minute and these expected ticks, carry every passenger; a choice gives each ride one delay from 0 to its M
 pub record Carries (q : Query) (rides : List Ride) (latest expected : ℕ) : Type 0 where
   -- a ride is always there
   pub ride-there :
       (sailed : List Sailed) → List·Memᴰ sailed (choices rides) → (k : ℕ) → standsAfter q sailed k .stop ≢ q .target
-      → (s : Sailed) × (firstSailed sailed (standsAfter q sailed k .stop) (standsAfter q sailed k .minute) ≡ some s)
+      → (s : Sailed) × (firstSailed sailed (standsAfter q sailed k .stop) (ready (q .gate) (standsAfter q sailed k .minute)) ≡ some s)
   -- the target is reached by the latest minute in no more rides than the plan has
   pub reached : (sailed : List Sailed) → List·Memᴰ sailed (choices rides) → walked q sailed .stop ≡ q .target
   pub in-time : (sailed : List Sailed) → List·Memᴰ sailed (choices rides) → walked q sailed .minute ≤ latest

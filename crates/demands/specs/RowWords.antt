@@ -1,4 +1,4 @@
--- Document 01's own words for a row's worth and for where its ride leaves, beside the forms that compute.
+-- Document 01's own words, with document 02's gate, for a row's worth and for where its ride leaves, beside the forms that compute.
 use Prim.Native.Nat.{ℕ, _≤_}
 use mathlib.Core.List.{List·Memᴰ}
 use mathlib.Core.Logic.{_≢_}
@@ -7,19 +7,20 @@ use lib.Dec.{T}
 use Rattle.timetable.specs.Timetable.{Timetable, rowOf}
 use Rattle.plans.specs.declared.Goal.{Goal}
 use Rattle.plans.specs.Trips.{NextOfTrip}
-use Rattle.plans.specs.Rides.{rideOf, landsBy, boards}
+use Rattle.plans.specs.Rides.{rideOf, landsBy, ready, boards}
 use Rattle.plans.specs.Journeys.{within}
 use Rattle.plans.specs.Worth.{Valued, arrivalWorth, changeWorth}
 use Rattle.plans.specs.Plan.{chosenFor}
 use Rattle.demands.specs.Words.{HasWorth}
 
--- getting off (at the target only if a + M is within the bound; elsewhere only if a chosen row departs at or after a + M) and staying on to
--- the trip's next row, each with what it is worth
+-- getting off (at the target only if a + M is within the bound; elsewhere only if a chosen row departs at or after a + M + g) and staying on
+-- to the trip's next row, each with what it is worth
 pub data OpenWay (t : Timetable) (goal : Goal) (i : ℕ) : ℕ → Type 0 where
   off-at-target : rideOf t i i .to ≡ goal .target → T (within (goal .bound) (landsBy (rideOf t i i))) → OpenWay t goal i (arrivalWorth (rideOf t i i))
   off-elsewhere :
       {safe : Valued} → rideOf t i i .to ≢ goal .target → List·Memᴰ safe (chosenFor t goal)
-      → T (boards (safe .ride) (rideOf t i i .to) (landsBy (rideOf t i i))) → OpenWay t goal i (changeWorth (rideOf t i i) (chosenFor t goal))
+      → T (boards (safe .ride) (rideOf t i i .to) (ready (goal .gate) (landsBy (rideOf t i i))))
+      → OpenWay t goal i (changeWorth (goal .gate) (rideOf t i i) (chosenFor t goal))
   staying-on : {next worth : ℕ} → NextOfTrip t i next → HasWorth t goal next worth → OpenWay t goal i worth
 
 -- A row's worth is the least over getting off and staying on to the trip's next row

@@ -1,4 +1,4 @@
--- Document 01, "Rides, safe journeys, plans": a safe plan, any set of rides that keeps these conditions.
+-- Document 01, "Rides, safe journeys, plans", and document 02, E3: a safe plan, any set of rides that keeps these conditions.
 use Prim.Native.Nat.{ℕ, _<_}
 use mathlib.Core.Bool.{cond}
 use mathlib.Core.List.{List, [], _∷_, List·Memᴰ}
@@ -8,8 +8,8 @@ use mathlib.Core.Path.{_≡_}
 use lib.Dec.{T, eqb, ltb}
 use Rattle.timetable.specs.Timetable.{Timetable}
 use Rattle.query.specs.declared.Query.{Query}
-use Rattle.plans.specs.Rides.{Ride, IsRide, landsBy, boards}
-use Rattle.plans.specs.Journeys.{within}
+use Rattle.plans.specs.Rides.{Ride, IsRide, landsBy, ready, boards}
+use Rattle.plans.specs.Journeys.{within, readyAt}
 use Rattle.plans.specs.Worth.{Valued, valued, firstOpen}
 use Rattle.plans.specs.Chosen.{worthOf}
 
@@ -22,11 +22,12 @@ pub record SafePlan (t : Timetable) (q : Query) (bound : ℕ) (rides : List Ride
   pub no-two : (r r' : Ride) → List·Memᴰ r rides → List·Memᴰ r' rides → r .from ≡ r' .from → r .departs ≡ r' .departs → r ≡ r'
   -- each has a + M within the bound
   pub each-within : (r : Ride) → List·Memᴰ r rides → T (within bound (landsBy r))
-  -- one boards at the source at or after T
-  pub begins : (r : Ride) × List·Memᴰ r rides × T (boards r (q .source) (q .minute))
-  -- after each ride not ending at the target, one boards at its landing stop at or after a + M
+  -- one boards at the source at or after T + g
+  pub begins : (r : Ride) × List·Memᴰ r rides × T (boards r (q .source) (readyAt q))
+  -- after each ride not ending at the target, one boards at its landing stop at or after a + M + g
   pub goes-on :
-      (r : Ride) → List·Memᴰ r rides → r .to ≢ q .target → (next : Ride) × List·Memᴰ next rides × T (boards next (r .to) (landsBy r))
+      (r : Ride) → List·Memᴰ r rides → r .to ≢ q .target
+      → (next : Ride) × List·Memᴰ next rides × T (boards next (r .to) (ready (q .gate) (landsBy r)))
 
 -- by boarding row rising
 pub data ByBoardingRow : List Ride → Type 0 where
@@ -47,8 +48,8 @@ sorted (r ∷ rides) = insert r (sorted rides)
 
 -- the rides of a set, by boarding row rising, each with what the set gives
 abbrev pub worthsOf : Query → List Ride → List Valued
-worthsOf q rides = valued (q .target) (sorted rides)
+worthsOf q rides = valued (q .gate) (q .target) (sorted rides)
 
--- Its expected arrival is that of its first ride from the source at or after T
+-- Its expected arrival is that of its first ride from the source at or after T + g
 unfoldable pub expectedOf : Query → List Ride → Option ℕ
-expectedOf q rides = worthOf (firstOpen (worthsOf q rides) (q .source) (q .minute))
+expectedOf q rides = worthOf (firstOpen (worthsOf q rides) (q .source) (readyAt q))

@@ -1,4 +1,4 @@
--- Demand 3: the passenger's walk through a plan, one landing at a time, under one choice of delays.
+-- Demand 3, with document 02's gate: the passenger's walk through a plan, one landing at a time, under one choice of delays.
 use Prim.Native.Nat.{ℕ, zero, suc, _+_, _*_, _<_, max}
 use mathlib.Core.Bool.{cond}
 use mathlib.Core.List.{List, [], _∷_, _++_, map}
@@ -9,7 +9,7 @@ use lib.Dec.{eqb}
 use lib.ListN.{getD, length}
 use Rattle.timetable.specs.Classes.{sum}
 use Rattle.query.specs.declared.Query.{Query}
-use Rattle.plans.specs.Rides.{Ride, boards}
+use Rattle.plans.specs.Rides.{Ride, ready, boards}
 use Rattle.timetable.specs.Ticks.{ticksAMinute}
 
 -- a ride with the delay that it is given
@@ -23,7 +23,7 @@ pub record Standing : Type 0 where
   pub minute : ℕ
   pub boarded : ℕ
 
--- the plan's first ride leaving that stop no earlier
+-- the plan's first ride leaving that stop no earlier than the passenger is ready
 unfoldable pub firstSailed : List Sailed → ℕ → ℕ → Option Sailed
 firstSailed [] stop minute = none
 firstSailed (s ∷ sailed) stop minute =
@@ -34,27 +34,28 @@ landed at none = at
 landed at (some s) = record { stop = s .ride .to; minute = s .ride .arrives + s .delay; boarded = suc (at .boarded) }
 
 -- at the target the walk is over; elsewhere the passenger boards and lands
-unfoldable pub step : ℕ → List Sailed → Standing → Standing
-step target sailed at = cond (eqb (at .stop) target) at (landed at (firstSailed sailed (at .stop) (at .minute)))
+unfoldable pub step : (gate target : ℕ) → List Sailed → Standing → Standing
+step gate target sailed at =
+    cond (eqb (at .stop) target) at (landed at (firstSailed sailed (at .stop) (ready gate (at .minute))))
 
-unfoldable pub steps : ℕ → List Sailed → ℕ → Standing → Standing
-steps target sailed zero at = at
-steps target sailed (suc k) at = steps target sailed k (step target sailed at)
+unfoldable pub steps : (gate target : ℕ) → List Sailed → ℕ → Standing → Standing
+steps gate target sailed zero at = at
+steps gate target sailed (suc k) at = steps gate target sailed k (step gate target sailed at)
 
 abbrev pub start : Query → Standing
 start q = record { stop = q .source; minute = q .minute; boarded = 0 }
 
 -- as many landings as the plan has rides
 unfoldable pub walked : Query → List Sailed → Standing
-walked q sailed = steps (q .target) sailed (length sailed) (start q)
+walked q sailed = steps (q .gate) (q .target) sailed (length sailed) (start q)
 
 -- the passenger who stands there boards this ride: after some landings, short of the target, it is the first that can be boarded
-pub record Boards (target : ℕ) (sailed : List Sailed) (at : Standing) (r : Ride) : Type 0 where
+pub record Boards (gate target : ℕ) (sailed : List Sailed) (at : Standing) (r : Ride) : Type 0 where
   pub landings : ℕ
   pub delay : ℕ
-  pub short : steps target sailed landings at .stop ≢ target
+  pub short : steps gate target sailed landings at .stop ≢ target
   pub first :
-      firstSailed sailed (steps target sailed landings at .stop) (steps target sailed landings at .minute)
+      firstSailed sailed (steps gate target sailed landings at .stop) (ready gate (steps gate target sailed landings at .minute))
       ≡ some (record { ride = r; delay = delay })
 
 -- the rides of a plan, each with one delay from 0 to its M

@@ -1,4 +1,4 @@
--- Document 01's own words for chosen rows and the plan's rides, beside the forms that compute.
+-- Document 01's own words for chosen rows and the plan's rides, with document 02's gate, beside the forms that compute.
 use Prim.Native.Nat.{ℕ, _<_, _≤_}
 use mathlib.Core.List.{List, List·Memᴰ}
 use mathlib.Core.Logic.{_≢_}
@@ -9,7 +9,8 @@ use lib.ListN.{getD}
 use Rattle.timetable.specs.Timetable.{Timetable, rowOf}
 use Rattle.query.specs.declared.Query.{Query}
 use Rattle.plans.specs.declared.Goal.{Goal}
-use Rattle.plans.specs.Rides.{landsBy, boards}
+use Rattle.plans.specs.Rides.{landsBy, ready, boards}
+use Rattle.plans.specs.Journeys.{readyAt}
 use Rattle.plans.specs.Worth.{Valued, firstOpen}
 use Rattle.plans.specs.Chosen.{inTicks, scanned, worthOf}
 
@@ -34,11 +35,12 @@ pub record Chosen (t : Timetable) (goal : Goal) (i : ℕ) : Type 0 where
       (j other : ℕ) → HasWorth t goal j other → rowOf (t .rows) j .board ≡ rowOf (t .rows) i .board
       → rowOf (t .rows) j .departure ≡ rowOf (t .rows) i .departure → (worth ≤ other) × (worth ≡ other → j ≤ i)
 
--- The plan holds the ride of the first chosen row at the source at or after T; and, for each ride in it not ending at the target, those of
--- the chosen rows at its landing stop from a up to and including the first at or after a + M. Nothing else
+-- The plan holds the ride of the first chosen row at the source at or after T + g; and, for each ride in it not ending at the target, those of
+-- the chosen rows at its landing stop from a + g up to and including the first at or after a + M + g. Nothing else
 pub data InPlan (q : Query) (chosen : List Valued) : Valued → Type 0 where
-  first : {v : Valued} → firstOpen chosen (q .source) (q .minute) ≡ some v → InPlan q chosen v
+  first : {v : Valued} → firstOpen chosen (q .source) (readyAt q) ≡ some v → InPlan q chosen v
   next :
-      {u v safe : Valued} → InPlan q chosen u → u .ride .to ≢ q .target → firstOpen chosen (u .ride .to) (landsBy (u .ride)) ≡ some safe
-      → List·Memᴰ v chosen → T (boards (v .ride) (u .ride .to) (u .ride .arrives)) → v .ride .departs ≤ safe .ride .departs
+      {u v safe : Valued} → InPlan q chosen u → u .ride .to ≢ q .target
+      → firstOpen chosen (u .ride .to) (ready (q .gate) (landsBy (u .ride))) ≡ some safe → List·Memᴰ v chosen
+      → T (boards (v .ride) (u .ride .to) (ready (q .gate) (u .ride .arrives))) → v .ride .departs ≤ safe .ride .departs
       → InPlan q chosen v

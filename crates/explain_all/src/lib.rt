@@ -24,6 +24,7 @@ use files::goes_on;
 use numbers::number;
 use plan_whole::Planned;
 use planner::plan_checked;
+use query::GATE_BYTES;
 use query::LEAST_MARGIN;
 use query::MARGIN_BYTES;
 use query::QUERY_BYTES;
@@ -116,7 +117,7 @@ fn explain_query(sailings: &[u8], f: Format, trailer: Trailer, query: &[u8], end
         } => {
             say_plan(number(count), expected, latest);
             say_margin(q.margin);
-            print_plan(sailings, f, trailer, &rides, number(count));
+            print_plan(sailings, f, trailer, &rides, number(count), q.gate);
         }
     }
 }
@@ -139,16 +140,25 @@ fn explain_refusal(
         print_starts(sailings, f, trailer, q);
         return;
     }
-    if query.len() != QUERY_BYTES {
-        if query.len() != MARGIN_BYTES {
-            say_query_length(query, ending);
-            return;
-        }
+    if !is_query_length(query.len()) {
+        say_query_length(query, ending);
+        return;
     }
     print_query_fault(q, trailer.stops, f.lastminute);
 }
 
-// 6: the query has neither 8 bytes nor 10.
+// A query has 8 bytes, or 10 with its margin, or 12 with its gate time too.
+fn is_query_length(bytes: usize) -> bool {
+    if bytes == QUERY_BYTES {
+        return true;
+    }
+    if bytes == MARGIN_BYTES {
+        return true;
+    }
+    bytes == GATE_BYTES
+}
+
+// 6: the query is not as long as one.
 fn say_query_length(query: &[u8], ending: Ending) {
     if query.len() == 0 {
         say_no_bytes(b"query", ending);
@@ -159,8 +169,9 @@ fn say_query_length(query: &[u8], ending: Ending) {
         say(b"at least ");
     }
     say_count(b"", query.len(), b" byte", b" bytes");
-    say_number(b", neither ", QUERY_BYTES);
-    say_number(b" nor ", MARGIN_BYTES);
+    say_number(b", not ", QUERY_BYTES);
+    say_number(b", ", MARGIN_BYTES);
+    say_number(b" or ", GATE_BYTES);
     say(b".\n");
 }
 

@@ -1,6 +1,8 @@
 // A plan in words that a clerk can follow.
 ghost use Rattle.file_layout.specs.Format.{Readable};
 ghost use Rattle.file_layout.specs.Small.{SmallRow};
+use crate::gate::closing;
+use crate::gate::say_gate;
 use explain_faults::row_in;
 use explain_words::say;
 use explain_words::say_number;
@@ -18,15 +20,19 @@ struct Ride {
     leave: Row,
 }
 
-// The first ride of a plan, then for each stop what to take there.
-pub fn print_plan(file: &[u8], f: Format, trailer: Trailer, plan: &[u32], rides: usize)
+// When gates close, the first ride of a plan, then for each stop what to take there.
+pub fn print_plan(file: &[u8], f: Format, trailer: Trailer, plan: &[u32], rides: usize, gate: usize)
     requires { ⌜ Readable f ⌝ }
 {
+    if 0 < gate {
+        say_gate(b"Gates close ", gate);
+        say(b".\n");
+    }
     let first = ride_in(file, f, trailer.rowstart, plan, 0);
     say_number(b"From stop ", first.board.board);
     print_ride(first);
     say(b".\n");
-    print_landings(file, f, trailer.rowstart, plan, rides, trailer.stops);
+    print_landings(file, f, trailer.rowstart, plan, rides, trailer.stops, gate);
 }
 
 // Ride number `place` of the plan.
@@ -47,18 +53,34 @@ fn ride_in(file: &[u8], f: Format, start: usize, plan: &[u32], place: usize) -> 
 }
 
 // Stop by stop, the rides that a passenger who lands there can take.
-fn print_landings(file: &[u8], f: Format, start: usize, plan: &[u32], rides: usize, stops: usize)
+fn print_landings(
+    file: &[u8],
+    f: Format,
+    start: usize,
+    plan: &[u32],
+    rides: usize,
+    stops: usize,
+    gate: usize,
+)
     requires { ⌜ Readable f ⌝ }
 {
     let mut stop = 0;
     while stop < stops {
-        print_landing(file, f, start, plan, rides, stop);
+        print_landing(file, f, start, plan, rides, stop, gate);
         stop += 1;
     }
 }
 
-// The rides behind the first that board at `stop`, each for those who land by its minute.
-fn print_landing(file: &[u8], f: Format, start: usize, plan: &[u32], rides: usize, stop: usize)
+// The rides behind the first that board at `stop`, each for those who land by the minute when its gate closes.
+fn print_landing(
+    file: &[u8],
+    f: Format,
+    start: usize,
+    plan: &[u32],
+    rides: usize,
+    stop: usize,
+    gate: usize,
+)
     requires { ⌜ Readable f ⌝ }
 {
     let mut found = false;
@@ -67,7 +89,7 @@ fn print_landing(file: &[u8], f: Format, start: usize, plan: &[u32], rides: usiz
         let ride = ride_in(file, f, start, plan, place);
         place += 1;
         if ride.board.board == stop {
-            print_choice(stop, found, ride);
+            print_choice(stop, found, ride, gate);
             found = true;
         }
     }
@@ -77,7 +99,7 @@ fn print_landing(file: &[u8], f: Format, start: usize, plan: &[u32], rides: usiz
 }
 
 // A ride to take at a stop, the first that is named there or a further one.
-fn print_choice(stop: usize, further: bool, ride: Ride)
+fn print_choice(stop: usize, further: bool, ride: Ride, gate: usize)
     requires { ⌜ SmallRow (ride .board) × SmallRow (ride .leave) ⌝ }
 {
     if further {
@@ -85,7 +107,7 @@ fn print_choice(stop: usize, further: bool, ride: Ride)
     } else {
         say_number(b"Landing at stop ", stop);
     }
-    say_time(b" by ", ride.board.departure);
+    say_time(b" by ", closing(ride.board.departure, gate));
     say(b",");
     print_ride(ride);
 }

@@ -1,9 +1,11 @@
 // Refusals 6 and 8: the query, and a journey that is not to be had.
+use crate::gate::say_gate;
 use explain_words::say;
 use explain_words::say_number;
 use explain_words::say_time;
 use query::Query;
 use query::code_rule;
+use query::gate_rule;
 use query::margin_rule;
 
 // 6: the first number of the query that breaks its rule, in a file of so many stops whose last minute is `last`.
@@ -32,7 +34,7 @@ fn say_no_stop(end: &[u8], stop: usize, stops: usize) {
     say(b" stops, numbered from 0.\n");
 }
 
-// The minute T, or else the bound code q or the margin, where the stops keep their rule.
+// The minute T, or else the bound code q, the margin or the gate time, where the stops keep their rule.
 fn print_when_fault(q: Query, last: usize) {
     if last < q.minute {
         say_number(b"The query's minute is ", q.minute);
@@ -50,6 +52,11 @@ fn print_when_fault(q: Query, last: usize) {
         say(b", but it must be 1 to 2560 ticks.\n");
         return;
     }
+    if !gate_rule(q) {
+        say_number(b"The query's gate time is ", q.gate);
+        say(b", but it must be 0 to 30 minutes.\n");
+        return;
+    }
     say(b"The query keeps its rule.\n");
 }
 
@@ -60,5 +67,9 @@ pub fn print_no_journey(q: Query) {
     if q.minute < 65536 {
         say_time(b" from ", q.minute);
     }
-    say(b" on.\n");
+    say(b" on");
+    if 0 < q.gate {
+        say_gate(b", with gates that close ", q.gate);
+    }
+    say(b".\n");
 }

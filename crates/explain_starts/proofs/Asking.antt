@@ -18,8 +18,8 @@ use Rattle.file_layout.specs.Check.{checkedAs}
 use Rattle.file_layout.specs.Decode.{decode}
 use Rattle.file_layout.proofs.Sound.{checked-gives}
 use Rattle.query.specs.declared.Query.{Query}
-use Rattle.query.specs.Query.{plainQuery, noQuery, queryRule}
-use Rattle.query.proofs.Rules.{minute-decides, margin-decides-rule, no-code, margin-decides}
+use Rattle.query.specs.Query.{plainQuery, withGate, mostGate, noQuery, queryRule}
+use Rattle.query.proofs.Rules.{minute-decides, gate-decides-rule, no-code, margin-decides, gate-decides}
 use Rattle.plans.specs.Sound.{Timely}
 use Rattle.plans.specs.Plan.{earliest}
 use Rattle.plans.proofs.EarliestSafe.{earliest-is-least, no-earliest}
@@ -35,20 +35,21 @@ use Rattle.explain_starts.specs.declared.Start.the-variants.{Until}
 use Rattle.explain_starts.specs.Starts.{Starts, LastStart, until, never, StartFits}
 
 -- the minute of an answer is one that a clock prints
-pub until-small : (f : Format) → Plannable f → {t : Timetable} {source target : ℕ} {start : Start} (minute : ℕ)
-    → LastStart t source target (f .lastminute) start → start ≡ Until minute → minute < 4294967296
+pub until-small : (f : Format) → Plannable f → {t : Timetable} {source target gate : ℕ} {start : Start} (minute : ℕ)
+    → LastStart t source target gate (f .lastminute) start → start ≡ Until minute → minute < 4294967296
 until-small f plannable minute (never none) is = absurd (let z : _≡_ {A = ℕ} 0 1 = cc in let y : ⊥ = omega arith in y)
 until-small f plannable minute (until {minute = m} within there behind) is =
     let same : m ≡ minute = cc in omega (arith, within, same, plannable .minutes-fit)
 
--- two stops of a sound file that differ can be asked for
-pub stops-fit : {f : Format} {file : List ℕ} {h : Trailer} (source target : ℕ) {work : List ℕ} → Plannable f → checkedAs f file ≡ Sound h
-    → source < h .stops → target < h .stops → source ≢ target → 4 * h .rows + 2500 ≤ length work → StartFits f file h source target work
-stops-fit source target plannable sound first second apart room =
+-- two stops of a sound file that differ can be asked for, with a gate time that keeps its rule
+pub stops-fit : {f : Format} {file : List ℕ} {h : Trailer} (source target gate : ℕ) {work : List ℕ} → Plannable f → checkedAs f file ≡ Sound h
+    → source < h .stops → target < h .stops → source ≢ target → gate ≤ mostGate → 4 * h .rows + 2500 ≤ length work
+    → StartFits f file h source target gate work
+stops-fit source target gate plannable sound first second apart early room =
     record {
       plannable = plannable;
       sound = sound;
-      fits = record { source = first; target = second; apart = apart; minute = zero-le; code = inl refl; margin = (omega arith, omega arith) };
+      fits = record { source = first; target = second; apart = apart; minute = zero-le; code = inl refl; margin = (omega arith, omega arith); gate = early };
       room = room;
     }
 
@@ -66,12 +67,12 @@ cleared-twice room work =
 pub cleared-again : (f : Format) (file work : List ℕ) {after : List ℕ} → after ≡ workAfter f file work → workAfter f file after ≡ workAfter f file work
 cleared-again f file work is = ap (workAfter f file) is ∙ cleared-twice _ work
 
-module _ {f : Format} {file : List ℕ} {h : Trailer} {source target : ℕ} {work : List ℕ} (call : StartFits f file h source target work) where
+module _ {f : Format} {file : List ℕ} {h : Trailer} {source target gate : ℕ} {work : List ℕ} (call : StartFits f file h source target gate work) where
   abbrev t : Timetable
   t = decode f file
 
   -- the same of work that is as long
-  pub fits-again : {after : List ℕ} → length after ≡ length work → StartFits f file h source target after
+  pub fits-again : {after : List ℕ} → length after ≡ length work → StartFits f file h source target gate after
   fits-again same =
       record { plannable = call .plannable; sound = call .sound; fits = call .fits; room = omega (arith, call .room, same) }
 
@@ -83,14 +84,14 @@ module _ {f : Format} {file : List ℕ} {h : Trailer} {source target : ℕ} {wor
 
   module _ (minute : ℕ) (inside : minute ≤ f .lastminute) where
     abbrev q : Query
-    q = plainQuery source target minute
+    q = withGate gate (plainQuery source target minute)
 
     rule-kept : queryRule (h .stops) (f .lastminute) q ≡ true
     rule-kept =
-        sym (margin-decides-rule (h .stops) (f .lastminute) q
+        sym (gate-decides-rule (h .stops) (f .lastminute) q
         (sym (minute-decides (h .stops) (f .lastminute) q (call .fits .source) (call .fits .target) (call .fits .apart))
-        ∙ le-leb minute (f .lastminute) inside) (sym (no-code q refl)))
-        ∙ sym (margin-decides q (omega arith))
+        ∙ le-leb minute (f .lastminute) inside) (sym (no-code q refl)) (sym (margin-decides q (omega arith))))
+        ∙ sym (gate-decides q) ∙ le-leb gate mostGate (call .fits .gate)
 
     room-enough : enough (workRoom (length work)) h ≡ true
     unfolding enough
@@ -104,12 +105,12 @@ module _ {f : Format} {file : List ℕ} {h : Trailer} {source target : ℕ} {wor
     answered-start : earliestOutcome f file q work ≡ earliestAnswered (earliest t q) (workAfter f file work)
     answered-start = answered-earliest f file q work admitted-start
 
-    pub arrival-starts : (e : ℕ) → Arrival e ≡ earliestOutcome f file q work .answer → Starts t source target minute
+    pub arrival-starts : (e : ℕ) → Arrival e ≡ earliestOutcome f file q work .answer → Starts t source target gate minute
     arrival-starts e told =
         let found = arrival-is (earliest t q) (workAfter f file work) e (sym (told ∙ ap (λ (x : EarliestOutcome). x .answer) answered-start)) in
         (e, earliest-is-least t is-timely q e found .reached)
 
-    pub refused-starts : (number place : ℕ) → NoArrival number place ≡ earliestOutcome f file q work .answer → Starts t source target minute → ⊥
+    pub refused-starts : (number place : ℕ) → NoArrival number place ≡ earliestOutcome f file q work .answer → Starts t source target gate minute → ⊥
     refused-starts number place told there =
         let gone = refused-is (earliest t q) (workAfter f file work) number place
         (sym (told ∙ ap (λ (x : EarliestOutcome). x .answer) answered-start)) in

@@ -20,27 +20,28 @@ pub enum Start {
     Never,
 }
 
-// Of the minutes 0 to the last of the file's version, the last at which a safe journey from `source` to `target` can be started, by halving.
+// Of the minutes 0 to the last of the file's version, the last at which a safe journey from `source` to `target` can be started with a gate time, by halving.
 pub fn last_start(
     file: &[u8],
     f: Format,
     trailer: Trailer,
     source: usize,
     target: usize,
+    gate: usize,
     work: &mut [u32],
 ) -> Start
-    requires { ⌜ StartFits f (now file) trailer source target (now work) ⌝ }
-    ensures { λ r. ⌜ LastStart (decode f (now (file .entry))) source target (f .lastminute) r
+    requires { ⌜ StartFits f (now file) trailer source target gate (now work) ⌝ }
+    ensures { λ r. ⌜ LastStart (decode f (now (file .entry))) source target gate (f .lastminute) r
         × (now (work .exit) ≡ workAfter f (now (file .entry)) (now (work .entry))) ⌝ }
 {
-    if !starts_at(file, f, trailer, source, target, 0, work) {
+    if !starts_at(file, f, trailer, source, target, gate, 0, work) {
         return Start::Never;
     }
     let mut low = 0;
     let mut high = f.lastminute;
     while low < high {
         let middle = high - (high - low) / 2;
-        if starts_at(file, f, trailer, source, target, middle, work) {
+        if starts_at(file, f, trailer, source, target, gate, middle, work) {
             low = middle;
         } else {
             high = middle - 1;
@@ -49,18 +50,19 @@ pub fn last_start(
     Start::Until { minute: low }
 }
 
-// There is a safe journey from `source`, at or after `minute`, to `target`.
+// There is a safe journey with a gate time from `source`, at or after `minute`, to `target`.
 fn starts_at(
     file: &[u8],
     f: Format,
     trailer: Trailer,
     source: usize,
     target: usize,
+    gate: usize,
     minute: usize,
     work: &mut [u32],
 ) -> bool
-    requires { ⌜ StartFits f (now file) trailer source target (now work) × (minute ≤ f .lastminute) ⌝ }
-    ensures { λ r. ⌜ Tells (Starts (decode f (now (file .entry))) source target minute) r
+    requires { ⌜ StartFits f (now file) trailer source target gate (now work) × (minute ≤ f .lastminute) ⌝ }
+    ensures { λ r. ⌜ Tells (Starts (decode f (now (file .entry))) source target gate minute) r
         × (now (work .exit) ≡ workAfter f (now (file .entry)) (now (work .entry))) ⌝ }
 {
     let q = Query {
@@ -69,6 +71,7 @@ fn starts_at(
         minute,
         code: 0,
         margin: LEAST_MARGIN,
+        gate,
     };
     let earliest = earliest_checked(file, f, trailer, q, work);
     match earliest {

@@ -5,7 +5,7 @@ ghost use Prim.Native.Nat.{_+_, _*_, _≤_, _<_};
 ghost use lib.ListN.{length};
 ghost use Rattle.file_layout.specs.Check.{checkedAs};
 ghost use Rattle.file_layout.specs.declared.Checked.the-variants.{Sound};
-ghost use Rattle.query.specs.Query.{QueryFits};
+ghost use Rattle.query.specs.Query.{QueryFits, mostGate};
 ghost use Rattle.plan_rows.specs.Sections.{Plannable};
 ghost use Rattle.explain_starts.specs.Starts.{StartFits};
 use crate::Start;
@@ -23,7 +23,7 @@ pub fn print_starts(file: &[u8], f: Format, trailer: Trailer, q: Query)
     requires { ⌜ Plannable f × (checkedAs f (now file) ≡ Sound trailer) × QueryFits (trailer .stops) (f .lastminute) q ⌝ }
 {
     let mut work = work_room();
-    let start = last_start(file, f, trailer, q.source, q.target, &mut work);
+    let start = last_start(file, f, trailer, q.source, q.target, q.gate, &mut work);
     say_number(b"From stop ", q.source);
     match start {
         Start::Until { minute } => {
@@ -32,8 +32,9 @@ pub fn print_starts(file: &[u8], f: Format, trailer: Trailer, q: Query)
             if !print_others(file, f, trailer, q, &mut work) {
                 say(b"No other stop has one.\n");
             }
-            say(
-                b"A later start cannot help. An earlier one, another target, next week's file or a relief sailing can.\n",
+            say_help(
+                b"A later start cannot help. An earlier one, another target, next week's file or a relief sailing can",
+                q.gate,
             );
         }
         Start::Never => {
@@ -41,17 +42,27 @@ pub fn print_starts(file: &[u8], f: Format, trailer: Trailer, q: Query)
             if !print_others(file, f, trailer, q, &mut work) {
                 say(b"No other stop has one either.\n");
             }
-            say(
-                b"Another minute cannot help. Another target, next week's file or a relief sailing can.\n",
+            say_help(
+                b"Another minute cannot help. Another target, next week's file or a relief sailing can",
+                q.gate,
             );
         }
     }
 }
 
+// What can help; where gates close ahead of departure, that they close later too.
+fn say_help(words: &[u8], gate: usize) {
+    say(words);
+    if 0 < gate {
+        say(b", and so can gates that close later");
+    }
+    say(b".\n");
+}
+
 // The other stops with a journey, each with its last minute, in one line; false where there is none.
 fn print_others(file: &[u8], f: Format, trailer: Trailer, q: Query, work: &mut [u32]) -> bool
     requires { ⌜ Plannable f × (checkedAs f (now file) ≡ Sound trailer) × (q .target < trailer .stops)
-        × (4 * trailer .rows + 2500 ≤ length (now work)) ⌝ }
+        × (q .gate ≤ mostGate) × (4 * trailer .rows + 2500 ≤ length (now work)) ⌝ }
 {
     let mut found = false;
     let mut stop = 0;
@@ -59,7 +70,7 @@ fn print_others(file: &[u8], f: Format, trailer: Trailer, q: Query, work: &mut [
         let other = stop;
         stop += 1;
         if is_other(q, other) {
-            found = print_other(file, f, trailer, other, q.target, found, work);
+            found = print_other(file, f, trailer, other, q, found, work);
         }
     }
     if found {
@@ -84,13 +95,13 @@ fn print_other(
     f: Format,
     trailer: Trailer,
     stop: usize,
-    target: usize,
+    q: Query,
     found: bool,
     work: &mut [u32],
 ) -> bool
-    requires { ⌜ StartFits f (now file) trailer stop target (now work) ⌝ }
+    requires { ⌜ StartFits f (now file) trailer stop (q .target) (q .gate) (now work) ⌝ }
 {
-    let start = last_start(file, f, trailer, stop, target, work);
+    let start = last_start(file, f, trailer, stop, q.target, q.gate, work);
     match start {
         Start::Never => found,
         Start::Until { minute } => {

@@ -17,8 +17,8 @@ use Rattle.plan_cells.specs.Outside.{SameOutside}
 use Rattle.plan_cells.proofs.Outside.{outside-then}
 use Rattle.plan_rows.specs.declared.SectionPlaces.{SectionPlaces}
 use Rattle.plan_rows.specs.Reading.{rowsIn, tablesIn, timetableIn, RowFits, FileReadable, TablesHeld}
-use Rattle.plan_earliest.specs.Cells.{ready, landingOf, RowInCells, RowSailed}
-use Rattle.plan_earliest.specs.Swept.{Swept, EarliestReady}
+use Rattle.plan_earliest.specs.Cells.{reachedAt, landingOf, RowInCells, RowSailed}
+use Rattle.plan_earliest.specs.Swept.{Swept, EarliestReached}
 use Rattle.plan_earliest.proofs.Steps.{sails-step, sails-behind}
 use Rattle.plan_earliest.proofs.Sweep.{Seaworthy, landing, sweeps}
 use Rattle.plan_earliest.proofs.Final.{swept-all, swept-enough}
@@ -61,34 +61,34 @@ module _ (file : List ℕ) (s : SectionPlaces) (stand : FileReadable file s) whe
           lands = omega (arith, landing-held, fits .lands);
         }
 
-    module _ {read : Row} (as-filed : read ≡ row) {before after : List ℕ} (sailed : RowSailed read (landingOf tables read) before after) where
-      sailed-row : RowSailed row (landing t i) before after
+    module _ {gate : ℕ} {read : Row} (as-filed : read ≡ row) {before after : List ℕ} (sailed : RowSailed gate read (landingOf tables read) before after) where
+      sailed-row : RowSailed gate row (landing t i) before after
       sailed-row =
-          subst (λ m. RowSailed row m before after) landing-held (subst (λ r. RowSailed r (landingOf tables r) before after) as-filed sailed)
+          subst (λ m. RowSailed gate row m before after) landing-held (subst (λ r. RowSailed gate r (landingOf tables r) before after) as-filed sailed)
 
       pub row-behind : {start : List ℕ} → SameOutside tripCells pairCells start before → SameOutside tripCells pairCells start after
-      row-behind same = outside-then same (sails-behind row (landing t i) (row-placed .trip) (row-placed .land) sailed-row)
+      row-behind same = outside-then same (sails-behind gate row (landing t i) (row-placed .trip) (row-placed .land) sailed-row)
 
       pub row-swept :
-          pairCells ≤ length before → (source minute : ℕ) → Swept (timetableIn file s) source minute i before
-          → Swept (timetableIn file s) source minute (i + 1) after
+          pairCells ≤ length before → (source minute : ℕ) → Swept (timetableIn file s) gate source minute i before
+          → Swept (timetableIn file s) gate source minute (i + 1) after
       row-swept room source minute sw =
-          subst (λ k. Swept t source minute k after) (sym (add-one i))
-          (sweeps t seaworthy source minute i (omega (arith, stand .rows-count)) sw
-          (sails-step row (landing t i) (row-placed .trip) (row-placed .land) room sailed-row))
+          subst (λ k. Swept t gate source minute k after) (sym (add-one i))
+          (sweeps t seaworthy gate source minute i (omega (arith, stand .rows-count)) sw
+          (sails-step gate row (landing t i) (row-placed .trip) (row-placed .land) room sailed-row))
 
   -- the next row departs when the stop is reached already
   pub stops-there :
       (i : ℕ) → i < s .rows → {read : Row} → read ≡ rowOf (rowsIn file s) i → (stop : ℕ) → stop < mostStops → (work : List ℕ) {cell : ℕ}
-      → cell ≡ ready work stop → leb cell (read .departure) ≡ true → (source minute : ℕ)
-      → Swept (timetableIn file s) source minute i work → EarliestReady (timetableIn file s) source minute stop (ready work stop)
-  stops-there i inside {read} as-filed stop small work {cell} e test source minute sw =
-      swept-enough t seaworthy source minute stop i small (omega (arith, stand .rows-count))
-      (subst (λ r. ready work stop ≤ r .departure) as-filed (omega (arith, leb-true cell (read .departure) test))) sw
+      → cell ≡ reachedAt work stop → leb cell (read .departure) ≡ true → (gate source minute : ℕ)
+      → Swept (timetableIn file s) gate source minute i work → EarliestReached (timetableIn file s) gate source minute stop (reachedAt work stop)
+  stops-there i inside {read} as-filed stop small work {cell} e test gate source minute sw =
+      swept-enough t seaworthy gate source minute stop i small (omega (arith, stand .rows-count))
+      (subst (λ r. reachedAt work stop ≤ r .departure) as-filed (omega (arith, leb-true cell (read .departure) test))) sw
 
   -- no row is left
   pub ends-there :
-      (i : ℕ) → i ≡ s .rows → (stop : ℕ) → stop < mostStops → (work : List ℕ) → (source minute : ℕ)
-      → Swept (timetableIn file s) source minute i work → EarliestReady (timetableIn file s) source minute stop (ready work stop)
-  ends-there i all stop small work source minute sw =
-      swept-all t seaworthy source minute stop small (subst (λ k. Swept t source minute k work) (all ∙ sym (stand .rows-count)) sw)
+      (i : ℕ) → i ≡ s .rows → (stop : ℕ) → stop < mostStops → (work : List ℕ) → (gate source minute : ℕ)
+      → Swept (timetableIn file s) gate source minute i work → EarliestReached (timetableIn file s) gate source minute stop (reachedAt work stop)
+  ends-there i all stop small work gate source minute sw =
+      swept-all t seaworthy gate source minute stop small (subst (λ k. Swept t gate source minute k work) (all ∙ sym (stand .rows-count)) sw)

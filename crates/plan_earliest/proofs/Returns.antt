@@ -9,9 +9,10 @@ use lib.Dec.{leb}
 use lib.ListN.{getD, set}
 use borrow.Author.Tests.{leb-true, leb-false}
 use Rattle.timetable.specs.declared.Row.{Row}
+use Rattle.plans.specs.Rides.{ready}
 use Rattle.plan_cells.specs.Cells.{tripCells, stopCells}
 use Rattle.plan_rows.specs.Reading.{blockCell}
-use Rattle.plan_earliest.specs.Cells.{aboard, ready, landingOf, Boarded, boards, misses, Landed, sooner, no-sooner}
+use Rattle.plan_earliest.specs.Cells.{aboard, reachedAt, landingOf, Boarded, boards, misses, Landed, sooner, no-sooner}
 
 -- the landing as it is computed
 pub landing-computed :
@@ -23,20 +24,20 @@ pub landing-below : {x landing : ℕ} → x ≡ landing → landing < 65536 → 
 landing-below e h = omega arith
 
 pub landed-sooner :
-    (stop : ℕ) (work : List ℕ) {x landing : ℕ} → x ≡ landing → x < ready work stop
+    (stop : ℕ) (work : List ℕ) {x landing : ℕ} → x ≡ landing → x < reachedAt work stop
     → Landed stop landing work (set work (stopCells + stop) x)
 landed-sooner stop work {x} e h = subst (λ k. Landed stop k work (set work (stopCells + stop) x)) e (sooner h)
 
-pub landed-no-sooner : (stop : ℕ) (work : List ℕ) {x landing : ℕ} → x ≡ landing → ready work stop ≤ x → Landed stop landing work work
+pub landed-no-sooner : (stop : ℕ) (work : List ℕ) {x landing : ℕ} → x ≡ landing → reachedAt work stop ≤ x → Landed stop landing work work
 landed-no-sooner stop work e h = no-sooner (omega arith)
 
 -- the test whether the row can be boarded, as it is computed
 pub boards-now :
-    (row : Row) (work : List ℕ) {since : ℕ} → since ≡ ready work (row .board) → leb since (row .departure) ≡ true
-    → Boarded row work (set work (tripCells + row .trip) 1) true
-boards-now row work {since} e h = boards (omega (arith, leb-true since (row .departure) h))
+    (gate : ℕ) (row : Row) (work : List ℕ) {since : ℕ} → since ≡ ready gate (reachedAt work (row .board)) → leb since (row .departure) ≡ true
+    → Boarded gate row work (set work (tripCells + row .trip) 1) true
+boards-now gate row work {since} e h = boards (omega (arith, leb-true since (row .departure) h))
 
 pub misses-now :
-    (row : Row) (work : List ℕ) {since : ℕ} → aboard work (row .trip) ≡ 0 → since ≡ ready work (row .board) → leb since (row .departure) ≡ false
-    → Boarded row work work false
-misses-now row work {since} z e h = misses z (omega (arith, leb-false since (row .departure) h))
+    (gate : ℕ) (row : Row) (work : List ℕ) {since : ℕ} → aboard work (row .trip) ≡ 0 → since ≡ ready gate (reachedAt work (row .board)) → leb since (row .departure) ≡ false
+    → Boarded gate row work work false
+misses-now gate row work {since} z e h = misses z (omega (arith, leb-false since (row .departure) h))

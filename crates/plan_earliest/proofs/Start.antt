@@ -10,7 +10,7 @@ use Rattle.plan_cells.specs.Cells.{tripCells, stopCells, pairCells, missing, fi
 use Rattle.plan_cells.specs.Outside.{SameOutside}
 use Rattle.plan_cells.proofs.Filled.{filled-ahead, filled-inside}
 use Rattle.plan_cells.proofs.Outside.{outside-then, outside-wider, outside-set, outside-filled}
-use Rattle.plan_earliest.specs.Cells.{aboard, ready}
+use Rattle.plan_earliest.specs.Cells.{aboard, reachedAt}
 use Rattle.plan_earliest.proofs.Final.{SetOut}
 
 -- all cells of trips and stops are blank
@@ -18,7 +18,7 @@ pub record Blank (work blank : List ℕ) : Type 0 where
   pub room : pairCells ≤ length work
   pub behind : SameOutside tripCells pairCells work blank
   pub no-trip : (trip : ℕ) → trip < mostTrips → aboard blank trip ≡ 0
-  pub no-stop : (stop : ℕ) → stop < mostStops → ready blank stop ≡ missing
+  pub no-stop : (stop : ℕ) → stop < mostStops → reachedAt blank stop ≡ missing
 
 pub blanked :
     {work cleared blank : List ℕ} → pairCells ≤ length work → cleared ≡ filled work tripCells mostTrips 0 → blank ≡ filled cleared stopCells mostStops missing
@@ -35,7 +35,7 @@ blanked {work} {cleared} room trips-filled stops-filled =
           ∙ filled-ahead cleared stopCells mostStops missing (tripCells + trip) (omega (arith, trips-stay .same-length)) (omega arith)
           ∙ ap (λ l. aboard l trip) trips-filled ∙ filled-inside work tripCells mostTrips 0 trip (omega arith) small;
       no-stop =
-          λ stop small. ap (λ l. ready l stop) stops-filled
+          λ stop small. ap (λ l. reachedAt l stop) stops-filled
           ∙ filled-inside cleared stopCells mostStops missing stop (omega (arith, trips-stay .same-length)) small;
     }
   where

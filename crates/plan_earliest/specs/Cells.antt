@@ -6,6 +6,7 @@ use mathlib.Core.Path.{_≡_}
 use lib.ListN.{getD, set}
 use Rattle.timetable.specs.declared.Row.{Row}
 use Rattle.timetable.specs.Limits.{mostStops, mostTrips, mostClasses}
+use Rattle.plans.specs.Rides.{ready}
 use Rattle.plan_cells.specs.Cells.{tripCells, stopCells}
 use Rattle.plan_rows.specs.Reading.{blockCell}
 
@@ -13,8 +14,8 @@ use Rattle.plan_rows.specs.Reading.{blockCell}
 abbrev pub aboard : List ℕ → ℕ → ℕ
 aboard work trip = getD work (tripCells + trip) 0
 
-abbrev pub ready : List ℕ → ℕ → ℕ
-ready work stop = getD work (stopCells + stop) 0
+abbrev pub reachedAt : List ℕ → ℕ → ℕ
+reachedAt work stop = getD work (stopCells + stop) 0
 
 -- a + M, with M from the lent tables
 abbrev pub landingOf : List ℕ → Row → ℕ
@@ -29,16 +30,16 @@ pub record RowInCells (tables : List ℕ) (row : Row) : Type 0 where
   pub lands : landingOf tables row < 65536
 
 -- one is aboard already, or boards now, or misses the row
-pub data Boarded (row : Row) (work : List ℕ) : List ℕ → Bool → Type 0 where
-  already : (aboard work (row .trip) ≡ 0 → ⊥) → Boarded row work work true
-  boards : ready work (row .board) ≤ row .departure → Boarded row work (set work (tripCells + row .trip) 1) true
-  misses : aboard work (row .trip) ≡ 0 → row .departure < ready work (row .board) → Boarded row work work false
+pub data Boarded (gate : ℕ) (row : Row) (work : List ℕ) : List ℕ → Bool → Type 0 where
+  already : (aboard work (row .trip) ≡ 0 → ⊥) → Boarded gate row work work true
+  boards : ready gate (reachedAt work (row .board)) ≤ row .departure → Boarded gate row work (set work (tripCells + row .trip) 1) true
+  misses : aboard work (row .trip) ≡ 0 → row .departure < ready gate (reachedAt work (row .board)) → Boarded gate row work work false
 
 -- one is there sooner than known, or not
 pub data Landed (stop landing : ℕ) (work : List ℕ) : List ℕ → Type 0 where
-  sooner : landing < ready work stop → Landed stop landing work (set work (stopCells + stop) landing)
-  no-sooner : ready work stop ≤ landing → Landed stop landing work work
+  sooner : landing < reachedAt work stop → Landed stop landing work (set work (stopCells + stop) landing)
+  no-sooner : reachedAt work stop ≤ landing → Landed stop landing work work
 
-pub data RowSailed (row : Row) (landing : ℕ) (work : List ℕ) : List ℕ → Type 0 where
-  missed : {after : List ℕ} → Boarded row work after false → RowSailed row landing work after
-  sailed : {between after : List ℕ} → Boarded row work between true → Landed (row .land) landing between after → RowSailed row landing work after
+pub data RowSailed (gate : ℕ) (row : Row) (landing : ℕ) (work : List ℕ) : List ℕ → Type 0 where
+  missed : {after : List ℕ} → Boarded gate row work after false → RowSailed gate row landing work after
+  sailed : {between after : List ℕ} → Boarded gate row work between true → Landed (row .land) landing between after → RowSailed gate row landing work after

@@ -10,7 +10,7 @@ use borrow.Author.Tests.{eqb-true, eqb-false}
 use lib.Dec.{eqb}
 use Rattle.laws.proofs.Tests.{ifb}
 use Rattle.laws.proofs.Members.{head-or-later}
-use Rattle.plans.specs.Rides.{landsBy}
+use Rattle.plans.specs.Rides.{landsBy, ready}
 use Rattle.plans.specs.Worth.{Valued, firstOpen}
 use Rattle.plans.specs.Plan.{Window, wanted, windowsOf, extract}
 use Rattle.plans.proofs.Extracted.{on-taking}
@@ -19,42 +19,42 @@ use Rattle.plans.proofs.OwnWorth.{Moves, OwnWorth}
 use Rattle.plans.proofs.OwnWorth as own
 
 -- at row i: `past` is written, and the windows take what is left from the chosen rows from row i on
-pub record Going (target : ℕ) (whole chosen : List Valued) (ws : List Window) (past : List Valued) (i : ℕ) : Type 0 where
+pub record Going (gate target : ℕ) (whole chosen : List Valued) (ws : List Window) (past : List Valued) (i : ℕ) : Type 0 where
   pub rest : List Valued
-  pub splits : whole ≡ past ++ extract target ws rest
+  pub splits : whole ≡ past ++ extract gate target ws rest
   pub ordered : Ordered rest
-  pub own-worth : OwnWorth target rest
+  pub own-worth : OwnWorth gate target rest
   pub among : (v : Valued) → List·Memᴰ v rest → List·Memᴰ v chosen
   pub later : (v : Valued) → List·Memᴰ v rest → i ≤ v .ride .board
   pub left : (v : Valued) → List·Memᴰ v chosen → i ≤ v .ride .board → List·Memᴰ v rest
 
 -- the ride of row i is taken: what is behind it, and that one who lands late finds a ride there
-pub record Taken (target : ℕ) (whole chosen : List Valued) (ws : List Window) (past : List Valued) (i : ℕ) (v : Valued) : Type 0 where
+pub record Taken (gate target : ℕ) (whole chosen : List Valued) (ws : List Window) (past : List Valued) (i : ℕ) (v : Valued) : Type 0 where
   pub behind : List Valued
-  pub going : Going target whole chosen (windowsOf target (v .ride) behind ++ ws) (past ++ v ∷ []) (suc i)
+  pub going : Going gate target whole chosen (windowsOf gate target (v .ride) behind ++ ws) (past ++ v ∷ []) (suc i)
   pub moves : Moves (v .ride)
-  pub safe : v .ride .to ≢ target → (u : Valued) × (firstOpen behind (v .ride .to) (landsBy (v .ride)) ≡ some u)
+  pub safe : v .ride .to ≢ target → (u : Valued) × (firstOpen behind (v .ride .to) (ready gate (landsBy (v .ride))) ≡ some u)
   pub ordered : Ordered behind
   pub among : (u : Valued) → List·Memᴰ u behind → List·Memᴰ u chosen
   pub left : (u : Valued) → List·Memᴰ u chosen → i < u .ride .board → List·Memᴰ u behind
 
-module _ (target : ℕ) (whole chosen : List Valued) where
+module _ (gate target : ℕ) (whole chosen : List Valued) where
   -- all chosen rows are still ahead
-  pub going-start : (ws : List Window) → Ordered chosen → OwnWorth target chosen → whole ≡ extract target ws chosen
-      → Going target whole chosen ws [] 0
+  pub going-start : (ws : List Window) → Ordered chosen → OwnWorth gate target chosen → whole ≡ extract gate target ws chosen
+      → Going gate target whole chosen ws [] 0
   going-start ws o w e =
       record { rest = chosen; splits = e; ordered = o; own-worth = w; among = λ v m. m; later = λ v m. omega arith; left = λ v m h. m }
 
   -- a row whose ride no window wants is passed
   pub going-pass :
-      {ws : List Window} {past : List Valued} {i : ℕ} → Going target whole chosen ws past i
-      → ((v : Valued) → List·Memᴰ v chosen → v .ride .board ≡ i → wanted ws (v .ride) ≡ false) → Going target whole chosen ws past (suc i)
+      {ws : List Window} {past : List Valued} {i : ℕ} → Going gate target whole chosen ws past i
+      → ((v : Valued) → List·Memᴰ v chosen → v .ride .board ≡ i → wanted ws (v .ride) ≡ false) → Going gate target whole chosen ws past (suc i)
   going-pass {ws} {past} {i} g unwanted = go (g .rest) (g .splits) (g .ordered) (g .own-worth) (g .among) (g .later) (g .left)
     where
       go :
-          (rest : List Valued) → whole ≡ past ++ extract target ws rest → Ordered rest → OwnWorth target rest
+          (rest : List Valued) → whole ≡ past ++ extract gate target ws rest → Ordered rest → OwnWorth gate target rest
           → ((v : Valued) → List·Memᴰ v rest → List·Memᴰ v chosen) → ((v : Valued) → List·Memᴰ v rest → i ≤ v .ride .board)
-          → ((v : Valued) → List·Memᴰ v chosen → i ≤ v .ride .board → List·Memᴰ v rest) → Going target whole chosen ws past (suc i)
+          → ((v : Valued) → List·Memᴰ v chosen → i ≤ v .ride .board → List·Memᴰ v rest) → Going gate target whole chosen ws past (suc i)
       go [] e o w among later left =
           record {
             rest = [];
@@ -66,14 +66,14 @@ module _ (target : ℕ) (whole chosen : List Valued) where
             left = λ v m h. left v m (omega arith);
           }
       go (v ∷ vs) e (ahead before o) (own.ahead moves worth on w) among later left =
-          ifb (λ b. Going target whole chosen ws past (suc i)) (eqb (v .ride .board) i)
+          ifb (λ b. Going gate target whole chosen ws past (suc i)) (eqb (v .ride .board) i)
           (λ q. let here : v .ride .board ≡ i = eqb-true (v .ride .board) i q in
           record {
             rest = vs;
             splits =
                 e
                 ∙ ap (λ l. past ++ l)
-                (on-taking target (extract target ws (v ∷ vs) ≡ extract target ws vs) ws v vs
+                (on-taking gate target (extract gate target ws (v ∷ vs) ≡ extract gate target ws vs) ws v vs
                 (λ t _. absurd (false≢true (sym (unwanted v (among v (List·Memᴰ·head refl)) here) ∙ t))) (λ _ p. p));
             ordered = o;
             own-worth = w;
@@ -101,21 +101,21 @@ module _ (target : ℕ) (whole chosen : List Valued) where
 
   -- a row whose ride a window wants is taken
   pub going-take :
-      {ws : List Window} {past : List Valued} {i : ℕ} → Going target whole chosen ws past i → (v : Valued) → List·Memᴰ v chosen → v .ride .board ≡ i
-      → wanted ws (v .ride) ≡ true → Taken target whole chosen ws past i v
+      {ws : List Window} {past : List Valued} {i : ℕ} → Going gate target whole chosen ws past i → (v : Valued) → List·Memᴰ v chosen → v .ride .board ≡ i
+      → wanted ws (v .ride) ≡ true → Taken gate target whole chosen ws past i v
   going-take {ws} {past} {i} g v member here want =
       go (g .rest) (g .splits) (g .ordered) (g .own-worth) (g .among) (g .later) (g .left)
       (g .left v member (let z : i ≤ v .ride .board = omega arith in z))
     where
       go :
-          (rest : List Valued) → whole ≡ past ++ extract target ws rest → Ordered rest → OwnWorth target rest
+          (rest : List Valued) → whole ≡ past ++ extract gate target ws rest → Ordered rest → OwnWorth gate target rest
           → ((u : Valued) → List·Memᴰ u rest → List·Memᴰ u chosen) → ((u : Valued) → List·Memᴰ u rest → i ≤ u .ride .board)
-          → ((u : Valued) → List·Memᴰ u chosen → i ≤ u .ride .board → List·Memᴰ u rest) → List·Memᴰ v rest → Taken target whole chosen ws past i v
+          → ((u : Valued) → List·Memᴰ u chosen → i ≤ u .ride .board → List·Memᴰ u rest) → List·Memᴰ v rest → Taken gate target whole chosen ws past i v
       go [] e o w among later left m = absurd (List·Memᴰ·not-nil m)
       go (x ∷ vs) e (ahead before o) (own.ahead moves worth on w) among later left m =
           let same : v ≡ x = head-or-later (v ≡ x) m (λ q. q)
           (λ n. absurd (let z : ⊥ = omega (arith, before v n .rows, later x (List·Memᴰ·head refl)) in z)) in
-          subst (λ (y : Valued). Taken target whole chosen ws past i y) (sym same)
+          subst (λ (y : Valued). Taken gate target whole chosen ws past i y) (sym same)
           (let there : x .ride .board ≡ i = sym (ap (λ (y : Valued). y .ride .board) same) ∙ here in
           let wants : wanted ws (x .ride) ≡ true = subst (λ (y : Valued). wanted ws (y .ride) ≡ true) same want in
           let behind : (u : Valued) → List·Memᴰ u chosen → i < u .ride .board → List·Memᴰ u vs =
@@ -129,9 +129,9 @@ module _ (target : ℕ) (whole chosen : List Valued) where
                   splits =
                       e
                       ∙ ap (λ l. past ++ l)
-                      (on-taking target (extract target ws (x ∷ vs) ≡ x ∷ extract target (windowsOf target (x .ride) vs ++ ws) vs) ws x vs (λ _ t. t)
+                      (on-taking gate target (extract gate target ws (x ∷ vs) ≡ x ∷ extract gate target (windowsOf gate target (x .ride) vs ++ ws) vs) ws x vs (λ _ t. t)
                       (λ p _. absurd (false≢true (sym p ∙ wants))))
-                      ∙ sym (append-assoc past (x ∷ []) (extract target (windowsOf target (x .ride) vs ++ ws) vs));
+                      ∙ sym (append-assoc past (x ∷ []) (extract gate target (windowsOf gate target (x .ride) vs ++ ws) vs));
                   ordered = o;
                   own-worth = w;
                   among = λ u n. among u (List·Memᴰ·tail n);
@@ -147,12 +147,12 @@ module _ (target : ℕ) (whole chosen : List Valued) where
 
   -- behind the last chosen row nothing is left
   pub going-end :
-      {ws : List Window} {past : List Valued} {i : ℕ} → Going target whole chosen ws past i
+      {ws : List Window} {past : List Valued} {i : ℕ} → Going gate target whole chosen ws past i
       → ((v : Valued) → List·Memᴰ v chosen → v .ride .board < i) → whole ≡ past
   unfolding extract
   going-end {ws} {past} {i} g all = go (g .rest) (g .splits) (g .among) (g .later)
     where
-      go : (rest : List Valued) → whole ≡ past ++ extract target ws rest → ((v : Valued) → List·Memᴰ v rest → List·Memᴰ v chosen)
+      go : (rest : List Valued) → whole ≡ past ++ extract gate target ws rest → ((v : Valued) → List·Memᴰ v rest → List·Memᴰ v chosen)
           → ((v : Valued) → List·Memᴰ v rest → i ≤ v .ride .board) → whole ≡ past
       go [] e among later = e ∙ append-nil past
       go (v ∷ vs) e among later =

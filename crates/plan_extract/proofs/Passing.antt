@@ -17,22 +17,22 @@ use Rattle.plan_cells.proofs.Outside.{set-cell}
 use Rattle.plan_extract.specs.Marks.{Caught, Catching, Passed, AllPassed}
 
 -- what the test of an entry's departure says
-pub missed : (landing key departure : ℕ) (opened : Bool) → opened ≡ leb landing departure → departure ≡ key / keyStep → not opened ≡ true
-    → key / keyStep < landing
-missed landing key departure opened test departs shut =
-    subst (λ k. k < landing) departs (leb-false landing departure (sym test ∙ not-true opened shut))
+pub missed : (last key departure : ℕ) (opened : Bool) → opened ≡ leb last departure → departure ≡ key / keyStep → not opened ≡ true
+    → key / keyStep < last
+missed last key departure opened test departs shut =
+    subst (λ k. k < last) departs (leb-false last departure (sym test ∙ not-true opened shut))
 
-pub reached : (landing key departure : ℕ) (opened : Bool) → opened ≡ leb landing departure → departure ≡ key / keyStep → not opened ≡ false
-    → landing ≤ key / keyStep
-reached landing key departure opened test departs shut =
-    subst (λ k. landing ≤ k) departs (leb-true landing departure (sym test ∙ not-false opened shut))
+pub reached : (last key departure : ℕ) (opened : Bool) → opened ≡ leb last departure → departure ≡ key / keyStep → not opened ≡ false
+    → last ≤ key / keyStep
+reached last key departure opened test departs shut =
+    subst (λ k. last ≤ k) departs (leb-true last departure (sym test ∙ not-false opened shut))
 
 -- one entry more
 passed-on :
-    {old new : List ℕ} {start size arrival landing place : ℕ} → Passed old new start size arrival landing (suc place)
-    → Caught old start size arrival landing place → entryRow old start place < length old
-    → Passed old (set new (entryRow old start place) 1) start size arrival landing place
-passed-on {old} {new} {start} {size} {arrival} {landing} {place} p caught inside =
+    {old new : List ℕ} {start size soon last place : ℕ} → Passed old new start size soon last (suc place)
+    → Caught old start size soon last place → entryRow old start place < length old
+    → Passed old (set new (entryRow old start place) 1) start size soon last place
+passed-on {old} {new} {start} {size} {soon} {last} {place} p caught inside =
     let row = entryRow old start place in
     let fits : row < length new = omega (arith, p .same-length) in
     record {
@@ -44,19 +44,19 @@ passed-on {old} {new} {start} {size} {arrival} {landing} {place} p caught inside
           ⊎-elim (λ same. absurd (apart (ap (entryRow old start) same))) (λ above. p .marked k above c) (eq-or-lt-of-le h));
       only =
           λ i.
-          set-cell (λ x. (x ≡ getD old i 0) ⊎ ((k : ℕ) × Caught old start size arrival landing k × (i ≡ entryRow old start k))) new row i 1 fits
+          set-cell (λ x. (x ≡ getD old i 0) ⊎ ((k : ℕ) × Caught old start size soon last k × (i ≡ entryRow old start k))) new row i 1 fits
           (λ here. inr (place, caught, sym here)) (λ _. p .only i);
     }
 
 -- the loop is at this entry, and has passed those above it
-pub record Down (old new : List ℕ) (start size arrival landing entry key : ℕ) : Type 0 where
+pub record Down (old new : List ℕ) (start size soon last entry key : ℕ) : Type 0 where
   pub place : ℕ
   pub stands : entry ≡ start + 2 * place
   pub key-is : key ≡ getD old (start + 2 * place) 0
-  pub caught : Caught old start size arrival landing place
-  pub passed : Passed old new start size arrival landing (suc place)
+  pub caught : Caught old start size soon last place
+  pub passed : Passed old new start size soon last (suc place)
 
-module _ (work : List ℕ) (land arrival landing : ℕ) (c : Catching work land arrival landing) where
+module _ (work : List ℕ) (land soon last : ℕ) (c : Catching work land soon last) where
   abbrev start : ℕ
   start = stackStart work land
 
@@ -64,14 +64,14 @@ module _ (work : List ℕ) (land arrival landing : ℕ) (c : Catching work land 
   size = stackSize work land
 
   -- the stack as the code finds it
-  pub falling-there : {from count : ℕ} → from ≡ start → count ≡ size → Falling work from count arrival
+  pub falling-there : {from count : ℕ} → from ≡ start → count ≡ size → Falling work from count soon
   falling-there {from} {count} e n =
-      subst (λ k. Falling work k count arrival) (sym e) (subst (λ k. Falling work start k arrival) (sym n) (c .falling))
+      subst (λ k. Falling work k count soon) (sym e) (subst (λ k. Falling work start k soon) (sym n) (c .falling))
 
-  pub down-first : {from count at : ℕ} → from ≡ start → count ≡ size → FirstOpenAt work from count arrival at
-      → Down work work start size arrival landing at (getD work at 0)
+  pub down-first : {from count at : ℕ} → from ≡ start → count ≡ size → FirstOpenAt work from count soon at
+      → Down work work start size soon last at (getD work at 0)
   down-first {from} {count} {at} e n found =
-      let f = subst (λ k. FirstOpenAt work start k arrival at) n (subst (λ k. FirstOpenAt work k count arrival at) e found) in
+      let f = subst (λ k. FirstOpenAt work start k soon at) n (subst (λ k. FirstOpenAt work k count soon at) e found) in
       record {
         place = f .place;
         stands = f .stands;
@@ -86,7 +86,7 @@ module _ (work : List ℕ) (land arrival landing : ℕ) (c : Catching work land 
       }
 
   -- the marks stand ahead of the stacks
-  pub marks-only : {new : List ℕ} {place : ℕ} → Passed work new start size arrival landing place → SameOutside tripCells stopCells work new
+  pub marks-only : {new : List ℕ} {place : ℕ} → Passed work new start size soon last place → SameOutside tripCells stopCells work new
   marks-only p =
       record {
         same-length = p .same-length;
@@ -95,13 +95,13 @@ module _ (work : List ℕ) (land arrival landing : ℕ) (c : Catching work land 
             ⊎-elim (λ same. same) (λ k. absurd (let z : ⊥ = omega (arith, c .rows (k .0) (k .1 .inside), k .2) in z)) (p .only i);
       }
 
-  module _ {new : List ℕ} {entry key : ℕ} (d : Down work new start size arrival landing entry key) where
+  module _ {new : List ℕ} {entry key : ℕ} (d : Down work new start size soon last entry key) where
     row-is : key % keyStep ≡ entryRow work start (d .place)
     row-is = ap (λ k. k % keyStep) (d .key-is)
 
-    down-marked : (at : ℕ) → at ≡ key % keyStep → Passed work (set new at 1) start size arrival landing (d .place)
+    down-marked : (at : ℕ) → at ≡ key % keyStep → Passed work (set new at 1) start size soon last (d .place)
     down-marked at here =
-        subst (λ k. Passed work (set new k 1) start size arrival landing (d .place)) (sym (here ∙ row-is))
+        subst (λ k. Passed work (set new k 1) start size soon last (d .place)) (sym (here ∙ row-is))
         (let row = c .rows (d .place) (d .caught .inside) in
         passed-on (d .passed) (d .caught) (let z : entryRow work start (d .place) < length work = omega (arith, c .cells) in z))
 
@@ -109,17 +109,17 @@ module _ (work : List ℕ) (land arrival landing : ℕ) (c : Catching work land 
     departs-is = ap (λ k. k / keyStep) (d .key-is)
 
     -- an entry that departs too early is not the last
-    not-last : key / keyStep < landing → 1 ≤ d .place
+    not-last : key / keyStep < last → 1 ≤ d .place
     not-last early = go (d .place) departs-is
       where
         go : (p : ℕ) → key / keyStep ≡ entryDeparture work start p → 1 ≤ p
         go zero e = absurd (let z : ⊥ = omega (arith, c .safe) in z)
         go (suc p) e = omega arith
 
-    pub down-on : (at : ℕ) → at ≡ key % keyStep → key / keyStep < landing
-        → Down work (set new at 1) start size arrival landing (entry - 2) (getD (set new at 1) (entry - 2) 0)
+    pub down-on : (at : ℕ) → at ≡ key % keyStep → key / keyStep < last
+        → Down work (set new at 1) start size soon last (entry - 2) (getD (set new at 1) (entry - 2) 0)
     down-on at here early =
-        let marked : Passed work (set new at 1) start size arrival landing (d .place) = down-marked at here in
+        let marked : Passed work (set new at 1) start size soon last (d .place) = down-marked at here in
         let first : 1 ≤ d .place = not-last early in
         let below : entry - 2 ≡ start + 2 * (d .place - 1) = omega (arith, d .stands) in
         let next : suc (d .place - 1) ≡ d .place = omega arith in
@@ -139,12 +139,12 @@ module _ (work : List ℕ) (land arrival landing : ℕ) (c : Catching work land 
                     ⊎-elim (λ same. omega (arith, ap (entryDeparture work start) (sym next ∙ same), departs-is))
                     (λ higher. d .caught .needed k (let z : d .place < k = omega arith in z) h) (eq-or-lt-of-le above);
               };
-          passed = subst (λ p. Passed work (set new at 1) start size arrival landing p) (sym next) marked;
+          passed = subst (λ p. Passed work (set new at 1) start size soon last p) (sym next) marked;
         }
 
-    pub down-last : (at : ℕ) → at ≡ key % keyStep → landing ≤ key / keyStep → AllPassed work (set new at 1) land arrival landing
+    pub down-last : (at : ℕ) → at ≡ key % keyStep → last ≤ key / keyStep → AllPassed work (set new at 1) land soon last
     down-last at here opened =
-        let marked : Passed work (set new at 1) start size arrival landing (d .place) = down-marked at here in
+        let marked : Passed work (set new at 1) start size soon last (d .place) = down-marked at here in
         record {
           same-length = marked .same-length;
           marked =

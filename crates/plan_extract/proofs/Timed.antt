@@ -81,8 +81,8 @@ module _ (file : List ℕ) (s : SectionPlaces) (stand : FileReadable file s) (en
     pub ordered : Ordered (scanIn file s goal first end .chosen)
     ordered = subst (λ (l : List Valued). Ordered l) chosen-is (chosen-ordered aim timed timely first begins)
 
-    pub own-worth : OwnWorth (goal .target) (scanIn file s goal first end .chosen)
-    own-worth = subst (λ (l : List Valued). OwnWorth (goal .target) l) chosen-is (chosen-own timed timely goal first begins)
+    pub own-worth : OwnWorth (goal .gate) (goal .target) (scanIn file s goal first end .chosen)
+    own-worth = subst (λ (l : List Valued). OwnWorth (goal .gate) (goal .target) l) chosen-is (chosen-own timed timely goal first begins)
 
     pub known : (v : Valued) → List·Memᴰ v (scanIn file s goal first end .chosen) → Known goal first v
     known v m =

@@ -7,7 +7,7 @@ use native.Mathlib.Omega.{arith}
 use lib.ListN.{length, getD}
 use Rattle.timetable.specs.Timetable.{rowOf}
 use Rattle.timetable.specs.declared.Row.{Row}
-use Rattle.plans.specs.Rides.{landsBy}
+use Rattle.plans.specs.Rides.{landsBy, ready}
 use Rattle.plans.specs.Worth.{Valued}
 use Rattle.plans.proofs.Order.{Ordered}
 use Rattle.plan_cells.specs.Cells.{tripCells, stopCells, pairCells, used}
@@ -30,7 +30,7 @@ abbrev pub AtRow :
     {file : List ℕ} {s : SectionPlaces} {goal : Goal} {boarding end : ℕ} {work₀ : List ℕ} → PlanAhead file s goal boarding end work₀
     → (plan₀ work plan : List ℕ) (rides last i : ℕ) → Type 0
 AtRow {file} {s} {goal} {end = end} p plan₀ work plan rides last i =
-    Writing (goal .target) (s .rows) (ridesAhead p) (scanIn file s goal (p .first) end .chosen) plan₀ work plan rides last i
+    Writing (goal .gate) (goal .target) (s .rows) (ridesAhead p) (scanIn file s goal (p .first) end .chosen) plan₀ work plan rides last i
 
 -- what is known there, if the row is marked
 pub record Turn (file : List ℕ) (s : SectionPlaces) (tables : List ℕ) (goal : Goal) (boarding end : ℕ) (work₀ : List ℕ)
@@ -96,15 +96,16 @@ module _ {file : List ℕ} {s : SectionPlaces} {tables : List ℕ} {goal : Goal}
         pub landing-fits : row .arrival + delay < 65536
         landing-fits = omega (arith, landing-is, on-board .minute)
 
-        -- away from the target the stack there is met
-        pub met : row .land ≢ goal .target → Catching work (row .land) (row .arrival) (row .arrival + delay)
-        met away =
+        -- away from the gate target the stack there is met
+        pub met : row .land ≢ goal .target → {soon by : ℕ} → soon ≡ ready (goal .gate) (row .arrival)
+            → by ≡ ready (goal .gate) (row .arrival + delay) → Catching work (row .land) soon by
+        met away {soon} {by} first-ready last-ready =
             let v = found .0 in
             let stop = on-board .stop in
             let safe = lands (t .at-row) in-order v (found .1) (found .2) within-rows (t .mark) (λ e. away (sym to-is ∙ e)) in
-            subst (λ k. Catching work (row .land) (row .arrival) k) (sym landing-is)
-            (subst (λ k. Catching work (row .land) k (landsBy (v .ride))) arrives-is
-            (subst (λ k. Catching work k (v .ride .arrives) (landsBy (v .ride))) to-is
+            subst (λ k. Catching work (row .land) soon k) (sym (last-ready ∙ ap (ready (goal .gate)) landing-is))
+            (subst (λ k. Catching work (row .land) k (ready (goal .gate) (landsBy (v .ride)))) (ap (ready (goal .gate)) arrives-is ∙ sym first-ready)
+            (subst (λ k. Catching work k (ready (goal .gate) (v .ride .arrives)) (ready (goal .gate) (landsBy (v .ride)))) to-is
             (catching (safe .1) work (held-still .stack-holds (v .ride .to) stop) (held-still .climbing (v .ride .to) stop) (s .rows) stop
             (omega (arith, t .kept .same-length, t .cells))
             (omega (arith, t .kept .same-length, t .cells, held-still .stack-inside (v .ride .to) stop)) (t .stand .few-rows)
@@ -126,14 +127,15 @@ module _ {file : List ℕ} {s : SectionPlaces} {tables : List ℕ} {goal : Goal}
               writing-arrived (t .at-row) in-order (found .0) (found .1) (found .2) within-rows (t .mark) room-left plan' ride-laid last'
               (later ∙ ap (max last) landing-is) (to-is ∙ there)
 
-          pub changed : row .land ≢ goal .target → (new : List ℕ) → AllPassed work new (row .land) (row .arrival) (row .arrival + delay)
+          pub changed : row .land ≢ goal .target → {soon by : ℕ} → soon ≡ ready (goal .gate) (row .arrival)
+              → by ≡ ready (goal .gate) (row .arrival + delay) → (new : List ℕ) → AllPassed work new (row .land) soon by
               → AtRow p plan₀ new plan' (rides + 1) last' (i + 1)
-          changed away new passed =
+          changed away {soon} {by} first-ready last-ready new passed =
               let v = found .0 in
               let stop = on-board .stop in
               writing-changed (t .at-row) in-order v (found .1) (found .2) within-rows (t .mark) room-left plan' ride-laid last'
               (later ∙ ap (max last) landing-is) (λ e. away (sym to-is ∙ e)) (held-still .stack-holds (v .ride .to) stop)
               (held-still .climbing (v .ride .to) stop) new
-              (subst (λ k. AllPassed work new k (v .ride .arrives) (landsBy (v .ride))) (sym to-is)
-              (subst (λ k. AllPassed work new (row .land) k (landsBy (v .ride))) (sym arrives-is)
-              (subst (λ k. AllPassed work new (row .land) (row .arrival) k) landing-is passed)))
+              (subst (λ k. AllPassed work new k (ready (goal .gate) (v .ride .arrives)) (ready (goal .gate) (landsBy (v .ride)))) (sym to-is)
+              (subst (λ k. AllPassed work new (row .land) k (ready (goal .gate) (landsBy (v .ride)))) (first-ready ∙ ap (ready (goal .gate)) (sym arrives-is))
+              (subst (λ k. AllPassed work new (row .land) soon k) (last-ready ∙ ap (ready (goal .gate)) landing-is) passed)))

@@ -9,7 +9,7 @@ use native.Mathlib.Omega.{arith}
 use lib.ListN.{length, getD}
 use Rattle.laws.proofs.Options.{same-thing}
 use Rattle.laws.proofs.Tests.{ifb, either}
-use Rattle.plans.specs.Rides.{Ride, landsBy, boards}
+use Rattle.plans.specs.Rides.{Ride, landsBy, boards, ready}
 use Rattle.plans.specs.Worth.{Valued}
 use Rattle.plans.specs.Plan.{Window, inWindow, wanted, upTo, windowsOf, latestOf}
 use Rattle.plans.proofs.Extracted.{up-to-wants, window-boards, window-until}
@@ -39,10 +39,10 @@ same-row chosen o u v m n e =
     (λ b. absurd (let z : ⊥ = omega (arith, b .rows) in z))
 
 -- at row i: what is written so far and what the windows still take are the whole plan
-pub record Writing (target n : ℕ) (whole chosen : List Valued) (plan₀ work plan : List ℕ) (rides last i : ℕ) : Type 0 where
+pub record Writing (gate target n : ℕ) (whole chosen : List Valued) (plan₀ work plan : List ℕ) (rides last i : ℕ) : Type 0 where
   pub windows : List Window
   pub past : List Valued
-  pub going : Going target whole chosen windows past i
+  pub going : Going gate target whole chosen windows past i
   pub marking : Marking work n chosen windows
   pub plan-is : plan ≡ over (written past) plan₀
   pub rides-is : rides ≡ length past
@@ -79,17 +79,17 @@ module _ (chosen : List Valued) (ordered : Ordered chosen) {boarding : ℕ} (f :
       ⊎-elim (λ q. sym (same ∙ q))
       (λ b. absurd (let z : ⊥ = omega (arith, ap (λ (x : Valued). x .ride .departs) same, b .apart from) in z)) (found .2)
 
-  module _ (target n : ℕ) (own-worth : OwnWorth target chosen) (plan work : List ℕ) (alone : MarkedAlone work n boarding) where
-    going-to : (k : ℕ) → k ≤ boarding → Going target (planFrom target f) chosen start [] k
-    going-to zero h = going-start target (planFrom target f) chosen start ordered own-worth refl
+  module _ (gate target n : ℕ) (own-worth : OwnWorth gate target chosen) (plan work : List ℕ) (alone : MarkedAlone work n boarding) where
+    going-to : (k : ℕ) → k ≤ boarding → Going gate target (planFrom gate target f) chosen start [] k
+    going-to zero h = going-start gate target (planFrom gate target f) chosen start ordered own-worth refl
     going-to (suc k) h =
-        going-pass target (planFrom target f) chosen (going-to k (omega arith))
+        going-pass gate target (planFrom gate target f) chosen (going-to k (omega arith))
         (λ v m here. ifb (λ b. wanted start (v .ride) ≡ b → b ≡ false) (wanted start (v .ride))
         (λ _ e. absurd (let same = ap (λ (x : Valued). x .ride .board) (first-alone v m e) in let z : ⊥ = omega (arith, f .boards-at) in z))
         (λ _ _. refl) refl)
 
     -- nothing is written yet, and the first ride alone is wanted
-    pub writing-start : Writing target n (planFrom target f) chosen plan work plan 0 0 boarding
+    pub writing-start : Writing gate target n (planFrom gate target f) chosen plan work plan 0 0 boarding
     unfolding latestOf
     writing-start =
         record {
@@ -107,18 +107,18 @@ module _ (chosen : List Valued) (ordered : Ordered chosen) {boarding : ℕ} (f :
           last-is = refl;
         }
 
-module _ {target n : ℕ} {whole chosen : List Valued} {plan₀ work plan : List ℕ} {rides last i : ℕ}
-    (w : Writing target n whole chosen plan₀ work plan rides last i) where
+module _ {gate target n : ℕ} {whole chosen : List Valued} {plan₀ work plan : List ℕ} {rides last i : ℕ}
+    (w : Writing gate target n whole chosen plan₀ work plan rides last i) where
   -- a row that is not marked is passed
-  pub writing-pass : getD work i 0 ≢ 1 → Writing target n whole chosen plan₀ work plan rides last (i + 1)
+  pub writing-pass : getD work i 0 ≢ 1 → Writing gate target n whole chosen plan₀ work plan rides last (i + 1)
   writing-pass unset =
       let next : suc i ≡ i + 1 = omega arith in
       record {
         windows = w .windows;
         past = w .past;
         going =
-            subst (λ k. Going target whole chosen (w .windows) (w .past) k) next
-            (going-pass target whole chosen (w .going) (unmarked (w .marking) i unset));
+            subst (λ k. Going gate target whole chosen (w .windows) (w .past) k) next
+            (going-pass gate target whole chosen (w .going) (unmarked (w .marking) i unset));
         marking = w .marking;
         plan-is = w .plan-is;
         rides-is = w .rides-is;
@@ -133,7 +133,7 @@ module _ {target n : ℕ} {whole chosen : List Valued} {plan₀ work plan : List
   pub writing-end : ((v : Valued) → List·Memᴰ v chosen → v .ride .board < i)
       → (plan ≡ over (written whole) plan₀) × (rides ≡ length whole) × (last ≡ latestOf whole)
   writing-end all =
-      let same : w .past ≡ whole = sym (going-end target whole chosen (w .going) all) in
+      let same : w .past ≡ whole = sym (going-end gate target whole chosen (w .going) all) in
       (w .plan-is ∙ ap (λ l. over (written l) plan₀) same, w .rides-is ∙ ap length same, w .last-is ∙ ap latestOf same)
 
   pub plan-length : 3 * rides ≤ length plan₀ → length plan ≡ length plan₀
@@ -148,11 +148,11 @@ module _ {target n : ℕ} {whole chosen : List Valued} {plan₀ work plan : List
         let same = same-row chosen ordered (found .0) v (found .1) member (found .2 ∙ sym here) in
         subst (λ (u : Valued). wanted (w .windows) (u .ride) ≡ true) same (found .3)
 
-    pub taken : Taken target whole chosen (w .windows) (w .past) i v
-    taken = going-take target whole chosen (w .going) v member here is-wanted
+    pub taken : Taken gate target whole chosen (w .windows) (w .past) i v
+    taken = going-take gate target whole chosen (w .going) v member here is-wanted
 
-    -- it lands away from the target, and can be followed
-    pub lands : v .ride .to ≢ target → (safe : Valued) × Lands chosen (taken .behind) v safe
+    -- it lands away from the gate target, and can be followed
+    pub lands : v .ride .to ≢ target → (safe : Valued) × Lands gate chosen (taken .behind) v safe
     lands away =
         let found = taken .safe away in (
           found .0,
@@ -169,15 +169,15 @@ module _ {target n : ℕ} {whole chosen : List Valued} {plan₀ work plan : List
 
     module _ (room : 3 * suc rides ≤ length plan₀) (plan' : List ℕ) (laid : plan' ≡ withRide plan rides (v .ride .board) (v .ride .leave) (v .worth))
         (last' : ℕ) (later : last' ≡ max last (landsBy (v .ride))) where
-      writing-with : (new : List ℕ) → Marking new n chosen (windowsOf target (v .ride) (taken .behind) ++ w .windows)
-          → Writing target n whole chosen plan₀ new plan' (rides + 1) last' (i + 1)
+      writing-with : (new : List ℕ) → Marking new n chosen (windowsOf gate target (v .ride) (taken .behind) ++ w .windows)
+          → Writing gate target n whole chosen plan₀ new plan' (rides + 1) last' (i + 1)
       writing-with new marks =
           let next : suc i ≡ i + 1 = omega arith in
           record {
-            windows = windowsOf target (v .ride) (taken .behind) ++ w .windows;
+            windows = windowsOf gate target (v .ride) (taken .behind) ++ w .windows;
             past = w .past ++ v ∷ [];
             going =
-                subst (λ k. Going target whole chosen (windowsOf target (v .ride) (taken .behind) ++ w .windows) (w .past ++ v ∷ []) k) next
+                subst (λ k. Going gate target whole chosen (windowsOf gate target (v .ride) (taken .behind) ++ w .windows) (w .past ++ v ∷ []) k) next
                 (taken .going);
             marking = marks;
             plan-is =
@@ -188,15 +188,15 @@ module _ {target n : ℕ} {whole chosen : List Valued} {plan₀ work plan : List
             last-is = later ∙ ap (λ k. max k (landsBy (v .ride))) (w .last-is) ∙ sym (latest-more (w .past) v);
           }
 
-      -- it ends at the target, and leads no further
-      pub writing-arrived : v .ride .to ≡ target → Writing target n whole chosen plan₀ work plan' (rides + 1) last' (i + 1)
+      -- it ends at the gate target, and leads no further
+      pub writing-arrived : v .ride .to ≡ target → Writing gate target n whole chosen plan₀ work plan' (rides + 1) last' (i + 1)
       writing-arrived there =
           writing-with work
-          (subst (λ (l : List Window). Marking work n chosen l) (sym (none-more target (v .ride) (taken .behind) (w .windows) there)) (w .marking))
+          (subst (λ (l : List Window). Marking work n chosen l) (sym (none-more gate target (v .ride) (taken .behind) (w .windows) there)) (w .marking))
 
       -- it lands elsewhere, and those that can be caught there are marked
       pub writing-changed : (away : v .ride .to ≢ target) → StackHolds work (v .ride .to) chosen → Climbing (v .ride .to) chosen → (new : List ℕ)
-          → AllPassed work new (v .ride .to) (v .ride .arrives) (landsBy (v .ride))
-          → Writing target n whole chosen plan₀ new plan' (rides + 1) last' (i + 1)
+          → AllPassed work new (v .ride .to) (ready gate (v .ride .arrives)) (ready gate (landsBy (v .ride)))
+          → Writing gate target n whole chosen plan₀ new plan' (rides + 1) last' (i + 1)
       writing-changed away holds climbing new passed =
           writing-with new (marking-on (lands away .1) work holds climbing target n (w .windows) new away (w .marking) passed)

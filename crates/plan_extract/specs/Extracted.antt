@@ -10,7 +10,7 @@ use Rattle.plans.specs.declared.Goal.{Goal}
 use Rattle.plan_rows.specs.declared.SectionPlaces.{SectionPlaces}
 use Rattle.plan_scan.specs.Scanned.{scanIn, ScanHeld}
 
--- the first chosen ride that one who stands at a stop at a minute can board: it boards at row `boarding`
+-- the first chosen ride that one who is ready at a stop at a minute can board: it boards at row `boarding`
 pub record FirstRide (chosen : List Valued) (boarding : ℕ) : Type 0 where
   pub stop : ℕ
   pub minute : ℕ
@@ -20,8 +20,8 @@ pub record FirstRide (chosen : List Valued) (boarding : ℕ) : Type 0 where
   pub boards-at : ride .ride .board ≡ boarding
 
 -- that ride, and what it leads to
-abbrev pub planFrom : (target : ℕ) {chosen : List Valued} {boarding : ℕ} → FirstRide chosen boarding → List Valued
-planFrom target {chosen} f = extract target (upTo (f .stop) (f .minute) (some (f .ride))) chosen
+abbrev pub planFrom : (gate target : ℕ) {chosen : List Valued} {boarding : ℕ} → FirstRide chosen boarding → List Valued
+planFrom gate target {chosen} f = extract gate target (upTo (f .stop) (f .minute) (some (f .ride))) chosen
 
 -- the cells after the scan of the rows from some row to before `end`, and the first ride of a plan among those chosen there
 pub record PlanAhead (file : List ℕ) (s : SectionPlaces) (goal : Goal) (boarding end : ℕ) (work : List ℕ) : Type 0 where
@@ -33,4 +33,4 @@ pub record PlanAhead (file : List ℕ) (s : SectionPlaces) (goal : Goal) (boardi
 -- the rides of that plan
 abbrev pub ridesAhead :
     {file : List ℕ} {s : SectionPlaces} {goal : Goal} {boarding end : ℕ} {work : List ℕ} → PlanAhead file s goal boarding end work → List Valued
-ridesAhead {goal = goal} p = planFrom (goal .target) (p .begins)
+ridesAhead {goal = goal} p = planFrom (goal .gate) (goal .target) (p .begins)

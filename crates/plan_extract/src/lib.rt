@@ -1,7 +1,8 @@
-// Document 01, "Expected arrival in ticks": the plan, by one pass forward over the wanted rows.
+// Document 01, "Expected arrival in ticks", and document 02, E3: the plan, by one pass forward over the wanted rows.
 ghost use mathlib.Core.Path.{_≡_};
 ghost use Prim.Native.Nat.{_+_, _*_, _≤_, _<_, max};
 ghost use lib.ListN.{length, getD};
+ghost use Rattle.query.specs.Query.{mostGate};
 ghost use Rattle.plans.specs.Plan.{latestOf};
 ghost use Rattle.plan_cells.specs.Cells.{tripCells, used, pairCells};
 ghost use Rattle.plan_cells.specs.Outside.{SameOutside};
@@ -20,6 +21,7 @@ use plan_rows::MAX_DELAY;
 use plan_rows::SectionPlaces;
 use plan_rows::can_board;
 use plan_rows::nth_row;
+use plan_rows::ready;
 use plan_slice::write_ride;
 use plan_stacks::departure_of;
 use plan_stacks::first_open;
@@ -46,7 +48,7 @@ pub fn write_plan(
 ) -> Written
     requires { ⌜ FileReadable (now file) s × TablesHeld (now tables) (tablesIn (now file) s) × (end ≤ s .rows)
         × (used (s .rows) ≤ length (now work)) × (3 * s .rows ≤ length (now plan))
-        × PlanAhead (now file) s goal boarding end (now work) ⌝ }
+        × PlanAhead (now file) s goal boarding end (now work) × (goal .gate ≤ mostGate) ⌝ }
     ensures { λ r. ⌜ ((p : PlanAhead (now (file .entry)) s goal boarding end (now (work .entry)))
         → (now (plan .exit) ≡ over (written (ridesAhead p)) (now (plan .entry)))
         × (r .rides ≡ length (ridesAhead p)) × (r .latest ≡ latestOf (ridesAhead p)))
@@ -70,7 +72,8 @@ fn write_wanted(
 ) -> Written
     requires { ⌜ FileReadable (now file) s × TablesHeld (now tables) (tablesIn (now file) s) × (end ≤ s .rows)
         × (used (s .rows) ≤ length (now work)) × (3 * s .rows ≤ length (now plan))
-        × PlanAhead (now file) s goal boarding end (now work) × MarkedAlone (now work) (s .rows) boarding ⌝ }
+        × PlanAhead (now file) s goal boarding end (now work) × MarkedAlone (now work) (s .rows) boarding
+        × (goal .gate ≤ mostGate) ⌝ }
     ensures { λ r. ⌜ ((p : PlanAhead (now (file .entry)) s goal boarding end (now (work .entry)))
         → (now (plan .exit) ≡ over (written (ridesAhead p)) (now (plan .entry)))
         × (r .rides ≡ length (ridesAhead p)) × (r .latest ≡ latestOf (ridesAhead p)))
@@ -89,7 +92,8 @@ fn write_wanted(
             rides += 1;
             latest = later(latest, landing);
             if row.land != goal.target {
-                want(row.land, row.arrival, landing, work);
+                let soon = ready(goal.gate, row.arrival);
+                want(row.land, soon, ready(goal.gate, landing), work);
             }
         }
     }
@@ -121,16 +125,16 @@ fn write_row(board: usize, ride: usize, work: &[u32], plan: &mut [u32]) -> usize
     number(leave)
 }
 
-// After a ride that lands at `land` from `arrival` to `landing`: the rows that can be caught are wanted, up
-// to and including the first that departs at or after `landing`.
-fn want(land: usize, arrival: usize, landing: usize, work: &mut [u32])
-    requires { ⌜ Catching (now work) land arrival landing ⌝ }
-    ensures { λ r. ⌜ AllPassed (now (work .entry)) (now (work .exit)) land arrival landing ⌝ }
+// After a ride to `land` from where one is ready from `soon` to `last`: the rows that can be caught are wanted,
+// up to and including the first that departs at or after `last`.
+fn want(land: usize, soon: usize, last: usize, work: &mut [u32])
+    requires { ⌜ Catching (now work) land soon last ⌝ }
+    ensures { λ r. ⌜ AllPassed (now (work .entry)) (now (work .exit)) land soon last ⌝ }
 {
     let stack = stack_of(work, land);
-    let mut entry = first_open(work, stack, arrival);
+    let mut entry = first_open(work, stack, soon);
     let mut key = work[entry];
-    while !can_board(departure_of(key), landing) {
+    while !can_board(departure_of(key), last) {
         work[TRIP_CELLS + row_of(key)] = 1;
         entry -= 2;
         key = work[entry];

@@ -1,5 +1,5 @@
--- Getting off a row whose landing stop's stack is ready: what the stack answers, and what each way out is worth. Assumes nothing.
-use Prim.Native.Nat.{ℕ, suc, _+_, _-_, _*_, _≤_, _<_}
+-- Getting off a row whose landing stop's stack is there: what the stack answers, and what each way out is worth. Assumes nothing.
+use Prim.Native.Nat.{ℕ, suc, pred, _+_, _-_, _*_, _≤_, _<_}
 use mathlib.Core.Bool.{true, false}
 use mathlib.Core.List.{List, []}
 use mathlib.Core.Option.{none, some}
@@ -17,11 +17,13 @@ use Rattle.timetable.specs.declared.Row.{Row}
 use Rattle.plan_cells.specs.Cells.{cellOf, missing}
 use Rattle.plan_stacks.specs.Stacks.{stackStart, stackSize, Falling, FirstOpenAt, entryDeparture, entryWorth}
 use Rattle.plans.specs.declared.Goal.{Goal}
+use Rattle.plans.specs.Rides.{ready}
 use Rattle.plans.specs.Journeys.{within}
 use Rattle.timetable.specs.Ticks.{quotientUp}
 use Rattle.plans.specs.Worth.{Valued, firstOpen, caught, worthOr, weigh, arrivalWorth, changeWorth}
 use Rattle.plans.specs.Chosen.{offInTicks, whenSafe}
-use Rattle.plan_landing.specs.Landing.{Ready, rideOff}
+use Rattle.plans.proofs.Weighing.{weigh-ready}
+use Rattle.plan_landing.specs.Landing.{Landable, rideOff}
 use Rattle.plan_stacks.specs.Chosen.{EntryFits, atStop}
 use Rattle.plan_landing.specs.Boarding.{Boarding}
 use Rattle.plan_stacks.proofs.AtStop.{first-open-at-stop, caught-at-stop, at-stop-from, first-open-at, first-open-none, safe-at}
@@ -36,39 +38,39 @@ noRide =
       worth = 0;
     }
 
-module _ {row : Row} {tables work shares : List ℕ} {chosen : List Valued} (ready : Ready row tables work shares chosen) where
+module _ {row : Row} {tables work shares : List ℕ} {chosen : List Valued} (given : Landable row tables work shares chosen) where
   size-is : stackSize work (row .land) ≡ length (atStop (row .land) chosen)
-  size-is = stack-size work (stackStart work (row .land)) (stackSize work (row .land)) (atStop (row .land) chosen) (ready .stack-holds)
+  size-is = stack-size work (stackStart work (row .land)) (stackSize work (row .land)) (atStop (row .land) chosen) (given .stack-holds)
 
   -- a ride's place from the top and from the bottom
   fits : (down place : ℕ) → down + suc place ≡ stackSize work (row .land) → EntryFits (getD (atStop (row .land) chosen) down noRide)
   fits down place e =
-      ready .climbing .fits (getD (atStop (row .land) chosen) down noRide)
+      given .climbing .fits (getD (atStop (row .land) chosen) down noRide)
       (member-at (atStop (row .land) chosen) down noRide (omega (arith, size-is)))
 
   departs : (down place : ℕ) → down + suc place ≡ stackSize work (row .land)
       → entryDeparture work (stackStart work (row .land)) place ≡ getD (atStop (row .land) chosen) down noRide .ride .departs
   departs down place e =
-      departure-at work (stackStart work (row .land)) (stackSize work (row .land)) (atStop (row .land) chosen) (ready .stack-holds) down
+      departure-at work (stackStart work (row .land)) (stackSize work (row .land)) (atStop (row .land) chosen) (given .stack-holds) down
       place noRide e (fits down place e)
 
   worths : (down place : ℕ) → down + suc place ≡ stackSize work (row .land)
       → entryWorth work (stackStart work (row .land)) place ≡ getD (atStop (row .land) chosen) down noRide .worth
   worths down place e =
-      worth-at work (stackStart work (row .land)) (stackSize work (row .land)) (atStop (row .land) chosen) (ready .stack-holds) down
+      worth-at work (stackStart work (row .land)) (stackSize work (row .land)) (atStop (row .land) chosen) (given .stack-holds) down
       place noRide e
 
   falls : (k l : ℕ) → k < l → l < stackSize work (row .land)
       → entryDeparture work (stackStart work (row .land)) l < entryDeparture work (stackStart work (row .land)) k
   falls k l h below =
       let size = stackSize work (row .land) in
-      let rises = ready .climbing .climbs (size - suc l) (size - suc k) noRide (omega arith) (omega (arith, size-is)) in
+      let rises = given .climbing .climbs (size - suc l) (size - suc k) noRide (omega arith) (omega (arith, size-is)) in
       omega (arith, departs (size - suc k) k (omega arith), departs (size - suc l) l (omega arith))
 
   pub falling : (minute : ℕ) → 0 < stackSize work (row .land) → minute ≤ entryDeparture work (stackStart work (row .land)) 0
       → Falling work (stackStart work (row .land)) (stackSize work (row .land)) minute
   falling minute filled bottom =
-      record { some-entry = filled; inside = ready .stack-inside; falls = falls; bottom = bottom }
+      record { some-entry = filled; inside = given .stack-inside; falls = falls; bottom = bottom }
 
   -- no ride departs from there
   pub none-there : (minute : ℕ) → stackSize work (row .land) ≡ 0 → firstOpen chosen (row .land) minute ≡ none
@@ -100,9 +102,9 @@ module _ {row : Row} {tables work shares : List ℕ} {chosen : List Valued} (rea
       ∙ safe-at (atStop (row .land) chosen) (row .land) minute (size - 1) worth noRide inside
       (at-stop-from (row .land) chosen (size - 1) noRide inside) (omega (arith, departs (size - 1) 0 last))
 
-  module _ (at : ℕ) (found : FirstOpenAt work (stackStart work (row .land)) (stackSize work (row .land)) (row .arrival) at) where
-    -- rides above one have left at a minute from the landing on, if those down to the first one have
-    left : (k minute : ℕ) → row .arrival ≤ minute
+  module _ (from at : ℕ) (found : FirstOpenAt work (stackStart work (row .land)) (stackSize work (row .land)) from at) where
+    -- rides above one have left at a minute from the first on, if those down to the first one have
+    left : (k minute : ℕ) → from ≤ minute
         → ((l : ℕ) → k < l → l ≤ found .place → entryDeparture work (stackStart work (row .land)) l < minute)
         → (q : ℕ) → k < q → q < stackSize work (row .land) → entryDeparture work (stackStart work (row .land)) q < minute
     left k minute after missed q h below =
@@ -110,7 +112,7 @@ module _ {row : Row} {tables work shares : List ℕ} {chosen : List Valued} (rea
         (λ yes'. missed q h (leb-true q (found .place) yes'))
         (λ no'. lt-of-lt-of-le (found .missed q (leb-false q (found .place) no') below) after)
 
-    catches : (k minute : ℕ) → k ≤ found .place → row .arrival ≤ minute → minute ≤ entryDeparture work (stackStart work (row .land)) k
+    catches : (k minute : ℕ) → k ≤ found .place → from ≤ minute → minute ≤ entryDeparture work (stackStart work (row .land)) k
         → ((l : ℕ) → k < l → l ≤ found .place → entryDeparture work (stackStart work (row .land)) l < minute)
         → caught chosen (row .land) minute ≡ entryWorth work (stackStart work (row .land)) k
     unfolding caught worthOr
@@ -128,16 +130,16 @@ module _ {row : Row} {tables work shares : List ℕ} {chosen : List Valued} (rea
         subst (λ m. m < minute) (departs i (size - suc i) there) (left k minute after missed (size - suc i) (omega arith) (omega arith))))
         ∙ sym (worths down k place)
 
-    pub boarding : (landing : ℕ) → landing ≡ row .arrival + maximumDelay shares → landing ≤ entryDeparture work (stackStart work (row .land)) 0
-        → Boarding work tables (stackStart work (row .land)) (found .place) (row .arrival) landing (256 * row .class + 2) shares
+    pub boarding : (landing : ℕ) → landing ≡ from + maximumDelay shares → landing ≤ entryDeparture work (stackStart work (row .land)) 0
+        → Boarding work tables (stackStart work (row .land)) (found .place) from landing (256 * row .class + 2) shares
         (λ minute. caught chosen (row .land) minute)
     boarding landing lands late =
         let size = stackSize work (row .land) in
         record {
-          inside = omega (arith, ready .stack-inside, found .inside);
-          room = omega (arith, ready .tables-room, ready .class, ready .shares-fit .few-shares);
-          held = ready .block .cumulative-held;
-          shares-fit = ready .shares-fit;
+          inside = omega (arith, given .stack-inside, found .inside);
+          room = omega (arith, given .tables-room, given .class, given .shares-fit .few-shares);
+          held = given .block .cumulative-held;
+          shares-fit = given .shares-fit;
           lands = lands;
           falls = λ k l h below. falls k l h (omega (arith, found .inside));
           opens = omega (arith, found .opens);
@@ -151,9 +153,15 @@ module _ {row : Row} {tables work shares : List ℕ} {chosen : List Valued} (rea
   -- the expected delay in ticks is below that of the longest table
   pub expected-fits : 256 * row .arrival + getD tables (256 * row .class + 1) 0 < 4294967296
   expected-fits =
-      let mean = weigh-bound shares 0 254 (λ v. v) (λ v h. omega (arith, ready .shares-fit .few-shares)) in
-      let total : weigh shares 0 (λ v. v) ≤ 1040384 = omega (arith, ready .shares-fit .shares-whole) in
-      omega (arith, ready .lands, ready .block .expected-held)
+      let mean = weigh-bound shares 0 254 (λ v. v) (λ v h. omega (arith, given .shares-fit .few-shares)) in
+      let total : weigh shares 0 (λ v. v) ≤ 1040384 = omega (arith, given .shares-fit .shares-whole) in
+      omega (arith, given .lands, given .block .expected-held)
+
+  pub landing-small : (landing : ℕ) → landing ≡ row .arrival + maximumDelay shares → landing < 4294967296
+  landing-small landing lands = subst (λ m. m < 4294967296) (sym lands) (below (row .arrival) (length shares) (given .lands))
+    where
+      below : (a n : ℕ) → a + n ≤ 65536 → a + pred n < 4294967296
+      below a n h = omega arith
 
   module _ (goal : Goal) (landing : ℕ) (lands : landing ≡ row .arrival + maximumDelay shares) where
     pub off-late : row .land ≡ goal .target → within (goal .bound) landing ≡ false → missing ≡ cellOf (offInTicks goal (rideOff row shares) chosen)
@@ -167,33 +175,34 @@ module _ {row : Row} {tables work shares : List ℕ} {chosen : List Valued} (rea
         → 256 * row .arrival + getD tables (256 * row .class + 1) 0 ≡ cellOf (offInTicks goal (rideOff row shares) chosen)
     unfolding offInTicks arrivalWorth
     off-there there soon =
-        ap (λ x. 256 * row .arrival + x) (ready .block .expected-held)
+        ap (λ x. 256 * row .arrival + x) (given .block .expected-held)
         ∙ sym (ap cellOf
         (cond-true _ _ (eq-eqb (row .land) (goal .target) there)
         ∙ cond-true (some (arrivalWorth (rideOff row shares))) none (ap (within (goal .bound)) (sym lands) ∙ soon)))
 
     elsewhere : (row .land ≡ goal .target → ⊥)
         → offInTicks goal (rideOff row shares) chosen
-        ≡ whenSafe (firstOpen chosen (row .land) (row .arrival + maximumDelay shares)) (changeWorth (rideOff row shares) chosen)
+        ≡ whenSafe (firstOpen chosen (row .land) (ready (goal .gate) (row .arrival + maximumDelay shares))) (changeWorth (goal .gate) (rideOff row shares) chosen)
     unfolding offInTicks
     elsewhere other = cond-false _ _ (ne-eqb (row .land) (goal .target) other)
 
-    pub off-unsafe : (row .land ≡ goal .target → ⊥) → firstOpen chosen (row .land) landing ≡ none
+    pub off-unsafe : (row .land ≡ goal .target → ⊥) → firstOpen chosen (row .land) (ready (goal .gate) landing) ≡ none
         → missing ≡ cellOf (offInTicks goal (rideOff row shares) chosen)
     unfolding whenSafe
     off-unsafe other unsafe =
         sym (ap cellOf
         (elsewhere other
-        ∙ ap (λ m. whenSafe (firstOpen chosen (row .land) m) (changeWorth (rideOff row shares) chosen)) (sym lands)
-        ∙ ap (λ o. whenSafe o (changeWorth (rideOff row shares) chosen)) unsafe))
+        ∙ ap (λ m. whenSafe (firstOpen chosen (row .land) (ready (goal .gate) m)) (changeWorth (goal .gate) (rideOff row shares) chosen)) (sym lands)
+        ∙ ap (λ o. whenSafe o (changeWorth (goal .gate) (rideOff row shares) chosen)) unsafe))
 
     pub off-changing : (row .land ≡ goal .target → ⊥) → 0 < stackSize work (row .land)
-        → landing ≤ entryDeparture work (stackStart work (row .land)) 0
-        → quotientUp shareTotal (weigh shares (row .arrival) (λ minute. caught chosen (row .land) minute))
+        → ready (goal .gate) landing ≤ entryDeparture work (stackStart work (row .land)) 0
+        → quotientUp shareTotal (weigh shares (ready (goal .gate) (row .arrival)) (λ minute. caught chosen (row .land) minute))
         ≡ cellOf (offInTicks goal (rideOff row shares) chosen)
     unfolding changeWorth
     off-changing other filled late =
-        sym (ap cellOf
+        ap (quotientUp shareTotal) (weigh-ready shares (goal .gate) (row .arrival) (λ minute. caught chosen (row .land) minute))
+        ∙ sym (ap cellOf
         (elsewhere other
-        ∙ ap (λ m. whenSafe (firstOpen chosen (row .land) m) (changeWorth (rideOff row shares) chosen)) (sym lands)
-        ∙ safe-landing landing (changeWorth (rideOff row shares) chosen) filled late))
+        ∙ ap (λ m. whenSafe (firstOpen chosen (row .land) (ready (goal .gate) m)) (changeWorth (goal .gate) (rideOff row shares) chosen)) (sym lands)
+        ∙ safe-landing (ready (goal .gate) landing) (changeWorth (goal .gate) (rideOff row shares) chosen) filled late))

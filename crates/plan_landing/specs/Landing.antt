@@ -13,7 +13,7 @@ use Rattle.plan_stacks.specs.Chosen.{StackHolds, Climbing}
 use Rattle.plan_rows.specs.Reading.{tableCells, BlockHeld, SharesFit}
 
 -- what getting off a row needs: the class's block, and the stack of the landing stop within the lent cells
-pub record Ready (row : Row) (tables work : List ℕ) (shares : List ℕ) (chosen : List Valued) : Type 0 where
+pub record Landable (row : Row) (tables work : List ℕ) (shares : List ℕ) (chosen : List Valued) : Type 0 where
   pub land : row .land < mostStops
   pub class : row .class < mostClasses
   pub tables-room : length tables ≡ tableCells
@@ -25,11 +25,11 @@ pub record Ready (row : Row) (tables work : List ℕ) (shares : List ℕ) (chose
   pub stack-holds : StackHolds work (row .land) chosen
   pub climbing : Climbing (row .land) chosen
 
--- some shares and some chosen rides make a row ready
-pub record SomeReady (row : Row) (tables work : List ℕ) : Type 0 where
+-- some shares and some chosen rides make a row so
+pub record SomeLandable (row : Row) (tables work : List ℕ) : Type 0 where
   pub shares : List ℕ
   pub chosen : List Valued
-  pub ready : Ready row tables work shares chosen
+  pub given : Landable row tables work shares chosen
 
 -- the ride of one row, as getting off looks at it
 abbrev pub rideOff : Row → List ℕ → Ride

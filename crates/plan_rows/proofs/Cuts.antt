@@ -1,4 +1,4 @@
--- Planning looks at a part of the rows: not at those that depart before T, nor at those that depart at or after a real bound. The chosen rows of
+-- Planning looks at a part of the rows: not at those that depart before T + g, nor at those that depart at or after a real bound. The chosen rows of
 -- that part serve as all of them do. Uses that a sound timetable's departures rise and its rows land after they depart.
 use Prim.Native.Nat.{ℕ, suc, _≤_, _<_}
 use native.Mathlib.Nat.{le-refl}
@@ -20,7 +20,7 @@ use Rattle.query.specs.declared.Query.{Query}
 use Rattle.plans.specs.declared.Goal.{Goal}
 use Rattle.plans.specs.Sound.{Timely}
 use Rattle.plans.specs.Rides.{landsBy}
-use Rattle.plans.specs.Journeys.{goalOf, within}
+use Rattle.plans.specs.Journeys.{goalOf, within, readyAt}
 use Rattle.plans.specs.Worth.{Valued, firstOpen}
 use Rattle.plans.specs.Chosen.{Aim, inTicks, Scan, scan, bestOf, choose, nextOf, leastOf, getOff, stayOn, rowRide}
 use Rattle.plans.specs.Plan.{upTo, extract, ridesFrom, chosenFor}
@@ -133,7 +133,7 @@ module _ (t : Timetable) (timely : Timely t) where
     bound-idle end cut =
         worthless-idle (inTicks goal) t end (cut .inside) (λ i h below. past-bound i below (cut .behind i h below))
 
-  -- rows before T change nothing from T on
+  -- rows before a minute change nothing from it on
   module _ (aim : Aim) (minute first : ℕ) (cut : Cut (t .rows) minute first) where
     not-left : (i : ℕ) → i ≤ first → notLeft minute (chosenFrom aim t i) ≡ notLeft minute (chosenFrom aim t first)
     not-left =
@@ -156,13 +156,13 @@ module _ (t : Timetable) (timely : Timely t) where
         let picked = chosen-picked aim t i h v m in
         departs-before t timely (v .ride) (best-is-ride aim t (v .ride .board) (picked .inside) v (picked .best))
 
-    pub rides-same : (target stop : ℕ) (o : Option Valued)
-        → extract target (upTo stop minute o) (chosenFrom aim t 0) ≡ extract target (upTo stop minute o) (chosenFrom aim t first)
-    rides-same target stop o =
+    pub rides-same : (gate target stop : ℕ) (o : Option Valued)
+        → extract gate target (upTo stop minute o) (chosenFrom aim t 0) ≡ extract gate target (upTo stop minute o) (chosenFrom aim t first)
+    rides-same gate target stop o =
         let late = late-up-to minute stop minute o (le-refl minute) in
-        extract-left minute target (chosenFrom aim t 0) (lands-later 0 (omega arith)) (upTo stop minute o) late
-        ∙ ap (extract target (upTo stop minute o)) (not-left 0 (omega arith))
-        ∙ sym (extract-left minute target (chosenFrom aim t first) (lands-later first (cut .inside)) (upTo stop minute o) late)
+        extract-left minute gate target (chosenFrom aim t 0) (lands-later 0 (omega arith)) (upTo stop minute o) late
+        ∙ ap (extract gate target (upTo stop minute o)) (not-left 0 (omega arith))
+        ∙ sym (extract-left minute gate target (chosenFrom aim t first) (lands-later first (cut .inside)) (upTo stop minute o) late)
 
   -- for planning: the part's chosen rows stand for all of them
   pub part-first : (goal : Goal) (stop minute first end : ℕ) → Cut (t .rows) minute first → first ≤ end → Idle (inTicks goal) t end
@@ -172,7 +172,7 @@ module _ (t : Timetable) (timely : Timely t) where
       ∙ first-same (inTicks goal) minute first cut stop
       ∙ ap (λ (vs : List Valued). firstOpen vs stop minute) (sym (part-chosen (inTicks goal) t end idle first h))
 
-  pub part-rides : (q : Query) (bound first end : ℕ) → Cut (t .rows) (q .minute) first → first ≤ end
+  pub part-rides : (q : Query) (bound first end : ℕ) → Cut (t .rows) (readyAt q) first → first ≤ end
       → Idle (inTicks (goalOf q bound)) t end
       → ridesFrom q (chosenFor t (goalOf q bound)) ≡ ridesFrom q (scanPart (inTicks (goalOf q bound)) t first end .chosen)
   unfolding ridesFrom
@@ -180,9 +180,9 @@ module _ (t : Timetable) (timely : Timely t) where
       let aim = inTicks (goalOf q bound) in
       let whole = chosen-for t (goalOf q bound) in
       let part = part-chosen aim t end idle first h in
-      ap₂ (λ (o : Option Valued) (vs : List Valued). extract (q .target) (upTo (q .source) (q .minute) o) vs)
-      (part-first (goalOf q bound) (q .source) (q .minute) first end cut h idle) whole
-      ∙ rides-same aim (q .minute) first cut (q .target) (q .source)
-      (firstOpen (scanPart aim t first end .chosen) (q .source) (q .minute))
-      ∙ ap (extract (q .target) (upTo (q .source) (q .minute) (firstOpen (scanPart aim t first end .chosen) (q .source) (q .minute))))
+      ap₂ (λ (o : Option Valued) (vs : List Valued). extract (q .gate) (q .target) (upTo (q .source) (readyAt q) o) vs)
+      (part-first (goalOf q bound) (q .source) (readyAt q) first end cut h idle) whole
+      ∙ rides-same aim (readyAt q) first cut (q .gate) (q .target) (q .source)
+      (firstOpen (scanPart aim t first end .chosen) (q .source) (readyAt q))
+      ∙ ap (extract (q .gate) (q .target) (upTo (q .source) (readyAt q) (firstOpen (scanPart aim t first end .chosen) (q .source) (readyAt q))))
       (sym part)

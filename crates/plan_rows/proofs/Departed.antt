@@ -8,7 +8,7 @@ use mathlib.Core.Path.{_≡_, refl, sym, ap, ap₂, subst, _∙_}
 use lib.Dec.{leb, eqb}
 use borrow.Author.Tests.{leb-true, leb-false, eqb-true, lt-leb}
 use Rattle.laws.proofs.Tests.{ifb, both-right, cond-true, cond-false}
-use Rattle.plans.specs.Rides.{Ride, landsBy, boards}
+use Rattle.plans.specs.Rides.{Ride, landsBy, ready, boards}
 use Rattle.plans.specs.Worth.{Valued, firstOpen}
 use Rattle.plans.specs.Chosen.{Aim, others}
 use Rattle.plans.specs.Plan.{Window, inWindow, wanted, upTo, windowsOf, extract}
@@ -74,11 +74,11 @@ unfolding upTo
 late-up-to m stop minute none late = tt
 late-up-to m stop minute (some v) late = (late, tt)
 
-late-windows : (m target : ℕ) (r : Ride) (vs : List Valued) → m ≤ r .arrives → Late m (windowsOf target r vs)
+late-windows : (m gate target : ℕ) (r : Ride) (vs : List Valued) → m ≤ r .arrives → Late m (windowsOf gate target r vs)
 unfolding windowsOf
-late-windows m target r vs late =
-    ifb (λ b. Late m (cond b [] (upTo (r .to) (r .arrives) (firstOpen vs (r .to) (landsBy r))))) (eqb (r .to) target) (λ _. tt)
-    (λ _. late-up-to m (r .to) (r .arrives) (firstOpen vs (r .to) (landsBy r)) late)
+late-windows m gate target r vs late =
+    ifb (λ b. Late m (cond b [] (upTo (r .to) (ready gate (r .arrives)) (firstOpen vs (r .to) (ready gate (landsBy r)))))) (eqb (r .to) target) (λ _. tt)
+    (λ _. late-up-to m (r .to) (ready gate (r .arrives)) (firstOpen vs (r .to) (ready gate (landsBy r))) (omega arith))
 
 -- want none that has left
 unwanted : (m : ℕ) (ws : List Window) → Late m ws → (r : Ride) → r .departs < m → wanted ws r ≡ false
@@ -89,31 +89,31 @@ unwanted m (w ∷ ws) l r gone =
     ap₂ (λ (a b : Bool). a && leb (r .departs) (w .until) || b) shut (unwanted m ws (l .1) r gone)
 
 -- so the rides taken are the same
-module _ (m target : ℕ) where
+module _ (m gate target : ℕ) where
   taken-same : (ws : List Window) (v : Valued) (vs us : List Valued)
-      → firstOpen vs (v .ride .to) (landsBy (v .ride)) ≡ firstOpen us (v .ride .to) (landsBy (v .ride))
-      → ((ws' : List Window) → Late m ws' → extract target ws' vs ≡ extract target ws' us) → Late m ws → m ≤ v .ride .arrives
-      → extract target ws (v ∷ vs) ≡ extract target ws (v ∷ us)
+      → firstOpen vs (v .ride .to) (ready gate (landsBy (v .ride))) ≡ firstOpen us (v .ride .to) (ready gate (landsBy (v .ride)))
+      → ((ws' : List Window) → Late m ws' → extract gate target ws' vs ≡ extract gate target ws' us) → Late m ws → m ≤ v .ride .arrives
+      → extract gate target ws (v ∷ vs) ≡ extract gate target ws (v ∷ us)
   unfolding extract windowsOf
   taken-same ws v vs us first rest late lands =
       ap₂ (λ (a b : List Valued). cond (wanted ws (v .ride)) (v ∷ a) b)
-      (rest (windowsOf target (v .ride) vs ++ ws) (late-more m (windowsOf target (v .ride) vs) ws (late-windows m target (v .ride) vs lands) late)
-      ∙ ap (λ (o : Option Valued). extract target (cond (eqb (v .ride .to) target) [] (upTo (v .ride .to) (v .ride .arrives) o) ++ ws) us) first)
+      (rest (windowsOf gate target (v .ride) vs ++ ws) (late-more m (windowsOf gate target (v .ride) vs) ws (late-windows m gate target (v .ride) vs lands) late)
+      ∙ ap (λ (o : Option Valued). extract gate target (cond (eqb (v .ride .to) target) [] (upTo (v .ride .to) (ready gate (v .ride .arrives)) o) ++ ws) us) first)
       (rest ws late)
 
   pub extract-left : (vs : List Valued) → ((v : Valued) → List·Memᴰ v vs → v .ride .departs < v .ride .arrives) → (ws : List Window) → Late m ws
-      → extract target ws vs ≡ extract target ws (notLeft m vs)
+      → extract gate target ws vs ≡ extract gate target ws (notLeft m vs)
   unfolding notLeft extract
   extract-left [] forward ws late = refl
   extract-left (v ∷ vs) forward ws late =
-      ifb (λ b. leb m (v .ride .departs) ≡ b → extract target ws (v ∷ vs) ≡ extract target ws (cond b (v ∷ notLeft m vs) (notLeft m vs)))
+      ifb (λ b. leb m (v .ride .departs) ≡ b → extract gate target ws (v ∷ vs) ≡ extract gate target ws (cond b (v ∷ notLeft m vs) (notLeft m vs)))
       (leb m (v .ride .departs))
       (λ e _. taken-same ws v vs (notLeft m vs)
-      (sym (first-left m vs (v .ride .to) (landsBy (v .ride))
-      (let z : m ≤ landsBy (v .ride) = omega (arith, leb-true m (v .ride .departs) e, forward v (List·Memᴰ·head refl)) in z)))
+      (sym (first-left m vs (v .ride .to) (ready gate (landsBy (v .ride)))
+      (let z : m ≤ ready gate (landsBy (v .ride)) = omega (arith, leb-true m (v .ride .departs) e, forward v (List·Memᴰ·head refl)) in z)))
       (λ ws' l. extract-left vs (λ u k. forward u (List·Memᴰ·tail k)) ws' l) late
       (let z : m ≤ v .ride .arrives = omega (arith, leb-true m (v .ride .departs) e, forward v (List·Memᴰ·head refl)) in z))
       (λ e _. passed (leb-false m (v .ride .departs) e) ∙ extract-left vs (λ u k. forward u (List·Memᴰ·tail k)) ws late) refl
     where
-      passed : v .ride .departs < m → extract target ws (v ∷ vs) ≡ extract target ws vs
+      passed : v .ride .departs < m → extract gate target ws (v ∷ vs) ≡ extract gate target ws vs
       passed gone = cond-false _ _ (unwanted m ws late (v .ride) gone)

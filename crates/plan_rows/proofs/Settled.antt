@@ -13,6 +13,8 @@ use Rattle.laws.proofs.Outcomes.{SettlesResult}
 use Rattle.plan_rows.specs.Reading.{Cut}
 use Rattle.plan_rows.proofs.nth_row.Kinds as row-kinds
 use Rattle.plan_rows.proofs.nth_row.Reads as row-reads
+use Rattle.plan_rows.proofs.ready.Kinds as ready-kinds
+use Rattle.plan_rows.proofs.ready.Reads as ready-reads
 use Rattle.plan_rows.proofs.can_board.Kinds as can-board-kinds
 use Rattle.plan_rows.proofs.can_board.Reads as can-board-reads
 use Rattle.plan_rows.proofs.rows_before.Kinds as before-kinds
@@ -29,6 +31,9 @@ not-below rows minute first other one two =
 
 pub nth-row-settled : SettlesResult 1 row-kinds.ps row-kinds.r row-reads.Post
 nth-row-settled κs arguments one other ending another first second = first .0 ∙ sym (second .0)
+
+pub ready-settled : SettlesResult 0 ready-kinds.ps ready-kinds.r ready-reads.Post
+ready-settled κs arguments one other ending another first second = first ∙ sym second
 
 pub can-board-settled : SettlesResult 0 can-board-kinds.ps can-board-kinds.r can-board-reads.Post
 can-board-settled κs arguments one other ending another first second = first ∙ sym second

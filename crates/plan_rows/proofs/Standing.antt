@@ -15,7 +15,7 @@ use Rattle.file_layout.proofs.Sound.{version-one-readable}
 use Rattle.file_layout.specs.Sound.{blockAt, SoundFile}
 use Rattle.plans.specs.Sound.{Timely}
 use Rattle.query.specs.declared.Query.{Query}
-use Rattle.plans.specs.Journeys.{goalOf, boundOf}
+use Rattle.plans.specs.Journeys.{goalOf, boundOf, readyAt}
 use Rattle.plans.specs.Worth.{Valued, firstOpen}
 use Rattle.plans.specs.Chosen.{inTicks, scan, scanned}
 use Rattle.plans.specs.Plan.{planned, planBefore, planWithin, chosenFor, ridesFrom, latestOf, earliest}
@@ -57,9 +57,9 @@ before-same one other rows tables q none = refl
 before-same one other rows tables q (some e) =
     ap₂
     (λ (ts : List (List ℕ)) (rs : List Row).
-    planWithin one q (boundOf q e) (firstOpen (scan (inTicks (goalOf q (boundOf q e))) ts 0 rs .chosen) (q .source) (q .minute)))
+    planWithin one q (boundOf q e) (firstOpen (scan (inTicks (goalOf q (boundOf q e))) ts 0 rs .chosen) (q .source) (readyAt q)))
     tables rows
-    ∙ within-same one other rows tables q (boundOf q e) (firstOpen (chosenFor other (goalOf q (boundOf q e))) (q .source) (q .minute))
+    ∙ within-same one other rows tables q (boundOf q e) (firstOpen (chosenFor other (goalOf q (boundOf q e))) (q .source) (readyAt q))
 
 pub same-plan : (f : Format) (s : List ℕ) (q : Query) → planned (decode f s) q ≡ planned (timetableIn s (placesOf f (trailerOf f s))) q
 unfolding planned

@@ -1,9 +1,11 @@
 // A sound file's rows by their numbers, and when one can board.
 ghost use mathlib.Core.Path.{_≡_};
-ghost use Prim.Native.Nat.{_<_};
+ghost use Prim.Native.Nat.{_≤_, _<_};
 ghost use lib.Dec.{leb};
 ghost use Rattle.timetable.specs.Timetable.{rowOf};
 ghost use Rattle.file_layout.specs.Small.{SmallRow};
+ghost use Rattle.query.specs.Query.{mostGate};
+ghost use Rattle.plans.specs.Rides.{ready as readyFrom};
 ghost use Rattle.plan_rows.specs.Reading.{rowsIn, FileReadable, Cut};
 use file_layout::row_at;
 use timetable::Row;
@@ -36,7 +38,15 @@ pub fn nth_row(file: &[u8], s: SectionPlaces, i: usize) -> Row
     row_at(file, s.rowstart + s.width * i)
 }
 
-// One who stands at the stop at `minute` can board what departs there at `departure`.
+// When one who is at a stop from `minute` on is ready to board there.
+pub fn ready(gate: usize, minute: usize) -> usize
+    requires { ⌜ (gate ≤ mostGate) × (minute < 4294967296) ⌝ }
+    ensures { λ r. ⌜ r ≡ readyFrom gate minute ⌝ }
+{
+    minute + gate
+}
+
+// One who is ready at the stop at `minute` can board what departs there at `departure`.
 pub fn can_board(departure: usize, minute: usize) -> bool
     ensures { λ r. ⌜ r ≡ leb minute departure ⌝ }
 {

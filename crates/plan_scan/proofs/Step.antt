@@ -20,7 +20,7 @@ use Rattle.plan_stacks.specs.Stacks.{stackStart, stackSize, startPair}
 use Rattle.plan_rows.specs.declared.SectionPlaces.{SectionPlaces}
 use Rattle.plan_rows.specs.Reading.{rowsIn, tablesIn, FileReadable, TablesHeld, RowFits}
 use Rattle.plans.specs.declared.Goal.{Goal}
-use Rattle.plan_landing.specs.Landing.{Ready, rideOff}
+use Rattle.plan_landing.specs.Landing.{Landable, rideOff}
 use Rattle.plan_scan.specs.Stores.{stored, rowWorth, Weighs, Chose, Weighable, Pushable}
 use Rattle.plan_stacks.specs.Regions.{below}
 use Rattle.plan_scan.specs.Regions.{countAt}
@@ -84,9 +84,9 @@ module _ (file : List ℕ) (s : SectionPlaces) (goal : Goal) (first end : ℕ) (
         omega (arith, regions-end)
 
     -- the row can be got off
-    pub ready : (tables : List ℕ) → TablesHeld tables (tablesIn file s) → (limits : List ℕ) → Held file s goal first end (suc i) w limits
-        → Ready (rowAt i) tables w (sharesOf (tablesIn file s) (rowAt i .class)) (after (suc i) .chosen)
-    ready tables held-tables limits held =
+    pub row-landable : (tables : List ℕ) → TablesHeld tables (tablesIn file s) → (limits : List ℕ) → Held file s goal first end (suc i) w limits
+        → Landable (rowAt i) tables w (sharesOf (tablesIn file s) (rowAt i .class)) (after (suc i) .chosen)
+    row-landable tables held-tables limits held =
         let shares = stand .shares-fit (rowAt i .class) (fits .class) in
         let stack = held .stacks-held (rowAt i .land) (fits .land) in
         record {

@@ -17,13 +17,13 @@ use Rattle.plan_cells.proofs.Outside.{outside-then}
 use Rattle.plan_rows.specs.declared.SectionPlaces.{SectionPlaces}
 use Rattle.plan_rows.specs.Reading.{rowsIn, tablesIn, FileReadable, TablesHeld}
 use Rattle.plans.specs.declared.Goal.{Goal}
-use Rattle.plan_landing.specs.Landing.{Ready, SomeReady, rideOff}
+use Rattle.plan_landing.specs.Landing.{Landable, SomeLandable, rideOff}
 use Rattle.plan_scan.specs.Stores.{Weighs, Chose, Weighable, Pushable}
 use Rattle.plan_scan.specs.Scanned.{scanIn}
 use Rattle.plan_scan.specs.Held.{PairsHeld, StackHeld, LimitsHeld, Held}
 use Rattle.plan_scan.proofs.TimetableTo.{ownRide}
 use Rattle.plan_scan.proofs.PairsHeld.{weighs-stays}
-use Rattle.plan_scan.proofs.Step.{weighable, ready, off-same, pairs-after, stacks-after, held-unchosen, pushable, held-chosen, inside-chosen}
+use Rattle.plan_scan.proofs.Step.{weighable, row-landable, off-same, pairs-after, stacks-after, held-unchosen, pushable, held-chosen, inside-chosen}
 
 -- the row is weighed and not chosen yet
 pub record Weighed (file : List ℕ) (s : SectionPlaces) (goal : Goal) (first end i : ℕ) (w w' limits : List ℕ) : Type 0 where
@@ -42,25 +42,25 @@ module _ (file : List ℕ) (s : SectionPlaces) (goal : Goal) (first end : ℕ) (
         subst (λ (r : Row). Weighable r i w) (sym is) (weighable file s goal first end stand inside i low high w room (held .pairs-held))
 
     module _ (tables : List ℕ) (tables-held : TablesHeld tables (tablesIn file s)) where
-      turn-ready : Ready row tables w (sharesOf (tablesIn file s) (row .class)) (scanIn file s goal (suc i) end .chosen)
-      turn-ready =
-          subst (λ (r : Row). Ready r tables w (sharesOf (tablesIn file s) (r .class)) (scanIn file s goal (suc i) end .chosen)) (sym is)
-          (ready file s goal first end stand inside i low high w room tables tables-held limits held)
+      turn-landable : Landable row tables w (sharesOf (tablesIn file s) (row .class)) (scanIn file s goal (suc i) end .chosen)
+      turn-landable =
+          subst (λ (r : Row). Landable r tables w (sharesOf (tablesIn file s) (r .class)) (scanIn file s goal (suc i) end .chosen)) (sym is)
+          (row-landable file s goal first end stand inside i low high w room tables tables-held limits held)
 
-      pub turn-some-ready : SomeReady row tables w
-      turn-some-ready =
+      pub turn-some-landable : SomeLandable row tables w
+      turn-some-landable =
           record {
             shares = sharesOf (tablesIn file s) (row .class);
             chosen = scanIn file s goal (suc i) end .chosen;
-            ready = turn-ready;
+            given = turn-landable;
           }
 
       module _ (off : ℕ)
-          (got : (shares : List ℕ) (chosen : List Valued) → Ready row tables w shares chosen
+          (got : (shares : List ℕ) (chosen : List Valued) → Landable row tables w shares chosen
           → off ≡ cellOf (offInTicks goal (rideOff row shares) chosen)) where
         turn-off : off ≡ cellOf (offInTicks goal (ownRide file s i) (scanIn file s goal (suc i) end .chosen))
         turn-off =
-            got (sharesOf (tablesIn file s) (row .class)) (scanIn file s goal (suc i) end .chosen) turn-ready
+            got (sharesOf (tablesIn file s) (row .class)) (scanIn file s goal (suc i) end .chosen) turn-landable
             ∙ ap (λ (r : Row). cellOf (offInTicks goal (rideOff r (sharesOf (tablesIn file s) (r .class))) (scanIn file s goal (suc i) end .chosen))) is
             ∙ ap cellOf (off-same file s goal first end stand inside i low high w room)
 

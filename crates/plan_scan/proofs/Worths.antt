@@ -12,7 +12,7 @@ use Rattle.laws.proofs.Tests.{ifb}
 use Rattle.timetable.specs.Timetable.{maximumDelay}
 use Rattle.timetable.specs.Classes.{shareTotal, sum}
 use Rattle.plans.specs.declared.Goal.{Goal}
-use Rattle.plans.specs.Rides.{Ride, landsBy}
+use Rattle.plans.specs.Rides.{Ride, landsBy, ready}
 use Rattle.timetable.specs.Ticks.{ticksAMinute, quotientUp}
 use Rattle.plans.specs.Worth.{Valued, weigh, firstOpen, caught, worthOr, arrivalWorth, changeWorth, landWorth}
 use Rattle.plans.specs.Chosen.{offInTicks}
@@ -53,14 +53,14 @@ unfolding caught
 caught-most behind most each s m = worth-most (firstOpen behind s m) most (λ v e. each v (found-member behind s m e))
 
 pub change-most :
-    (r : Ride) (behind : List Valued) (most : ℕ) → sum (r .shares) ≡ shareTotal → ((v : Valued) → List·Memᴰ v behind → v .worth ≤ most)
-    → changeWorth r behind ≤ most
+    (gate : ℕ) (r : Ride) (behind : List Valued) (most : ℕ) → sum (r .shares) ≡ shareTotal → ((v : Valued) → List·Memᴰ v behind → v .worth ≤ most)
+    → changeWorth gate r behind ≤ most
 unfolding changeWorth
-change-most r behind most whole each =
-    let all : weigh (r .shares) (r .arrives) (λ minute. caught behind (r .to) minute) ≤ sum (r .shares) * most =
-    weigh-most (r .shares) (r .arrives) (λ minute. caught behind (r .to) minute) most (λ m a b. caught-most behind most each (r .to) m) in
+change-most gate r behind most whole each =
+    let all : weigh (r .shares) (r .arrives) (λ minute. caught behind (r .to) (ready gate minute)) ≤ sum (r .shares) * most =
+    weigh-most (r .shares) (r .arrives) (λ minute. caught behind (r .to) (ready gate minute)) most (λ m a b. caught-most behind most each (r .to) (ready gate m)) in
     let shared : sum (r .shares) * most ≡ 4096 * most = ap (λ k. k * most) whole in
-    mean (weigh (r .shares) (r .arrives) (λ minute. caught behind (r .to) minute)) most (omega arith)
+    mean (weigh (r .shares) (r .arrives) (λ minute. caught behind (r .to) (ready gate minute))) most (omega arith)
 
 -- getting off, where the ride lands by a minute and no ride behind is worth more than that minute
 pub off-most :
@@ -69,7 +69,7 @@ pub off-most :
 unfolding landWorth
 off-most goal r behind minute whole lands each w e =
     subst (λ x. x ≤ ticksAMinute * minute) (off-worth goal r behind w (off-is goal r behind w e))
-    (ifb (λ b. cond b (arrivalWorth r) (changeWorth r behind) ≤ ticksAMinute * minute) (eqb (r .to) (goal .target))
+    (ifb (λ b. cond b (arrivalWorth r) (changeWorth (goal .gate) r behind) ≤ ticksAMinute * minute) (eqb (r .to) (goal .target))
     (λ _. let most : arrivalWorth r ≤ 256 * landsBy r = arrival-most r whole in
     let z : arrivalWorth r ≤ 256 * minute = omega arith in z)
-    (λ _. change-most r behind (ticksAMinute * minute) whole each))
+    (λ _. change-most (goal .gate) r behind (ticksAMinute * minute) whole each))

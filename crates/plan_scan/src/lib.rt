@@ -4,6 +4,7 @@ ghost use Prim.Native.Nat.{ℕ, _+_, _-_, _≤_, _<_};
 ghost use lib.ListN.{length};
 ghost use lib.Seq.{slice};
 ghost use Rattle.timetable.specs.Limits.{mostStops};
+ghost use Rattle.query.specs.Query.{mostGate};
 ghost use Rattle.plan_cells.specs.Cells.{tripCells, pairCells, used};
 ghost use Rattle.plan_stacks.specs.Stacks.{stackSize};
 ghost use Rattle.plan_cells.specs.Outside.{SameOutside};
@@ -44,7 +45,7 @@ pub fn scan_back(
     work: &mut [u32],
 )
     requires { ⌜ FileReadable (now file) s × TablesHeld (now tables) (tablesIn (now file) s) × (first ≤ end) × (end ≤ s .rows)
-        × (used (s .rows) ≤ length (now work)) ⌝ }
+        × (used (s .rows) ≤ length (now work)) × (goal .gate ≤ mostGate) ⌝ }
     ensures { λ r. ⌜ ScanHeld (now (work .exit)) (s .rows) first end (scanIn (now (file .entry)) s goal first end)
         × SameOutside tripCells (used (s .rows)) (now (work .entry)) (now (work .exit)) ⌝ }
 {
@@ -84,7 +85,8 @@ fn weigh_rows(
     limits: &mut [u32],
 )
     requires { ⌜ FileReadable (now file) s × TablesHeld (now tables) (tablesIn (now file) s) × (first ≤ end) × (end ≤ s .rows)
-        × (used (s .rows) ≤ length (now work)) × Held (now file) s goal first end end (now work) (now limits) ⌝ }
+        × (used (s .rows) ≤ length (now work)) × Held (now file) s goal first end end (now work) (now limits)
+        × (goal .gate ≤ mostGate) ⌝ }
     ensures { λ r. ⌜ Held (now (file .entry)) s goal first end first (now (work .exit)) (now (limits .exit))
         × SameOutside tripCells (used (s .rows)) (now (work .entry)) (now (work .exit)) ⌝ }
 {

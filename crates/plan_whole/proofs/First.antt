@@ -13,7 +13,7 @@ use Rattle.timetable.specs.Timetable.{Timetable}
 use Rattle.timetable.specs.declared.Row.{Row}
 use Rattle.query.specs.declared.Query.{Query}
 use Rattle.plans.specs.declared.Goal.{Goal}
-use Rattle.plans.specs.Journeys.{goalOf}
+use Rattle.plans.specs.Journeys.{goalOf, readyAt}
 use Rattle.plans.specs.Rides.{Ride}
 use Rattle.plans.specs.Worth.{Valued, firstOpen}
 use Rattle.plans.specs.Chosen.{Aim, inTicks, scan, choose, others, bestOf}
@@ -57,16 +57,16 @@ chosen-few aim tables i (r ∷ rows) =
     omega (arith, choice-few aim (choice aim best (later .chosen)), chosen-few aim tables (suc i) rows)
     in z
 
-extract-few : (target : ℕ) (ws : List Window) (vs : List Valued) → length (extract target ws vs) ≤ length vs
+extract-few : (gate target : ℕ) (ws : List Window) (vs : List Valued) → length (extract gate target ws vs) ≤ length vs
 unfolding extract
-extract-few target ws [] = omega arith
-extract-few target ws (v ∷ vs) =
+extract-few gate target ws [] = omega arith
+extract-few gate target ws (v ∷ vs) =
     ifb
-    (λ b. length (cond b (v ∷ extract target (windowsOf target (v .ride) vs ++ ws) vs) (extract target ws vs)) ≤ suc (length vs))
+    (λ b. length (cond b (v ∷ extract gate target (windowsOf gate target (v .ride) vs ++ ws) vs) (extract gate target ws vs)) ≤ suc (length vs))
     (wanted ws (v .ride))
-    (λ _. let z : suc (length (extract target (windowsOf target (v .ride) vs ++ ws) vs)) ≤ suc (length vs) =
-    omega (arith, extract-few target (windowsOf target (v .ride) vs ++ ws) vs) in z)
-    (λ _. let z : length (extract target ws vs) ≤ suc (length vs) = omega (arith, extract-few target ws vs) in z)
+    (λ _. let z : suc (length (extract gate target (windowsOf gate target (v .ride) vs ++ ws) vs)) ≤ suc (length vs) =
+    omega (arith, extract-few gate target (windowsOf gate target (v .ride) vs ++ ws) vs) in z)
+    (λ _. let z : length (extract gate target ws vs) ≤ suc (length vs) = omega (arith, extract-few gate target ws vs) in z)
 
 -- the part of the rows from `first` to before `end`, and the cells after its scan
 module _
@@ -91,14 +91,14 @@ module _
     size = stackSize work (q .source)
 
     abbrev rides : Goal → Valued → List Valued
-    rides goal v = extract (goal .target) (upTo (q .source) (q .minute) (some v)) (chosen goal)
+    rides goal v = extract (goal .gate) (goal .target) (upTo (q .source) (readyAt q) (some v)) (chosen goal)
 
     -- what the top of the stack tells of the plan
     pub record Top (goal : Goal) : Type 0 where
       pub ride : Valued
       pub row : entryRow work (stackStart work (q .source)) (size - 1) ≡ ride .ride .board
       pub worth : entryWorth work (stackStart work (q .source)) (size - 1) ≡ ride .worth
-      pub first-here : firstOpen (chosen goal) (q .source) (q .minute) ≡ some ride
+      pub first-here : firstOpen (chosen goal) (q .source) (readyAt q) ≡ some ride
       pub is-plan :
           planIn file s q bound
           ≡ some (record { rides = rides goal ride; expected = ride .worth; latest = latestOf (rides goal ride); bound = bound })
@@ -119,45 +119,45 @@ module _
       unfolding here
       counted = stack-size work (stackStart work (q .source)) size here (held .stack-holds (q .source) (laid .source))
 
-      seen : firstOpen (chosenFor t (goalOf q bound)) (q .source) (q .minute) ≡ firstOpen (chosen (goalOf q bound)) (q .source) (q .minute)
-      seen = part-first t (laid .timely) (goalOf q bound) (q .source) (q .minute) first end (laid .cut) ordered idle
+      seen : firstOpen (chosenFor t (goalOf q bound)) (q .source) (readyAt q) ≡ firstOpen (chosen (goalOf q bound)) (q .source) (readyAt q)
+      seen = part-first t (laid .timely) (goalOf q bound) (q .source) (readyAt q) first end (laid .cut) ordered idle
 
       none-here : size ≡ 0 → planIn file s q bound ≡ none
       unfolding here planWithin
       none-here e =
           ap (planWithin t q bound)
-          (seen ∙ first-open-at-stop (chosen (goalOf q bound)) (q .source) (q .minute)
-          ∙ first-open-none here (q .source) (q .minute) someone (λ k h. absurd (let z : ⊥ = omega (arith, counted) in z)))
+          (seen ∙ first-open-at-stop (chosen (goalOf q bound)) (q .source) (readyAt q)
+          ∙ first-open-none here (q .source) (readyAt q) someone (λ k h. absurd (let z : ⊥ = omega (arith, counted) in z)))
 
-      -- a chosen row of this part departs at or after T
-      departs-later : (v : Valued) → List·Memᴰ v (chosen (goalOf q bound)) → q .minute ≤ v .ride .departs
+      -- a chosen row of this part departs at or after T + g
+      departs-later : (v : Valued) → List·Memᴰ v (chosen (goalOf q bound)) → readyAt q ≤ v .ride .departs
       departs-later v m =
           let aim = inTicks (goalOf q bound) in
           let picked = chosen-picked aim t first (let z : first ≤ length (t .rows) = omega (arith, laid .stand .rows-count) in z) v
           (subst (λ (l : List Valued). List·Memᴰ v l) (part-chosen aim t end idle first ordered) m) in
-          subst (λ d. q .minute ≤ d) (sym (best-boards aim t (v .ride .board) (picked .inside) v (picked .best) .minute))
+          subst (λ d. readyAt q ≤ d) (sym (best-boards aim t (v .ride .board) (picked .inside) v (picked .best) .minute))
           (laid .cut .behind (v .ride .board) (picked .here) (picked .inside))
 
       abbrev ahead : Valued
       ahead = getD here 0 someone
 
-      is-first : 0 < size → firstOpen (chosen (goalOf q bound)) (q .source) (q .minute) ≡ some ahead
+      is-first : 0 < size → firstOpen (chosen (goalOf q bound)) (q .source) (readyAt q) ≡ some ahead
       unfolding here
       is-first h =
           let some-here : 0 < length here = omega (arith, counted) in
-          first-open-at-stop (chosen (goalOf q bound)) (q .source) (q .minute)
-          ∙ first-open-at here (q .source) (q .minute) 0 someone some-here (at-stop-from (q .source) (chosen (goalOf q bound)) 0 someone some-here)
+          first-open-at-stop (chosen (goalOf q bound)) (q .source) (readyAt q)
+          ∙ first-open-at here (q .source) (readyAt q) 0 someone some-here (at-stop-from (q .source) (chosen (goalOf q bound)) 0 someone some-here)
           (departs-later ahead (at-stop-member (q .source) (chosen (goalOf q bound)) ahead (member-at here 0 someone some-here)))
           (λ k below. absurd (let z : ⊥ = omega arith in z))
 
-      first-plan : (v : Valued) → firstOpen (chosen (goalOf q bound)) (q .source) (q .minute) ≡ some v → planIn file s q bound
+      first-plan : (v : Valued) → firstOpen (chosen (goalOf q bound)) (q .source) (readyAt q) ≡ some v → planIn file s q bound
           ≡ some (record { rides = rides (goalOf q bound) v; expected = v .worth; latest = latestOf (rides (goalOf q bound) v); bound = bound })
       unfolding planWithin ridesFrom
       first-plan v e =
           ap (planWithin t q bound) (seen ∙ e)
           ∙ ap (λ (vs : List Valued). some (record { rides = vs; expected = v .worth; latest = latestOf vs; bound = bound }))
           (part-rides t (laid .timely) q bound first end (laid .cut) ordered idle
-          ∙ ap (λ (o : Option Valued). extract (q .target) (upTo (q .source) (q .minute) o) (chosen (goalOf q bound))) e)
+          ∙ ap (λ (o : Option Valued). extract (q .gate) (q .target) (upTo (q .source) (readyAt q) o) (chosen (goalOf q bound))) e)
 
       top-entry : 0 < size → entryAt work (stackStart work (q .source) + 2 * (size - 1)) ≡ entryOf ahead
       unfolding here
@@ -187,7 +187,7 @@ module _
               few =
                   (let z : length (rides (goalOf q bound) ahead) ≤ 2000 = omega (
                     arith,
-                    extract-few (q .target) (upTo (q .source) (q .minute) (some ahead)) (chosen (goalOf q bound)),
+                    extract-few (q .gate) (q .target) (upTo (q .source) (readyAt q) (some ahead)) (chosen (goalOf q bound)),
                     chosen-few (inTicks (goalOf q bound)) (t .tables) first (slice first end (t .rows)),
                     length-slice first end (t .rows) (let y : end ≤ length (t .rows) = omega (arith, laid .stand .rows-count) in y),
                     laid .stand .few-rows,

@@ -10,7 +10,7 @@ use Rattle.file_layout.specs.declared.Trailer.{Trailer}
 use Rattle.file_layout.specs.Decode.{trailerOf, decode}
 use Rattle.query.specs.declared.Query.{Query}
 use Rattle.plans.specs.Sound.{Timely}
-use Rattle.plans.specs.Journeys.{boundOf}
+use Rattle.plans.specs.Journeys.{boundOf, readyAt}
 use Rattle.plans.specs.Plan.{planned, planBefore, earliest}
 use Rattle.plan_rows.specs.declared.SectionPlaces.{SectionPlaces}
 use Rattle.plan_rows.specs.Reading.{rowsIn, tablesIn, timetableIn, FileReadable, BlocksStand, Cut, TablesHeld}
@@ -33,7 +33,10 @@ module _ (f : Format) (file : List ℕ) (trailer : Trailer) (q : Query) (asked :
   pub tables-stand : BlocksStand file s
   tables-stand = subst (BlocksStand file) (sym where-they-stand) (blocks-stand f (asked .plannable) file (asked .sound))
 
-  pub lays : (tables : List ℕ) (first : ℕ) → TablesHeld tables (tablesIn file s) → Cut (rowsIn file s) (q .minute) first
+  pub minute-fits : q .minute < 65536
+  minute-fits = omega (arith, asked .fits .minute, asked .plannable .minutes-fit)
+
+  pub lays : (tables : List ℕ) (first : ℕ) → TablesHeld tables (tablesIn file s) → Cut (rowsIn file s) (readyAt q) first
       → PlanningInput file s tables q first
   lays tables first held cut =
       record {
@@ -43,7 +46,8 @@ module _ (f : Format) (file : List ℕ) (trailer : Trailer) (q : Query) (asked :
         source = omega (arith, asked .fits .source, stops-few);
         target = omega (arith, asked .fits .target, stops-few);
         apart = asked .fits .apart;
-        minute = omega (arith, asked .fits .minute, asked .plannable .minutes-fit);
+        minute = minute-fits;
+        gate = asked .fits .gate;
         cut = cut;
       }
 
@@ -62,8 +66,8 @@ module _ (f : Format) (file : List ℕ) (trailer : Trailer) (q : Query) (asked :
   unfolding planned planBefore
   plan-by-arrival e found = plan-there ∙ ap (planBefore (timetableIn file s) q) found
 
-  -- E is a minute of 16 bits that does not lie before T
-  pub arrival-there : (e : ℕ) → earliest (decode f file) q ≡ some e → (q .minute ≤ e) × (e < 65536)
+  -- E is a minute of 16 bits that does not lie before T + g
+  pub arrival-there : (e : ℕ) → earliest (decode f file) q ≡ some e → (readyAt q ≤ e) × (e < 65536)
   arrival-there e found =
       earliest-fits file s rows-stand
       (subst (λ (x : SectionPlaces). Timely (timetableIn file x)) (sym where-they-stand) (timely f (asked .plannable) file (asked .sound)))

@@ -1,4 +1,4 @@
--- The part of the rows that planning looks at, by T and the bound. Uses a sound file's rows.
+-- The part of the rows that planning looks at, by T + g and the bound. Uses a sound file's rows.
 use Prim.Native.Nat.{ℕ, _≤_, _<_}
 use native.Mathlib.Omega.{arith}
 use mathlib.Core.List.{List}
@@ -10,7 +10,7 @@ use Rattle.laws.proofs.Tests.{ifb}
 use Rattle.timetable.specs.Timetable.{Timetable}
 use Rattle.timetable.specs.declared.Row.{Row}
 use Rattle.query.specs.declared.Query.{Query}
-use Rattle.plans.specs.Journeys.{goalOf}
+use Rattle.plans.specs.Journeys.{goalOf, readyAt}
 use Rattle.plans.specs.Sound.{Timely}
 use Rattle.plans.specs.Chosen.{inTicks}
 use Rattle.plan_rows.specs.declared.SectionPlaces.{SectionPlaces}
@@ -49,12 +49,12 @@ within-inside rows bound end within =
     (λ e. within .before (eqb-false bound 0 e) .inside)
 
 pub is-part : (file : List ℕ) (s : SectionPlaces) (tables : List ℕ) (q : Query) (bound first end : ℕ) → PlanningInput file s tables q first
-    → bound < 4294967296 → Reaches (q .minute) bound → RowsWithin (rowsIn file s) bound end → RowsInReach file s q (goalOf q bound) first end
+    → bound < 4294967296 → Reaches (readyAt q) bound → RowsWithin (rowsIn file s) bound end → RowsInReach file s q (goalOf q bound) first end
 is-part file s tables q bound first end laid fits reaches within =
     record {
       aims = refl;
       bound = fits;
-      ordered = within-ordered (rowsIn file s) (q .minute) bound first end (laid .cut) reaches within;
+      ordered = within-ordered (rowsIn file s) (readyAt q) bound first end (laid .cut) reaches within;
       inside = omega (arith, within-inside (rowsIn file s) bound end within, laid .stand .rows-count);
       idle = within-idle (timetableIn file s) (laid .timely) (goalOf q bound) end within;
     }

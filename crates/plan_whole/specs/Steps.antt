@@ -12,8 +12,8 @@ use Rattle.file_layout.specs.declared.Trailer.{Trailer}
 use Rattle.file_layout.specs.Decode.{trailerOf}
 use Rattle.file_layout.specs.Sound.{SoundFile}
 use Rattle.query.specs.declared.Query.{Query}
-use Rattle.query.specs.Query.{QueryFits}
-use Rattle.plans.specs.Journeys.{goalOf}
+use Rattle.query.specs.Query.{QueryFits, mostGate}
+use Rattle.plans.specs.Journeys.{goalOf, readyAt}
 use Rattle.plans.specs.Sound.{Timely}
 use Rattle.plans.specs.Worth.{firstOpen}
 use Rattle.plans.specs.Chosen.{inTicks}
@@ -33,7 +33,7 @@ pub record CallFits (f : Format) (file : List ℕ) (trailer : Trailer) (q : Quer
   pub read : trailer ≡ trailerOf f file
   pub fits : QueryFits (trailer .stops) (f .lastminute) q
 
--- a sound file's rows, its tables as lent cells, and the first row at or after T
+-- a sound file's rows, its tables as lent cells, and the first row at or after T + g
 pub record PlanningInput (file : List ℕ) (s : SectionPlaces) (tables : List ℕ) (q : Query) (first : ℕ) : Type 0 where
   pub stand : FileReadable file s
   pub held : TablesHeld tables (tablesIn file s)
@@ -42,7 +42,8 @@ pub record PlanningInput (file : List ℕ) (s : SectionPlaces) (tables : List �
   pub target : q .target < mostStops
   pub apart : q .source ≢ q .target
   pub minute : q .minute < 65536
-  pub cut : Cut (rowsIn file s) (q .minute) first
+  pub gate : q .gate ≤ mostGate
+  pub cut : Cut (rowsIn file s) (readyAt q) first
 
 -- no bound, or one that does not lie before the minute
 abbrev pub Reaches : (minute bound : ℕ) → Type 0
@@ -61,10 +62,10 @@ pub record RowsInReach (file : List ℕ) (s : SectionPlaces) (q : Query) (goal :
   pub inside : end ≤ s .rows
   pub idle : Idle (inTicks goal) (timetableIn file s) end
 
--- the plan within a bound, none if no chosen row can be boarded at the source from T on
+-- the plan within a bound, none if no chosen row can be boarded at the source from T + g on
 abbrev pub planIn : List ℕ → SectionPlaces → Query → ℕ → Option Plan
 planIn file s q bound =
-    planWithin (timetableIn file s) q bound (firstOpen (chosenFor (timetableIn file s) (goalOf q bound)) (q .source) (q .minute))
+    planWithin (timetableIn file s) q bound (firstOpen (chosenFor (timetableIn file s) (goalOf q bound)) (q .source) (readyAt q))
 
 -- cells from `from` on are as they were
 abbrev pub KeptBehind : (from : ℕ) (work work' : List ℕ) → Type 0

@@ -1,13 +1,13 @@
-// Document 01, "Expected arrival in ticks": planning in a sound file with room for it, all steps together.
+// Document 01, "Expected arrival in ticks", and document 02, E3: planning in a sound file with room for it, all steps together.
 ghost use mathlib.Core.Path.{_≡_};
 ghost use Prim.Native.Nat.{ℕ, _+_, _*_, _≤_, _<_};
 ghost use lib.ListN.{length};
 ghost use Rattle.file_layout.specs.Decode.{decode};
-ghost use Rattle.query.specs.Query.{mostQuarters};
-ghost use Rattle.plans.specs.Journeys.{boundOf};
+ghost use Rattle.query.specs.Query.{mostGate, mostQuarters};
+ghost use Rattle.plans.specs.Journeys.{boundOf, readyAt};
 ghost use Rattle.plans.specs.Plan.{planned, earliest as earliestIn};
 ghost use Rattle.plan_cells.specs.Cells.{pairCells, used, cellOf};
-ghost use Rattle.plan_rows.specs.Reading.{rowsIn, timetableIn, FileReadable};
+ghost use Rattle.plan_rows.specs.Reading.{rowsIn, timetableIn, Cut, FileReadable};
 ghost use Rattle.plan_rows.specs.Sections.{placesOf};
 ghost use Rattle.plan_scan.specs.Scanned.{scanIn, ScanHeld};
 ghost use Rattle.plan_whole.specs.Answers.{Answers};
@@ -21,6 +21,7 @@ use plan_cells::NONE;
 use plan_earliest::earliest_arrival;
 use plan_extract::write_plan;
 use plan_rows::SectionPlaces;
+use plan_rows::ready;
 use plan_rows::rows_before;
 use plan_scan::scan_back;
 use plan_shares::read_tables;
@@ -62,7 +63,7 @@ pub fn plan_in_room(
     let mut tables = [0u32; TABLE_CELLS];
     let s = places_in(f, trailer);
     read_tables(file, s, &mut tables);
-    let first = rows_before(file, s, q.minute);
+    let first = rows_missed(file, s, q);
     let end = earliest_arrival(file, s, &tables, q, first, work);
     if end == NONE {
         return no_plan(8);
@@ -84,6 +85,14 @@ fn places_in(f: Format, trailer: Trailer) -> SectionPlaces
     }
 }
 
+// How many rows depart before one who stands at the source at T is ready.
+fn rows_missed(file: &[u8], s: SectionPlaces, q: Query) -> usize
+    requires { ⌜ FileReadable (now file) s × (q .minute < 65536) × (q .gate ≤ mostGate) ⌝ }
+    ensures { λ r. ⌜ Cut (rowsIn (now (file .entry)) s) (readyAt q) r ⌝ }
+{
+    rows_before(file, s, ready(q.gate, q.minute))
+}
+
 // T + q(E - T)/4 rounded down; 0 stands for no bound.
 fn bound_of(q: Query, end: usize) -> usize
     requires { ⌜ (q .minute ≤ end) × (end < 65536) × (q .code ≤ mostQuarters) ⌝ }
@@ -95,7 +104,7 @@ fn bound_of(q: Query, end: usize) -> usize
     q.minute + q.code * (end - q.minute) / 4
 }
 
-// The plan within a bound that does not lie before T, or 8.
+// The plan within a bound that does not lie before T + g, or 8.
 fn plan_within(
     file: &[u8],
     s: SectionPlaces,
@@ -106,7 +115,7 @@ fn plan_within(
     work: &mut [u32],
     plan: &mut [u32],
 ) -> Planned
-    requires { ⌜ PlanningInput (now file) s (now tables) q first × Reaches (q .minute) bound × (bound < 4294967296)
+    requires { ⌜ PlanningInput (now file) s (now tables) q first × Reaches (readyAt q) bound × (bound < 4294967296)
         × (used (s .rows) ≤ length (now work)) × (3 * s .rows ≤ length (now plan)) ⌝ }
     ensures { λ r. ⌜ Answers (planIn (now (file .entry)) s q bound) r (now (plan .entry)) (now (plan .exit))
         × KeptBehind (used (s .rows)) (now (work .entry)) (now (work .exit)) ⌝ }
@@ -116,6 +125,7 @@ fn plan_within(
         target: q.target,
         bound,
         margin: q.margin,
+        gate: q.gate,
     };
     scan_back(file, s, tables, goal, first, end, work);
     plan_scanned(file, s, tables, q, goal, end, work, plan)
@@ -178,6 +188,6 @@ pub fn earliest_in_room(file: &[u8], f: Format, trailer: Trailer, q: Query, work
     let mut tables = [0u32; TABLE_CELLS];
     let s = places_in(f, trailer);
     read_tables(file, s, &mut tables);
-    let first = rows_before(file, s, q.minute);
+    let first = rows_missed(file, s, q);
     earliest_arrival(file, s, &tables, q, first, work)
 }

@@ -11,7 +11,7 @@ use Rattle.file_layout.specs.declared.Trailer.{Trailer}
 use Rattle.file_layout.specs.Format.{versionOne}
 use Rattle.file_layout.specs.Decode.{decode, trailerOf, trailerAt, trailerStart, rowsFrom, rowAt, tablesFrom, tableAt, sharesFrom, blockEnd, tablesEnd}
 use Rattle.file_layout.specs.Check.{fileVerdict, sectionsVerdict, lengthRule, trailerRule, classVerdict, classesVerdict, joined, sectionsJoin}
-use Rattle.query.specs.Query.{journeyRule, codeRule, marginRule, queryRule, plainQuery, withCode, withMargin}
+use Rattle.query.specs.Query.{journeyRule, codeRule, marginRule, gateRule, queryRule, plainQuery, withCode, withMargin, withGate}
 use Rattle.plans.specs.Chosen.{offInMinutes, nextOf, getOff, stayOn, leastOf, firstAt, leads, others, choose, bestOf, scan, scanned, worthOf}
 use Rattle.plans.specs.Plan.{earliest, planned, planBefore}
 use Rattle.plans.specs.Worth.{firstOpen}
@@ -22,7 +22,7 @@ use Rattle.planner.specs.Outcome.{cleared, refusedPlan, planAnswered, pl
 -- T above 10,079
 pub last-minute : (queryRule 2 (versionOne .lastminute) (plainQuery 0 1 10079) ≡ true)
     × (queryRule 2 (versionOne .lastminute) (plainQuery 0 1 10080) ≡ false)
-unfolding queryRule journeyRule codeRule marginRule
+unfolding queryRule journeyRule codeRule marginRule gateRule
 last-minute = (refl, refl)
 
 -- a margin outside 1 to 2,560
@@ -30,8 +30,14 @@ pub margin-line : (queryRule 2 (versionOne .lastminute) (withMargin 0 (plainQuer
     × (queryRule 2 (versionOne .lastminute) (plainQuery 0 1 0) ≡ true)
     × (queryRule 2 (versionOne .lastminute) (withMargin 2560 (plainQuery 0 1 0)) ≡ true)
     × (queryRule 2 (versionOne .lastminute) (withMargin 2561 (plainQuery 0 1 0)) ≡ false)
-unfolding queryRule journeyRule codeRule marginRule
+unfolding queryRule journeyRule codeRule marginRule gateRule
 margin-line = (refl, refl, refl, refl)
+
+-- a gate time above 30
+pub gate-line : (queryRule 2 (versionOne .lastminute) (withGate 30 (plainQuery 0 1 0)) ≡ true)
+    × (queryRule 2 (versionOne .lastminute) (withGate 31 (plainQuery 0 1 0)) ≡ false)
+unfolding queryRule journeyRule codeRule marginRule gateRule
+gate-line = (refl, refl)
 
 -- a file of four rows
 abbrev fourRows : Trailer
@@ -63,7 +69,7 @@ oneRow =
 pub four-a-row : (planOutcome versionOne oneRow (plainQuery 1 0 0) (replicate 2506 7) (5 ∷ 5 ∷ 5 ∷ [])
     ≡ refusedPlan 8 0 (replicate 2504 0 ++ (7 ∷ 7 ∷ [])) (5 ∷ 5 ∷ 5 ∷ []))
     × (earliestOutcome versionOne oneRow (plainQuery 1 0 0) (replicate 2506 7) ≡ refusedEarliest 8 0 (replicate 2504 0 ++ (7 ∷ 7 ∷ [])))
-unfolding planOutcome earliestOutcome admission callVerdict enough queryRule journeyRule codeRule marginRule fileVerdict sectionsVerdict lengthRule trailerRule
+unfolding planOutcome earliestOutcome admission callVerdict enough queryRule journeyRule codeRule marginRule gateRule fileVerdict sectionsVerdict lengthRule trailerRule
     classVerdict classesVerdict joined sectionsJoin decode trailerOf trailerAt trailerStart rowsFrom rowAt tablesFrom tableAt sharesFrom blockEnd
     tablesEnd u16At u32At sum sharesRule rowsVerdict rowVerdict ownRule departureRule tripRule follows lastOfTrip planAnswered answerFor sliceAfter
     planned planBefore earliestAnswered earliest worthOf firstOpen scanned scan bestOf choose nextOf getOff stayOn leastOf offInMinutes firstAt leads
@@ -78,11 +84,13 @@ pub in-order :
     × (planOutcome versionOne shortest (withCode 17 (plainQuery 0 1 0)) (7 ∷ []) (5 ∷ []) ≡ refusedPlan 6 0 (7 ∷ []) (5 ∷ []))
     × (planOutcome versionOne shortest (plainQuery 0 1 10080) (7 ∷ []) (5 ∷ []) ≡ refusedPlan 6 0 (7 ∷ []) (5 ∷ []))
     × (planOutcome versionOne shortest (withMargin 2561 (plainQuery 0 1 0)) (7 ∷ []) (5 ∷ []) ≡ refusedPlan 6 0 (7 ∷ []) (5 ∷ []))
-    × (planOutcome versionOne shortest (withMargin 2560 (withCode 16 (plainQuery 0 1 10079))) (replicate 2499 7) (5 ∷ []) ≡ refusedPlan 7 0 (replicate 2499 7) (5 ∷ []))
+    × (planOutcome versionOne shortest (withGate 31 (plainQuery 0 1 0)) (7 ∷ []) (5 ∷ []) ≡ refusedPlan 6 0 (7 ∷ []) (5 ∷ []))
+    × (planOutcome versionOne shortest (withGate 30 (withMargin 2560 (withCode 16 (plainQuery 0 1 10079)))) (replicate 2499 7) (5 ∷ []) ≡ refusedPlan 7 0 (replicate 2499 7) (5 ∷ []))
     × (earliestOutcome versionOne shortest (plainQuery 0 2 0) (7 ∷ []) ≡ refusedEarliest 6 0 (7 ∷ []))
-    × (earliestOutcome versionOne shortest (plainQuery 0 1 0) (7 ∷ []) ≡ refusedEarliest 7 0 (7 ∷ []))
-unfolding planOutcome earliestOutcome admission callVerdict enough queryRule journeyRule codeRule marginRule fileVerdict sectionsVerdict lengthRule trailerRule
+    × (earliestOutcome versionOne shortest (withGate 31 (plainQuery 0 1 0)) (7 ∷ []) ≡ refusedEarliest 6 0 (7 ∷ []))
+    × (earliestOutcome versionOne shortest (withGate 30 (plainQuery 0 1 0)) (7 ∷ []) ≡ refusedEarliest 7 0 (7 ∷ []))
+unfolding planOutcome earliestOutcome admission callVerdict enough queryRule journeyRule codeRule marginRule gateRule fileVerdict sectionsVerdict lengthRule trailerRule
     classVerdict classesVerdict joined sectionsJoin decode trailerOf trailerAt trailerStart rowsFrom tablesFrom tableAt sharesFrom blockEnd tablesEnd
     u16At u32At sum sharesRule rowsVerdict planAnswered answerFor sliceAfter planned planBefore earliestAnswered earliest worthOf firstOpen
     scanned scan cleared
-in-order = (refl, refl, refl, refl, refl, refl, refl, refl, refl)
+in-order = (refl, refl, refl, refl, refl, refl, refl, refl, refl, refl, refl)

@@ -15,6 +15,8 @@ use Rattle.planner.proofs.plan_checked.Kinds as checked-kinds
 use Rattle.planner.proofs.plan_checked.Reads as checked-reads
 use Rattle.planner.proofs.earliest_safe_arrival.Kinds as arrival-kinds
 use Rattle.planner.proofs.earliest_safe_arrival.Reads as arrival-reads
+use Rattle.planner.proofs.earliest_with_gate.Kinds as gate-kinds
+use Rattle.planner.proofs.earliest_with_gate.Reads as gate-reads
 use Rattle.planner.proofs.earliest_checked.Kinds as checked-arrival-kinds
 use Rattle.planner.proofs.earliest_checked.Reads as checked-arrival-reads
 
@@ -49,6 +51,14 @@ pub earliest-safe-arrival-settled :
     → arrival-reads.Post κs arguments other another
     → (one ≡ other) × (now (ending .1 .1 .1 .1 .0) ≡ now (another .1 .1 .1 .1 .0))
 earliest-safe-arrival-settled κs arguments one other ending another first second =
+    (first .0 ∙ sym (second .0), first .1 ∙ sym (second .1))
+
+pub earliest-with-gate-settled :
+    (κs : Lfts 2) (arguments : Dens κs gate-kinds.ps) (one other : resT gate-kinds.r κs .Denot)
+    (ending another : AtExit (endedOf 2 gate-kinds.ps gate-kinds.r) κs) → gate-reads.Post κs arguments one ending
+    → gate-reads.Post κs arguments other another
+    → (one ≡ other) × (now (ending .1 .1 .1 .1 .1 .0) ≡ now (another .1 .1 .1 .1 .1 .0))
+earliest-with-gate-settled κs arguments one other ending another first second =
     (first .0 ∙ sym (second .0), first .1 ∙ sym (second .1))
 
 pub earliest-checked-settled :

@@ -6,7 +6,7 @@ ghost use Rattle.timetable.specs.Limits.{mostRows, mostStops};
 ghost use Rattle.file_layout.specs.Check.{checkedAs};
 ghost use Rattle.file_layout.specs.Format.{Readable, versionOne};
 ghost use Rattle.file_layout.specs.declared.Checked.the-variants.{Sound};
-ghost use Rattle.query.specs.Query.{plainQuery};
+ghost use Rattle.query.specs.Query.{plainQuery, withGate};
 ghost use Rattle.plan_rows.specs.Sections.{Plannable};
 ghost use Rattle.planner.specs.Admission.{Admits, SmallRoom, admitted, callVerdict, enough as isEnough, faultNumber, needs, noRoom, planRoom, workRoom};
 ghost use Rattle.planner.specs.Outcome.{earliestOutcome, planOutcome};
@@ -210,12 +210,28 @@ pub fn earliest_safe_arrival(
     ensures { λ r. ⌜ (r ≡ earliestOutcome versionOne (now (file .entry)) (plainQuery source target minute) (now (work .entry)) .answer)
         × (now (work .exit) ≡ earliestOutcome versionOne (now (file .entry)) (plainQuery source target minute) (now (work .entry)) .work) ⌝ }
 {
+    earliest_with_gate(file, source, target, minute, 0, work)
+}
+
+// The same where gates close so many minutes before departure.
+pub fn earliest_with_gate(
+    file: &[u8],
+    source: usize,
+    target: usize,
+    minute: usize,
+    gate: usize,
+    work: &mut [u32],
+) -> Earliest
+    ensures { λ r. ⌜ (r ≡ earliestOutcome versionOne (now (file .entry)) (withGate gate (plainQuery source target minute)) (now (work .entry)) .answer)
+        × (now (work .exit) ≡ earliestOutcome versionOne (now (file .entry)) (withGate gate (plainQuery source target minute)) (now (work .entry)) .work) ⌝ }
+{
     let q = Query {
         source,
         target,
         minute,
         code: 0,
         margin: LEAST_MARGIN,
+        gate,
     };
     let admission = admit(file, VERSION_ONE, q, work_needs(work.len()), NO_ROOM);
     match admission {

@@ -12,7 +12,7 @@ use Rattle.timetable.specs.Timetable.{Timetable, rowOf}
 use Rattle.timetable.specs.declared.Row.{Row}
 use Rattle.plans.specs.declared.Goal.{Goal}
 use Rattle.plans.specs.Sound.{Timely}
-use Rattle.plans.specs.Rides.{Ride, IsRide, landsBy, boards}
+use Rattle.plans.specs.Rides.{Ride, IsRide, landsBy, ready, boards}
 use Rattle.plans.specs.Journeys.{within}
 use Rattle.plans.specs.Worth.{Valued, firstOpen, arrivalWorth, changeWorth}
 use Rattle.plans.specs.Chosen.{Aim, inTicks, others, rowRide, boardedAt}
@@ -106,8 +106,8 @@ module _ (t : Timetable) (timely : Timely t) where
 
     -- each chosen ride is worth what those behind it give
     chosen-next :
-        (i : ℕ) → i < length (t .rows) → OwnWorth (goal .target) (chosenInTicks t goal (suc i)) → (best : Option Valued) (chosen : List Valued)
-        → bestInTicks t goal i ≡ best → Choice (inTicks goal) (chosenInTicks t goal (suc i)) best chosen → OwnWorth (goal .target) chosen
+        (i : ℕ) → i < length (t .rows) → OwnWorth (goal .gate) (goal .target) (chosenInTicks t goal (suc i)) → (best : Option Valued) (chosen : List Valued)
+        → bestInTicks t goal i ≡ best → Choice (inTicks goal) (chosenInTicks t goal (suc i)) best chosen → OwnWorth (goal .gate) (goal .target) chosen
     chosen-next i h own best chosen e worthless = own
     chosen-next i h own best chosen e (at-target p) = own
     chosen-next i h own best chosen e (behind p) = own
@@ -118,22 +118,22 @@ module _ (t : Timetable) (timely : Timely t) where
         let moves = ride-moves (v .ride) is in
         let later = chosenFrom aim t (suc i) in
         let landing = best-off i h v e in
-        ahead-of (goal .target) v (chosenFrom aim t (suc (v .ride .leave))) (others (v .ride) later) moves
+        ahead-of (goal .gate) (goal .target) v (chosenFrom aim t (suc (v .ride .leave))) (others (v .ride) later) moves
         (λ m late _. others-first (v .ride) later (v .ride .to) m (too-late (v .ride) (v .ride .to) m (omega (arith, moves .forward)))
-        ∙ landing-sees aim (v .ride) is (suc i) (omega (arith, is .onward, at .row)) (v .ride .to) m late)
+        ∙ landing-sees aim (v .ride) is (suc i) (omega (arith, is .onward, at .row)) (v .ride .to) m (let z : v .ride .arrives ≤ m = omega arith in z))
         (sym (off-worth goal (v .ride) _ (v .worth) landing)) (goes landing)
-        (others-own (goal .target) (v .ride) later
+        (others-own (goal .gate) (goal .target) (v .ride) later
         (λ x m. subst (λ k. k ≤ x .ride .departs) (sym (at .minute))
         (chosen-rising aim t timely i (suc i) (let z : i ≤ suc i = omega arith in z) h x m)) own)
       where
         goes : {w : ℕ} {vs : List Valued} → Off goal (v .ride) vs w → v .ride .to ≢ goal .target
-            → (safe : Valued) × (firstOpen vs (v .ride .to) (landsBy (v .ride)) ≡ some safe)
+            → (safe : Valued) × (firstOpen vs (v .ride .to) (ready (goal .gate) (landsBy (v .ride))) ≡ some safe)
         goes (arrives q b) away = absurd (away q)
         goes (goes-on {u = u} _ q) away = (u, q)
 
-    pub chosen-own : (i : ℕ) → i ≤ length (t .rows) → OwnWorth (goal .target) (chosenInTicks t goal i)
+    pub chosen-own : (i : ℕ) → i ≤ length (t .rows) → OwnWorth (goal .gate) (goal .target) (chosenInTicks t goal i)
     chosen-own =
-        downward (λ i. OwnWorth (goal .target) (chosenInTicks t goal i)) (length (t .rows))
-        (subst (λ (l : List Valued). OwnWorth (goal .target) l) (sym (chosen-end (inTicks goal) t)) nobody)
-        (λ i h own. subst (λ (l : List Valued). OwnWorth (goal .target) l) (sym (chosen-row (inTicks goal) t i h))
+        downward (λ i. OwnWorth (goal .gate) (goal .target) (chosenInTicks t goal i)) (length (t .rows))
+        (subst (λ (l : List Valued). OwnWorth (goal .gate) (goal .target) l) (sym (chosen-end (inTicks goal) t)) nobody)
+        (λ i h own. subst (λ (l : List Valued). OwnWorth (goal .gate) (goal .target) l) (sym (chosen-row (inTicks goal) t i h))
         (chosen-next i h own _ _ refl (choice (inTicks goal) (bestInTicks t goal i) (chosenInTicks t goal (suc i)))))

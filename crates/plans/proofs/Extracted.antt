@@ -13,7 +13,7 @@ use Rattle.laws.proofs.Options.{same-thing}
 use Rattle.laws.proofs.Tests.{ifb, both, both-left, both-right, cond-true, cond-false}
 use Rattle.laws.proofs.Members.{head-or-later}
 use Rattle.laws.proofs.Alternatives.{or-left, or-right, or-map}
-use Rattle.plans.specs.Rides.{Ride, landsBy, boards}
+use Rattle.plans.specs.Rides.{Ride, landsBy, ready, boards}
 use Rattle.plans.specs.Worth.{Valued, firstOpen, landWorth, arrivalWorth}
 use Rattle.plans.specs.Plan.{Window, inWindow, wanted, upTo, windowsOf, extract}
 use Rattle.plans.proofs.Open.{boards-earlier, first-here, first-further, on-head, found-member, found-boards}
@@ -52,17 +52,17 @@ up-to-wants stop minute last e r b h =
     subst (λ (o : Option Valued). wanted (upTo stop minute o) r ≡ true) (sym e)
     (or-left _ false (both b (le-leb (r .departs) (last .ride .departs) h)))
 
-module _ (target : ℕ) where
+module _ (gate target : ℕ) where
   -- the head is taken, or it is passed over
   pub on-taking {ℓ} :
       (P : Type ℓ) (ws : List Window) (v : Valued) (vs : List Valued)
-      → (wanted ws (v .ride) ≡ true → extract target ws (v ∷ vs) ≡ v ∷ extract target (windowsOf target (v .ride) vs ++ ws) vs → P)
-      → (wanted ws (v .ride) ≡ false → extract target ws (v ∷ vs) ≡ extract target ws vs → P) → P
+      → (wanted ws (v .ride) ≡ true → extract gate target ws (v ∷ vs) ≡ v ∷ extract gate target (windowsOf gate target (v .ride) vs ++ ws) vs → P)
+      → (wanted ws (v .ride) ≡ false → extract gate target ws (v ∷ vs) ≡ extract gate target ws vs → P) → P
   unfolding extract
   on-taking P ws v vs taken passed =
       ifb (λ b. wanted ws (v .ride) ≡ b → P) (wanted ws (v .ride)) (λ e _. taken e (cond-true _ _ e)) (λ e _. passed e (cond-false _ _ e)) refl
 
-  pub extract-member : (vs : List Valued) (ws : List Window) {x : Valued} → List·Memᴰ x (extract target ws vs) → List·Memᴰ x vs
+  pub extract-member : (vs : List Valued) (ws : List Window) {x : Valued} → List·Memᴰ x (extract gate target ws vs) → List·Memᴰ x vs
   unfolding extract
   extract-member [] ws m = m
   extract-member (v ∷ vs) ws {x} m =
@@ -71,68 +71,68 @@ module _ (target : ℕ) where
       (λ n. List·Memᴰ·tail (extract-member vs _ n)))
       (λ _ h. List·Memᴰ·tail (extract-member vs ws (subst (λ (l : List Valued). List·Memᴰ x l) h m)))
 
-  pub extract-ordered : {vs : List Valued} → Ordered vs → (ws : List Window) → Ordered (extract target ws vs)
+  pub extract-ordered : {vs : List Valued} → Ordered vs → (ws : List Window) → Ordered (extract gate target ws vs)
   unfolding extract
   extract-ordered nobody ws = nobody
   extract-ordered (ahead {v} {vs} before o) ws =
-      on-taking (Ordered (extract target ws (v ∷ vs))) ws v vs
+      on-taking (Ordered (extract gate target ws (v ∷ vs))) ws v vs
       (λ _ h. subst (λ (l : List Valued). Ordered l) (sym h) (ahead (λ u m. before u (extract-member vs _ m)) (extract-ordered o _)))
       (λ _ h. subst (λ (l : List Valued). Ordered l) (sym h) (extract-ordered o ws))
 
   -- what a window wants is taken
   pub extract-wanted : (vs : List Valued) (ws : List Window) {x : Valued} → List·Memᴰ x vs → wanted ws (x .ride) ≡ true
-      → List·Memᴰ x (extract target ws vs)
+      → List·Memᴰ x (extract gate target ws vs)
   unfolding extract
   extract-wanted [] ws m e = m
   extract-wanted (v ∷ vs) ws {x} m e =
-      on-taking (List·Memᴰ x (extract target ws (v ∷ vs))) ws v vs
+      on-taking (List·Memᴰ x (extract gate target ws (v ∷ vs))) ws v vs
       (λ _ h. subst (λ (l : List Valued). List·Memᴰ x l) (sym h)
-      (head-or-later (List·Memᴰ x (v ∷ extract target (windowsOf target (v .ride) vs ++ ws) vs)) m (λ q. List·Memᴰ·head q)
-      (λ n. List·Memᴰ·tail (extract-wanted vs _ n (wanted-more (windowsOf target (v .ride) vs) ws (x .ride) e)))))
+      (head-or-later (List·Memᴰ x (v ∷ extract gate target (windowsOf gate target (v .ride) vs ++ ws) vs)) m (λ q. List·Memᴰ·head q)
+      (λ n. List·Memᴰ·tail (extract-wanted vs _ n (wanted-more (windowsOf gate target (v .ride) vs) ws (x .ride) e)))))
       (λ c h. subst (λ (l : List Valued). List·Memᴰ x l) (sym h)
-      (head-or-later (List·Memᴰ x (extract target ws vs)) m
+      (head-or-later (List·Memᴰ x (extract gate target ws vs)) m
       (λ q. absurd (false≢true (sym c ∙ subst (λ (u : Valued). wanted ws (u .ride) ≡ true) q e)))
       (λ n. extract-wanted vs ws n e)))
 
   -- and is the first to be boarded, if it was so
   pub extract-first :
       (vs : List Valued) (ws : List Window) (s m : ℕ) {u : Valued} → firstOpen vs s m ≡ some u → wanted ws (u .ride) ≡ true
-      → firstOpen (extract target ws vs) s m ≡ some u
+      → firstOpen (extract gate target ws vs) s m ≡ some u
   unfolding extract
   extract-first [] ws s m e w = e
   extract-first (v ∷ vs) ws s m {u} e w =
-      on-head (firstOpen (extract target ws (v ∷ vs)) s m ≡ some u) v vs s m
+      on-head (firstOpen (extract gate target ws (v ∷ vs)) s m ≡ some u) v vs s m
       (λ b h. let same : u ≡ v = same-thing (sym e ∙ h) in
-      on-taking (firstOpen (extract target ws (v ∷ vs)) s m ≡ some u) ws v vs
+      on-taking (firstOpen (extract gate target ws (v ∷ vs)) s m ≡ some u) ws v vs
       (λ _ k. ap (λ (l : List Valued). firstOpen l s m) k ∙ first-here v _ s m b ∙ ap some (sym same))
       (λ c _. absurd (false≢true (sym c ∙ subst (λ (x : Valued). wanted ws (x .ride) ≡ true) same w))))
-      (λ b h. on-taking (firstOpen (extract target ws (v ∷ vs)) s m ≡ some u) ws v vs
+      (λ b h. on-taking (firstOpen (extract gate target ws (v ∷ vs)) s m ≡ some u) ws v vs
       (λ _ k. ap (λ (l : List Valued). firstOpen l s m) k ∙ first-further v _ s m b
-      ∙ extract-first vs _ s m (sym h ∙ e) (wanted-more (windowsOf target (v .ride) vs) ws (u .ride) w))
+      ∙ extract-first vs _ s m (sym h ∙ e) (wanted-more (windowsOf gate target (v .ride) vs) ws (u .ride) w))
       (λ _ k. ap (λ (l : List Valued). firstOpen l s m) k ∙ extract-first vs ws s m (sym h ∙ e) w))
 
   -- the window of a ride wants each that may be caught after it
   pub windows-want :
-      (r : Ride) (vs : List Valued) (ws : List Window) → r .to ≢ target → {safe : Valued} → firstOpen vs (r .to) (landsBy r) ≡ some safe → (x : Ride)
-      → boards x (r .to) (r .arrives) ≡ true → x .departs ≤ safe .ride .departs → wanted (windowsOf target r vs ++ ws) x ≡ true
+      (r : Ride) (vs : List Valued) (ws : List Window) → r .to ≢ target → {safe : Valued} → firstOpen vs (r .to) (ready gate (landsBy r)) ≡ some safe → (x : Ride)
+      → boards x (r .to) (ready gate (r .arrives)) ≡ true → x .departs ≤ safe .ride .departs → wanted (windowsOf gate target r vs ++ ws) x ≡ true
   unfolding windowsOf
   windows-want r vs ws away {safe} e x b h =
-      wanted-first (windowsOf target r vs) ws x
+      wanted-first (windowsOf gate target r vs) ws x
       (subst (λ (l : List Window). wanted l x ≡ true)
-      (sym (cond-false [] (upTo (r .to) (r .arrives) (firstOpen vs (r .to) (landsBy r))) (ne-eqb (r .to) target away)))
-      (up-to-wants (r .to) (r .arrives) safe e x b h))
+      (sym (cond-false [] (upTo (r .to) (ready gate (r .arrives)) (firstOpen vs (r .to) (ready gate (landsBy r)))) (ne-eqb (r .to) target away)))
+      (up-to-wants (r .to) (ready gate (r .arrives)) safe e x b h))
 
   -- who lands after a ride finds among those taken the ride that is first in the whole list
   landing-taken :
-      (r : Ride) (vs : List Valued) → Ordered vs → (ws : List Window) → r .to ≢ target → (safe : Valued) → firstOpen vs (r .to) (landsBy r) ≡ some safe
+      (r : Ride) (vs : List Valued) → Ordered vs → (ws : List Window) → r .to ≢ target → (safe : Valued) → firstOpen vs (r .to) (ready gate (landsBy r)) ≡ some safe
       → (m : ℕ)
-      → r .arrives ≤ m → m ≤ landsBy r → firstOpen (extract target (windowsOf target r vs ++ ws) vs) (r .to) m ≡ firstOpen vs (r .to) m
+      → ready gate (r .arrives) ≤ m → m ≤ ready gate (landsBy r) → firstOpen (extract gate target (windowsOf gate target r vs ++ ws) vs) (r .to) m ≡ firstOpen vs (r .to) m
   landing-taken r vs o ws away safe e m late early =
-      let found = first-before vs o (r .to) m safe (found-member vs (r .to) (landsBy r) e)
-      (boards-earlier (safe .ride) (r .to) (landsBy r) m early (found-boards vs (r .to) (landsBy r) e)) in
+      let found = first-before vs o (r .to) m safe (found-member vs (r .to) (ready gate (landsBy r)) e)
+      (boards-earlier (safe .ride) (r .to) (ready gate (landsBy r)) m early (found-boards vs (r .to) (ready gate (landsBy r)) e)) in
       extract-first vs _ (r .to) m (found .1)
       (windows-want r vs ws away e (found .0 .ride)
-      (boards-earlier (found .0 .ride) (r .to) m (r .arrives) late (found-boards vs (r .to) m (found .1))) (no-later (found .0) (found .2)))
+      (boards-earlier (found .0 .ride) (r .to) m (ready gate (r .arrives)) late (found-boards vs (r .to) m (found .1))) (no-later (found .0) (found .2)))
       ∙ sym (found .1)
     where
       no-later : (u : Valued) → (u ≡ safe) ⊎ Before u safe → u .ride .departs ≤ safe .ride .departs
@@ -142,26 +142,26 @@ module _ (target : ℕ) where
   -- so a ride is worth the same among those taken
   worth-taken :
       (r : Ride) (vs : List Valued) → Ordered vs → (ws : List Window) → Moves r
-      → (r .to ≢ target → (safe : Valued) × (firstOpen vs (r .to) (landsBy r) ≡ some safe))
-      → landWorth target r vs ≡ landWorth target r (extract target (windowsOf target r vs ++ ws) vs)
+      → (r .to ≢ target → (safe : Valued) × (firstOpen vs (r .to) (ready gate (landsBy r)) ≡ some safe))
+      → landWorth gate target r vs ≡ landWorth gate target r (extract gate target (windowsOf gate target r vs ++ ws) vs)
   unfolding landWorth
   worth-taken r vs o ws moves on =
-      ifb (λ b. eqb (r .to) target ≡ b → landWorth target r vs ≡ landWorth target r (extract target (windowsOf target r vs ++ ws) vs))
+      ifb (λ b. eqb (r .to) target ≡ b → landWorth gate target r vs ≡ landWorth gate target r (extract gate target (windowsOf gate target r vs ++ ws) vs))
       (eqb (r .to) target)
       (λ e _. cond-true (arrivalWorth r) _ e ∙ sym (cond-true (arrivalWorth r) _ e))
       (λ e _. let found = on (eqb-false (r .to) target e) in
-      land-same target r vs _ (moves .delays)
+      land-same gate target r vs _ (moves .delays)
       (λ m late early. sym (landing-taken r vs o ws (eqb-false (r .to) target e) (found .0) (found .1) m late early))) refl
 
   -- those taken are worth what those taken behind them give
-  pub extract-own : {vs : List Valued} → OwnWorth target vs → Ordered vs → (ws : List Window) → OwnWorth target (extract target ws vs)
+  pub extract-own : {vs : List Valued} → OwnWorth gate target vs → Ordered vs → (ws : List Window) → OwnWorth gate target (extract gate target ws vs)
   unfolding extract
   extract-own own.nobody o ws = own.nobody
   extract-own (own.ahead {v} {vs} moves worth on rest) (ahead before o) ws =
-      on-taking (OwnWorth target (extract target ws (v ∷ vs))) ws v vs
-      (λ _ h. subst (λ (l : List Valued). OwnWorth target l) (sym h)
+      on-taking (OwnWorth gate target (extract gate target ws (v ∷ vs))) ws v vs
+      (λ _ h. subst (λ (l : List Valued). OwnWorth gate target l) (sym h)
       (own.ahead moves (worth ∙ worth-taken (v .ride) vs o ws moves on)
       (λ away. let found = on away in
-      (found .0, landing-taken (v .ride) vs o ws away (found .0) (found .1) (landsBy (v .ride)) (omega arith) (omega arith) ∙ found .1))
-      (extract-own rest o (windowsOf target (v .ride) vs ++ ws))))
-      (λ _ h. subst (λ (l : List Valued). OwnWorth target l) (sym h) (extract-own rest o ws))
+      (found .0, landing-taken (v .ride) vs o ws away (found .0) (found .1) (ready gate (landsBy (v .ride))) (omega arith) (omega arith) ∙ found .1))
+      (extract-own rest o (windowsOf gate target (v .ride) vs ++ ws))))
+      (λ _ h. subst (λ (l : List Valued). OwnWorth gate target l) (sym h) (extract-own rest o ws))

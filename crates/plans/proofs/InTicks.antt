@@ -13,7 +13,7 @@ use Rattle.laws.proofs.Tests.{ifb, either, cond-true, cond-false}
 use Rattle.laws.proofs.Alternatives.{or-left, or-right}
 use Rattle.timetable.specs.Timetable.{Timetable}
 use Rattle.plans.specs.declared.Goal.{Goal}
-use Rattle.plans.specs.Rides.{Ride, landsBy}
+use Rattle.plans.specs.Rides.{Ride, landsBy, ready}
 use Rattle.plans.specs.Journeys.{within}
 use Rattle.plans.specs.Worth.{Valued, firstOpen, arrivalWorth, changeWorth, landWorth}
 use Rattle.plans.specs.Chosen.{inTicks, offInTicks, whenSafe}
@@ -47,22 +47,22 @@ module _ (goal : Goal) where
   ticks-at-target r behind e b = cond-true _ _ (eq-eqb (r .to) (goal .target) e) ∙ cond-true (some (arrivalWorth r)) none b
 
   pub ticks-elsewhere :
-      (r : Ride) (behind : List Valued) → r .to ≢ goal .target → (u : Valued) → firstOpen behind (r .to) (landsBy r) ≡ some u
-      → offInTicks goal r behind ≡ some (changeWorth r behind)
+      (r : Ride) (behind : List Valued) → r .to ≢ goal .target → (u : Valued) → firstOpen behind (r .to) (ready (goal .gate) (landsBy r)) ≡ some u
+      → offInTicks goal r behind ≡ some (changeWorth (goal .gate) r behind)
   unfolding offInTicks whenSafe
   ticks-elsewhere r behind away u e =
-      cond-false _ _ (ne-eqb (r .to) (goal .target) away) ∙ ap (λ (o : Option Valued). whenSafe o (changeWorth r behind)) e
+      cond-false _ _ (ne-eqb (r .to) (goal .target) away) ∙ ap (λ (o : Option Valued). whenSafe o (changeWorth (goal .gate) r behind)) e
 
   -- the two ways in which getting off is open
   pub data Off (r : Ride) (behind : List Valued) : ℕ → Type 0 where
     arrives : r .to ≡ goal .target → within (goal .bound) (landsBy r) ≡ true → Off r behind (arrivalWorth r)
-    goes-on : {u : Valued} → r .to ≢ goal .target → firstOpen behind (r .to) (landsBy r) ≡ some u → Off r behind (changeWorth r behind)
+    goes-on : {u : Valued} → r .to ≢ goal .target → firstOpen behind (r .to) (ready (goal .gate) (landsBy r)) ≡ some u → Off r behind (changeWorth (goal .gate) r behind)
 
   pub off-is : (r : Ride) (behind : List Valued) (w : ℕ) → offInTicks goal r behind ≡ some w → Off r behind w
   unfolding offInTicks whenSafe
   off-is r behind w e =
       ifb (λ b. eqb (r .to) (goal .target) ≡ b
-      → cond b (cond (within (goal .bound) (landsBy r)) (some (arrivalWorth r)) none) (whenSafe next (changeWorth r behind)) ≡ some w → Off r behind w)
+      → cond b (cond (within (goal .bound) (landsBy r)) (some (arrivalWorth r)) none) (whenSafe next (changeWorth (goal .gate) r behind)) ≡ some w → Off r behind w)
       (eqb (r .to) (goal .target))
       (λ q _ k. ifb (λ b. within (goal .bound) (landsBy r) ≡ b → cond b (some (arrivalWorth r)) none ≡ some w → Off r behind w)
       (within (goal .bound) (landsBy r))
@@ -70,14 +70,14 @@ module _ (goal : Goal) where
       (λ q _ k. safe (eqb-false (r .to) (goal .target) q) next refl k) refl e
     where
       next : Option Valued
-      next = firstOpen behind (r .to) (landsBy r)
+      next = firstOpen behind (r .to) (ready (goal .gate) (landsBy r))
 
-      safe : r .to ≢ goal .target → (o : Option Valued) → next ≡ o → whenSafe o (changeWorth r behind) ≡ some w → Off r behind w
+      safe : r .to ≢ goal .target → (o : Option Valued) → next ≡ o → whenSafe o (changeWorth (goal .gate) r behind) ≡ some w → Off r behind w
       safe away none p l = absent l
       safe away (some u) p l = subst (λ x. Off r behind x) (same-thing l) (goes-on away p)
 
   -- either way it is worth what landing is worth
-  pub off-worth : (r : Ride) (behind : List Valued) (w : ℕ) → Off r behind w → landWorth (goal .target) r behind ≡ w
+  pub off-worth : (r : Ride) (behind : List Valued) (w : ℕ) → Off r behind w → landWorth (goal .gate) (goal .target) r behind ≡ w
   unfolding landWorth
-  off-worth r behind w (arrives e b) = cond-true (arrivalWorth r) (changeWorth r behind) (eq-eqb (r .to) (goal .target) e)
-  off-worth r behind w (goes-on away e) = cond-false (arrivalWorth r) (changeWorth r behind) (ne-eqb (r .to) (goal .target) away)
+  off-worth r behind w (arrives e b) = cond-true (arrivalWorth r) (changeWorth (goal .gate) r behind) (eq-eqb (r .to) (goal .target) e)
+  off-worth r behind w (goes-on away e) = cond-false (arrivalWorth r) (changeWorth (goal .gate) r behind) (ne-eqb (r .to) (goal .target) away)

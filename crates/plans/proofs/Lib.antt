@@ -18,3 +18,4 @@ pub mod OwnWorth
 pub mod ChosenWorth
 pub mod Extracted
 pub mod PlanRides
+pub mod GateNone

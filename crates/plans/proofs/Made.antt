@@ -6,7 +6,7 @@ use Rattle.laws.proofs.Options.{absent, same-thing}
 use Rattle.timetable.specs.Timetable.{Timetable}
 use Rattle.query.specs.declared.Query.{Query}
 use Rattle.plans.specs.declared.Goal.{Goal}
-use Rattle.plans.specs.Journeys.{goalOf, boundOf}
+use Rattle.plans.specs.Journeys.{goalOf, boundOf, readyAt}
 use Rattle.plans.specs.Worth.{Valued, firstOpen}
 use Rattle.plans.specs.Chosen.{inTicks}
 use Rattle.plans.specs.Plan.{Plan, planned, planBefore, planWithin, ridesFrom, chosenFor, earliest, latestOf}
@@ -22,14 +22,14 @@ pub record Made (t : Timetable) (q : Query) (p : Plan) : Type 0 where
   pub reached : earliest t q ≡ some end
   pub bounded : p .bound ≡ boundOf q end
   pub first : Valued
-  pub begins : firstOpen (chosenFor t (goalOf q (p .bound))) (q .source) (q .minute) ≡ some first
+  pub begins : firstOpen (chosenFor t (goalOf q (p .bound))) (q .source) (readyAt q) ≡ some first
   pub worth : p .expected ≡ first .worth
   pub holds : p .rides ≡ ridesFrom q (chosenFor t (goalOf q (p .bound)))
   pub ends : p .latest ≡ latestOf (p .rides)
 
 module _ (t : Timetable) (q : Query) where
   made-within :
-      (e : ℕ) → earliest t q ≡ some e → (first : Option Valued) → firstOpen (chosenFor t (goalOf q (boundOf q e))) (q .source) (q .minute) ≡ first
+      (e : ℕ) → earliest t q ≡ some e → (first : Option Valued) → firstOpen (chosenFor t (goalOf q (boundOf q e))) (q .source) (readyAt q) ≡ first
       → (p : Plan)
       → planWithin t q (boundOf q e) first ≡ some p → Made t q p
   unfolding planWithin
@@ -53,12 +53,12 @@ module _ (t : Timetable) (q : Query) where
   -- no plan: no earliest safe arrival, or no chosen row to begin with
   pub no-plan :
       {P : Type 0} → planned t q ≡ none → (earliest t q ≡ none → P)
-      → ((e : ℕ) → earliest t q ≡ some e → firstOpen (chosenFor t (goalOf q (boundOf q e))) (q .source) (q .minute) ≡ none → P) → P
+      → ((e : ℕ) → earliest t q ≡ some e → firstOpen (chosenFor t (goalOf q (boundOf q e))) (q .source) (readyAt q) ≡ none → P) → P
   unfolding planned planBefore planWithin
   no-plan {P} h never unopened = before (earliest t q) refl h
     where
       within : (e : ℕ) → earliest t q ≡ some e → (first : Option Valued)
-          → firstOpen (chosenFor t (goalOf q (boundOf q e))) (q .source) (q .minute) ≡ first
+          → firstOpen (chosenFor t (goalOf q (boundOf q e))) (q .source) (readyAt q) ≡ first
           → planWithin t q (boundOf q e) first ≡ none → P
       within e reached none begins k = unopened e reached begins
       within e reached (some first) begins k = absent (sym k)

@@ -9,7 +9,7 @@ use mathlib.Core.Path.{_≡_, refl, sym, ap, _∙_}
 use lib.ListN.{length}
 use Rattle.laws.proofs.Tests.{ifb}
 use Rattle.timetable.specs.Timetable.{maximumDelay}
-use Rattle.plans.specs.Rides.{Ride, landsBy}
+use Rattle.plans.specs.Rides.{Ride, landsBy, ready}
 use Rattle.plans.specs.Worth.{Valued, ridesOf, firstOpen, landWorth, valued}
 use Rattle.plans.specs.Chosen.{others}
 use Rattle.plans.proofs.Open.{too-late}
@@ -21,42 +21,42 @@ pub record Moves (r : Ride) : Type 0 where
   pub forward : r .departs < r .arrives
   pub delays : length (r .shares) ≡ suc (maximumDelay (r .shares))
 
-pub data OwnWorth (target : ℕ) : List Valued → Type 0 where
-  nobody : OwnWorth target []
+pub data OwnWorth (gate target : ℕ) : List Valued → Type 0 where
+  nobody : OwnWorth gate target []
   ahead :
-      {v : Valued} {vs : List Valued} → Moves (v .ride) → v .worth ≡ landWorth target (v .ride) vs
-      → (v .ride .to ≢ target → (safe : Valued) × (firstOpen vs (v .ride .to) (landsBy (v .ride)) ≡ some safe)) → OwnWorth target vs
-      → OwnWorth target (v ∷ vs)
+      {v : Valued} {vs : List Valued} → Moves (v .ride) → v .worth ≡ landWorth gate target (v .ride) vs
+      → (v .ride .to ≢ target → (safe : Valued) × (firstOpen vs (v .ride .to) (ready gate (landsBy (v .ride))) ≡ some safe)) → OwnWorth gate target vs
+      → OwnWorth gate target (v ∷ vs)
 
 -- what its own plan gives
-pub own-valued : (target : ℕ) {vs : List Valued} → OwnWorth target vs → valued target (ridesOf vs) ≡ vs
+pub own-valued : (gate target : ℕ) {vs : List Valued} → OwnWorth gate target vs → valued gate target (ridesOf vs) ≡ vs
 unfolding valued
-own-valued target nobody = refl
-own-valued target (ahead {v} {vs} moves worth on own) =
-    ap (λ (l : List Valued). record { ride = v .ride; worth = landWorth target (v .ride) l } ∷ l) (own-valued target own)
+own-valued gate target nobody = refl
+own-valued gate target (ahead {v} {vs} moves worth on own) =
+    ap (λ (l : List Valued). record { ride = v .ride; worth = landWorth gate target (v .ride) l } ∷ l) (own-valued gate target own)
     ∙ ap (λ w. record { ride = v .ride; worth = w } ∷ vs) (sym worth)
 
 -- a list behind a ride may be put for another, if who lands finds the same rides to board
 pub ahead-of :
-    (target : ℕ) (v : Valued) (vs us : List Valued) → Moves (v .ride)
-    → ((m : ℕ) → v .ride .arrives ≤ m → m ≤ landsBy (v .ride) → firstOpen us (v .ride .to) m ≡ firstOpen vs (v .ride .to) m)
-    → v .worth ≡ landWorth target (v .ride) vs
-    → (v .ride .to ≢ target → (safe : Valued) × (firstOpen vs (v .ride .to) (landsBy (v .ride)) ≡ some safe))
-    → OwnWorth target us → OwnWorth target (v ∷ us)
-ahead-of target v vs us moves same worth on own =
-    ahead moves (worth ∙ sym (land-same target (v .ride) us vs (moves .delays) same))
-    (λ away. let found = on away in (found .0, same (landsBy (v .ride)) (omega arith) (omega arith) ∙ found .1)) own
+    (gate target : ℕ) (v : Valued) (vs us : List Valued) → Moves (v .ride)
+    → ((m : ℕ) → ready gate (v .ride .arrives) ≤ m → m ≤ ready gate (landsBy (v .ride)) → firstOpen us (v .ride .to) m ≡ firstOpen vs (v .ride .to) m)
+    → v .worth ≡ landWorth gate target (v .ride) vs
+    → (v .ride .to ≢ target → (safe : Valued) × (firstOpen vs (v .ride .to) (ready gate (landsBy (v .ride))) ≡ some safe))
+    → OwnWorth gate target us → OwnWorth gate target (v ∷ us)
+ahead-of gate target v vs us moves same worth on own =
+    ahead moves (worth ∙ sym (land-same gate target (v .ride) us vs (moves .delays) same))
+    (λ away. let found = on away in (found .0, same (ready gate (landsBy (v .ride))) (omega arith) (omega arith) ∙ found .1)) own
 
 -- taking out what left no later than each of them departs changes no worth
 pub others-own :
-    (target : ℕ) (r : Ride) (vs : List Valued) → ((x : Valued) → List·Memᴰ x vs → r .departs ≤ x .ride .departs) → OwnWorth target vs
-    → OwnWorth target (others r vs)
+    (gate target : ℕ) (r : Ride) (vs : List Valued) → ((x : Valued) → List·Memᴰ x vs → r .departs ≤ x .ride .departs) → OwnWorth gate target vs
+    → OwnWorth gate target (others r vs)
 unfolding others
-others-own target r [] rising own = own
-others-own target r (v ∷ vs) rising (ahead moves worth on own) =
-    let further : OwnWorth target (others r vs) = others-own target r vs (λ x m. rising x (List·Memᴰ·tail m)) own in
-    ifb (λ b. OwnWorth target (cond b (others r vs) (v ∷ others r vs))) (same-minute (v .ride) r) (λ _. further)
-    (λ _. ahead-of target v vs (others r vs) moves
+others-own gate target r [] rising own = own
+others-own gate target r (v ∷ vs) rising (ahead moves worth on own) =
+    let further : OwnWorth gate target (others r vs) = others-own gate target r vs (λ x m. rising x (List·Memᴰ·tail m)) own in
+    ifb (λ b. OwnWorth gate target (cond b (others r vs) (v ∷ others r vs))) (same-minute (v .ride) r) (λ _. further)
+    (λ _. ahead-of gate target v vs (others r vs) moves
     (λ m h _. others-first r vs (v .ride .to) m
     (too-late r (v .ride .to) m
     (let a : r .departs ≤ v .ride .departs = rising v (List·Memᴰ·head refl) in omega (arith, moves .forward)))) worth on further)

@@ -10,7 +10,7 @@ use Rattle.plans.specs.declared.Goal.{Goal}
 use Rattle.plans.specs.Sound.{Timely}
 use Rattle.query.specs.declared.Query.{Query}
 use Rattle.plans.specs.Rides.{IsRide, landsBy}
-use Rattle.plans.specs.Journeys.{goalOf, within}
+use Rattle.plans.specs.Journeys.{goalOf, within, readyAt}
 use Rattle.plans.specs.Worth.{Valued, firstOpen}
 use Rattle.plans.specs.Chosen.{inTicks}
 use Rattle.plans.specs.Plan.{Plan, chosenFor, ridesFrom}
@@ -38,8 +38,8 @@ module _ (t : Timetable) (timely : Timely t) where
     for-gaining = subst (λ (l : List Valued). Gaining (goal .margin) l) (sym (chosen-for t goal))
         (chosen-gaining (inTicks goal) t timely 0 zero-le)
 
-    pub for-own : OwnWorth (goal .target) (chosenFor t goal)
-    for-own = subst (λ (l : List Valued). OwnWorth (goal .target) l) (sym (chosen-for t goal)) (chosen-own t timely goal 0 zero-le)
+    pub for-own : OwnWorth (goal .gate) (goal .target) (chosenFor t goal)
+    for-own = subst (λ (l : List Valued). OwnWorth (goal .gate) (goal .target) l) (sym (chosen-for t goal)) (chosen-own t timely goal 0 zero-le)
 
     pub for-ride : (v : Valued) → List·Memᴰ v (chosenFor t goal) → IsRide t (v .ride)
     for-ride v m = let p = for-picked v m in best-is-ride (inTicks goal) t (v .ride .board) (p .inside) v (p .best)
@@ -50,23 +50,23 @@ module _ (t : Timetable) (timely : Timely t) where
   module _ (q : Query) (p : Plan) (made : Made t q p) where
     pub plan-member : (v : Valued) → List·Memᴰ v (p .rides) → List·Memᴰ v (chosenFor t (goalOf q (p .bound)))
     unfolding ridesFrom
-    plan-member v m = extract-member (q .target) (chosenFor t (goalOf q (p .bound))) _ (subst (λ (l : List Valued). List·Memᴰ v l) (made .holds) m)
+    plan-member v m = extract-member (q .gate) (q .target) (chosenFor t (goalOf q (p .bound))) _ (subst (λ (l : List Valued). List·Memᴰ v l) (made .holds) m)
 
     pub plan-ordered : Ordered (p .rides)
     unfolding ridesFrom
-    plan-ordered = subst (λ (l : List Valued). Ordered l) (sym (made .holds)) (extract-ordered (q .target) (for-ordered (goalOf q (p .bound))) _)
+    plan-ordered = subst (λ (l : List Valued). Ordered l) (sym (made .holds)) (extract-ordered (q .gate) (q .target) (for-ordered (goalOf q (p .bound))) _)
 
-    pub plan-own : OwnWorth (q .target) (p .rides)
+    pub plan-own : OwnWorth (q .gate) (q .target) (p .rides)
     unfolding ridesFrom
     plan-own =
-        subst (λ (l : List Valued). OwnWorth (q .target) l) (sym (made .holds))
-        (extract-own (q .target) (for-own (goalOf q (p .bound))) (for-ordered (goalOf q (p .bound))) _)
+        subst (λ (l : List Valued). OwnWorth (q .gate) (q .target) l) (sym (made .holds))
+        (extract-own (q .gate) (q .target) (for-own (goalOf q (p .bound))) (for-ordered (goalOf q (p .bound))) _)
 
-    -- it begins with the first chosen row at the source at or after T
-    pub plan-first : firstOpen (p .rides) (q .source) (q .minute) ≡ some (made .first)
+    -- it begins with the first chosen row at the source at or after T + g
+    pub plan-first : firstOpen (p .rides) (q .source) (readyAt q) ≡ some (made .first)
     unfolding ridesFrom
     plan-first =
-        ap (λ (l : List Valued). firstOpen l (q .source) (q .minute)) (made .holds)
-        ∙ extract-first (q .target) (chosenFor t (goalOf q (p .bound))) _ (q .source) (q .minute) (made .begins)
-        (up-to-wants (q .source) (q .minute) (made .first) (made .begins) (made .first .ride) (found-boards _ (q .source) (q .minute) (made .begins))
+        ap (λ (l : List Valued). firstOpen l (q .source) (readyAt q)) (made .holds)
+        ∙ extract-first (q .gate) (q .target) (chosenFor t (goalOf q (p .bound))) _ (q .source) (readyAt q) (made .begins)
+        (up-to-wants (q .source) (readyAt q) (made .first) (made .begins) (made .first .ride) (found-boards _ (q .source) (readyAt q) (made .begins))
         (le-refl (made .first .ride .departs)))

@@ -4,12 +4,12 @@ use native.Mathlib.Nat.{mul-le-mul-left}
 use native.Mathlib.Omega.{arith}
 use mathlib.Core.Bool.{cond}
 use mathlib.Core.List.{List, [], _∷_, _++_}
-use mathlib.Core.Path.{_≡_, refl, ap, ap₂}
+use mathlib.Core.Path.{_≡_, refl, ap, ap₂, _∙_}
 use lib.Dec.{eqb}
 use lib.ListN.{length}
 use Rattle.timetable.specs.Timetable.{maximumDelay}
 use Rattle.timetable.specs.Classes.{sum, shareTotal}
-use Rattle.plans.specs.Rides.{Ride, landsBy}
+use Rattle.plans.specs.Rides.{Ride, landsBy, ready}
 use Rattle.timetable.specs.Ticks.{quotientUp}
 use Rattle.plans.specs.Worth.{Valued, weigh, firstOpen, caught, worthOr, changeWorth, arrivalWorth, landWorth}
 
@@ -30,26 +30,34 @@ weigh-less [] a f g less = omega arith
 weigh-less (p ∷ shares) a f g less =
     omega (arith, mul-le-mul-left p (less a (omega arith) (omega arith)), weigh-less shares (suc a) f g (λ m h k. less m (omega arith) (omega arith)))
 
+-- who lands a gate time later is as who becomes ready then
+pub weigh-ready : (shares : List ℕ) (gate a : ℕ) (f : ℕ → ℕ) → weigh shares (ready gate a) f ≡ weigh shares a (λ m. f (ready gate m))
+unfolding weigh
+weigh-ready [] gate a f = refl
+weigh-ready (p ∷ shares) gate a f =
+    ap (λ rest. p * f (ready gate a) + rest) (ap (λ m. weigh shares m f) (omega arith) ∙ weigh-ready shares gate (suc a) f)
+
 -- what is caught at a minute, and so what a change is worth
 pub change-same :
-    (r : Ride) (vs us : List Valued) → length (r .shares) ≡ suc (maximumDelay (r .shares))
-    → ((m : ℕ) → r .arrives ≤ m → m ≤ landsBy r → firstOpen vs (r .to) m ≡ firstOpen us (r .to) m) → changeWorth r vs ≡ changeWorth r us
+    (gate : ℕ) (r : Ride) (vs us : List Valued) → length (r .shares) ≡ suc (maximumDelay (r .shares))
+    → ((m : ℕ) → ready gate (r .arrives) ≤ m → m ≤ ready gate (landsBy r) → firstOpen vs (r .to) m ≡ firstOpen us (r .to) m) → changeWorth gate r vs ≡ changeWorth gate r us
 unfolding changeWorth caught
-change-same r vs us stand same =
-    ap (quotientUp shareTotal) (weigh-same (r .shares) (r .arrives) _ _ (λ m h k. ap (worthOr 0) (same m h (let z : m ≤ landsBy r = omega arith in z))))
+change-same gate r vs us stand same =
+    ap (quotientUp shareTotal) (weigh-same (r .shares) (r .arrives) _ _
+    (λ m h k. ap (worthOr 0) (same (ready gate m) (omega arith) (let z : ready gate m ≤ ready gate (landsBy r) = omega arith in z))))
 
 pub change-less :
-    (r : Ride) (vs us : List Valued) → length (r .shares) ≡ suc (maximumDelay (r .shares))
-    → ((m : ℕ) → r .arrives ≤ m → m ≤ landsBy r → caught vs (r .to) m ≤ caught us (r .to) m) → changeWorth r vs ≤ changeWorth r us
+    (gate : ℕ) (r : Ride) (vs us : List Valued) → length (r .shares) ≡ suc (maximumDelay (r .shares))
+    → ((m : ℕ) → ready gate (r .arrives) ≤ m → m ≤ ready gate (landsBy r) → caught vs (r .to) m ≤ caught us (r .to) m) → changeWorth gate r vs ≤ changeWorth gate r us
 unfolding changeWorth
-change-less r vs us stand less = omega (
+change-less gate r vs us stand less = omega (
   arith,
-  weigh-less (r .shares) (r .arrives) (λ m. caught vs (r .to) m) (λ m. caught us (r .to) m)
-      (λ m h k. less m h (let z : m ≤ landsBy r = omega arith in z)),
+  weigh-less (r .shares) (r .arrives) (λ m. caught vs (r .to) (ready gate m)) (λ m. caught us (r .to) (ready gate m))
+      (λ m h k. less (ready gate m) (omega arith) (let z : ready gate m ≤ ready gate (landsBy r) = omega arith in z)),
 )
 
 pub land-same :
-    (target : ℕ) (r : Ride) (vs us : List Valued) → length (r .shares) ≡ suc (maximumDelay (r .shares))
-    → ((m : ℕ) → r .arrives ≤ m → m ≤ landsBy r → firstOpen vs (r .to) m ≡ firstOpen us (r .to) m) → landWorth target r vs ≡ landWorth target r us
+    (gate target : ℕ) (r : Ride) (vs us : List Valued) → length (r .shares) ≡ suc (maximumDelay (r .shares))
+    → ((m : ℕ) → ready gate (r .arrives) ≤ m → m ≤ ready gate (landsBy r) → firstOpen vs (r .to) m ≡ firstOpen us (r .to) m) → landWorth gate target r vs ≡ landWorth gate target r us
 unfolding landWorth
-land-same target r vs us stand same = ap (λ x. cond (eqb (r .to) target) (arrivalWorth r) x) (change-same r vs us stand same)
+land-same gate target r vs us stand same = ap (λ x. cond (eqb (r .to) target) (arrivalWorth r) x) (change-same gate r vs us stand same)

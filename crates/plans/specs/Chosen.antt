@@ -1,4 +1,4 @@
--- Document 01, "Expected arrival in ticks", and document 02, E1: a row's worth, and which rows are chosen, from the last row to the first.
+-- Document 01, "Expected arrival in ticks", and document 02, E1 and E3: a row's worth, and which rows are chosen, from the last row to the first.
 use Prim.Native.Nat.{ℕ, suc, _+_}
 use mathlib.Core.Bool.{Bool, true, cond, not, _&&_}
 use mathlib.Core.List.{List, [], _∷_}
@@ -8,7 +8,7 @@ use Rattle.timetable.specs.Timetable.{Timetable, sharesOf}
 use Rattle.timetable.specs.declared.Row.{Row}
 use Rattle.query.specs.Query.{leastMargin}
 use Rattle.plans.specs.declared.Goal.{Goal}
-use Rattle.plans.specs.Rides.{Ride, landsBy}
+use Rattle.plans.specs.Rides.{Ride, landsBy, ready}
 use Rattle.plans.specs.Journeys.{within}
 use Rattle.plans.specs.Worth.{Valued, firstOpen, arrivalWorth, changeWorth}
 
@@ -20,20 +20,20 @@ unfoldable pub whenSafe : Option Valued → ℕ → Option ℕ
 whenSafe none worth = none
 whenSafe (some v) worth = some worth
 
--- at the target only if a + M is within the bound; elsewhere only if a chosen row departs at or after a + M
+-- at the target only if a + M is within the bound; elsewhere only if a chosen row can be boarded by one who is ready from a + M on
 unfoldable pub offInTicks : Goal → GettingOff
 offInTicks goal r behind =
     cond (eqb (r .to) (goal .target)) (cond (within (goal .bound) (landsBy r)) (some (arrivalWorth r)) none)
-    (whenSafe (firstOpen behind (r .to) (landsBy r)) (changeWorth r behind))
+    (whenSafe (firstOpen behind (r .to) (ready (goal .gate) (landsBy r))) (changeWorth (goal .gate) r behind))
 
 unfoldable pub worthOf : Option Valued → Option ℕ
 worthOf none = none
 worthOf (some v) = some (v .worth)
 
--- the same recursion for the earliest safe arrival: a + M at the target, elsewhere that of the first ride at or after a + M
-unfoldable pub offInMinutes : (target : ℕ) → GettingOff
-offInMinutes target r behind =
-    cond (eqb (r .to) target) (some (landsBy r)) (worthOf (firstOpen behind (r .to) (landsBy r)))
+-- the same recursion for the earliest safe arrival: a + M at the target, elsewhere that of the first ride from then on
+unfoldable pub offInMinutes : (gate target : ℕ) → GettingOff
+offInMinutes gate target r behind =
+    cond (eqb (r .to) target) (some (landsBy r)) (worthOf (firstOpen behind (r .to) (ready gate (landsBy r))))
 
 -- what a scan aims at: what getting off is worth, the stop where no row is chosen, and the margin between chosen rows
 pub record Aim : Type 0 where
@@ -45,8 +45,8 @@ abbrev pub inTicks : Goal → Aim
 inTicks goal = record { off = offInTicks goal; target = goal .target; margin = goal .margin }
 
 -- a query's margin does not touch the earliest safe arrival
-abbrev pub inMinutes : (target : ℕ) → Aim
-inMinutes target = record { off = offInMinutes target; target = target; margin = leastMargin }
+abbrev pub inMinutes : (gate target : ℕ) → Aim
+inMinutes gate target = record { off = offInMinutes gate target; target = target; margin = leastMargin }
 
 -- the ride of one row, and a later ride of the trip boarded at this row already
 abbrev pub rowRide : List (List ℕ) → ℕ → Row → Ride

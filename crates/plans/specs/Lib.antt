@@ -10,3 +10,4 @@ pub mod Trips
 pub mod Examples
 pub mod Misreadings
 pub mod Margins
+pub mod Gates

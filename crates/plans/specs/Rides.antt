@@ -1,4 +1,4 @@
--- Document 01, "Rides, safe journeys, plans": a ride, and when one who stands at a stop can board.
+-- Document 01, "Rides, safe journeys, plans", and document 02, E3: a ride, and when one who stands at a stop can board.
 use Prim.Native.Nat.{ℕ, _+_, _≤_, _<_}
 use mathlib.Core.Bool.{Bool, _&&_}
 use mathlib.Core.List.{List}
@@ -41,7 +41,12 @@ pub record IsRide (t : Timetable) (r : Ride) : Type 0 where
 abbrev pub landsBy : Ride → ℕ
 landsBy r = r .arrives + maximumDelay (r .shares)
 
--- one who stands at `stop` at `minute` can board what leaves `from` at `departs`: an equal minute is caught
+-- E3: gates close so many minutes before departure. One who is at a stop from a minute on is ready to board there so many minutes later;
+-- nothing else adds them
+abbrev pub ready : (gate minute : ℕ) → ℕ
+ready gate minute = minute + gate
+
+-- one who is ready at `stop` at `minute` can board what leaves `from` at `departs`: an equal minute is caught
 abbrev pub opens : (from departs stop minute : ℕ) → Bool
 opens from departs stop minute = eqb from stop && leb minute departs
 

@@ -14,10 +14,11 @@ use Rattle.file_layout.specs.Sound.{SoundFile}
 use Rattle.query.specs.declared.Query.{Query}
 use Rattle.query.specs.Query.{QueryFits}
 use Rattle.plans.specs.Sound.{Timely}
-use Rattle.plans.specs.Journeys.{Journey, CodeStands}
+use Rattle.plans.specs.Journeys.{Journey}
 use Rattle.plans.specs.Plan.{planned}
 use Rattle.demands.proofs.Demand2 as demand2
 use Rattle.plan_rows.proofs.Standing.{timely, version-one-plannable}
+use Rattle.plan_whole.proofs.Bounds.{code-stands}
 use Rattle.planner.specs.declared.Room.{Room}
 use Rattle.planner.specs.Admission.{needs, workRoom, admission, Admits}
 use Rattle.planner.specs.Outcome.{cleared, workAfter}
@@ -41,10 +42,7 @@ module _ (file : List ℕ) (q : Query) (work other : Room) (call : admission ver
 
   -- there is no plan exactly if there is no safe journey
   pub no-plan-exactly : (planned (decode versionOne file) q ≡ none) ↔ ((end : ℕ) → Journey (decode versionOne file) q end → ⊥)
-  no-plan-exactly = demand2.no-safe-journey (decode versionOne file) is-timely q code-stands (query-fits .apart)
-    where
-      code-stands : CodeStands (q .code)
-      code-stands = elim (query-fits .code) [ inl p ↦ inl p | inr p ↦ inr (p .0) ]
+  no-plan-exactly = demand2.no-safe-journey (decode versionOne file) is-timely q (code-stands query-fits) (query-fits .apart)
 
 -- work as an admitted call leaves it: the first 4n + 2,500 numbers are 0, and the rest are as they were
 pub work-cleared : (file work after : List ℕ) → after ≡ workAfter versionOne file work

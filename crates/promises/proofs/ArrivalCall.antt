@@ -1,51 +1,33 @@
--- What the earliest safe arrival call returns, for every list of bytes, stops, minute and slice, over its contract. Assumes nothing.
+-- What the calls for the earliest safe arrival return, for every list of bytes, query and slice, over their contracts. Assumes nothing.
 use Prim.Native.Nat.{ℕ, _+_, _*_, _≤_}
 use mathlib.Core.List.{List, []}
 use mathlib.Core.Logic.{_↔_}
 use mathlib.Core.Option.{Option, none, some}
 use mathlib.Core.Path.{_≡_, refl, sym, ap, _∙_}
 use lib.ListN.{length, take, drop, replicate}
-use contract.Lifetimes.{Lfts}
-use denote.Ref.{now}
-use denote.Triple.Clauses.{AtExit}
-use borrow.Fn.Kinds.{Dens, resT, endedOf}
 use Rattle.timetable.specs.Timetable.{Timetable}
 use Rattle.timetable.specs.Verdict.{Verdict, fine, fault}
 use Rattle.file_layout.specs.Format.{versionOne}
 use Rattle.file_layout.specs.Decode.{decode, trailerOf}
 use Rattle.query.specs.declared.Query.{Query}
-use Rattle.query.specs.Query.{plainQuery}
 use Rattle.plans.specs.Sound.{Timely}
 use Rattle.plans.specs.Journeys.{Journey, IsEarliest}
 use Rattle.plans.specs.Plan.{earliest}
 use Rattle.demands.proofs.Demand2 as demand2
+use Rattle.planner.specs.declared.Earliest.{Earliest}
 use Rattle.planner.specs.declared.Earliest.the-variants.{Arrival, Refused as NoArrival}
 use Rattle.planner.specs.Admission.{workRoom, noRoom, admission}
 use Rattle.planner.specs.Outcome.{workAfter, EarliestOutcome, earliestAnswered, earliestAnswer}
 use Rattle.planner.proofs.Admitting.{refused-number}
 use Rattle.planner.proofs.Answered.{refused-earliest, answered-earliest, arrival-is, refused-is, work-is}
 use Rattle.planner.proofs.ByNumber.{arrival-by-number}
-use Rattle.planner.proofs.earliest_safe_arrival.Kinds as kinds
-use Rattle.planner.proofs.earliest_safe_arrival.Reads as reads
+use Rattle.promises.specs.Returned.{AsArrival}
 use Rattle.promises.proofs.Admitted.{is-timely, query-fits, work-cleared}
 
--- whatever answer and slice the contract permits
-module _ (κs : Lfts 2) (arguments : Dens κs kinds.ps) (answer : resT kinds.r κs .Denot) (ending : AtExit (endedOf 2 kinds.ps kinds.r) κs)
-    (permitted : reads.Post κs arguments answer ending) where
-  abbrev file : List ℕ
-  file = now (arguments .0)
-
+-- whatever answer and slice a contract permits that asks for this query
+module _ (file : List ℕ) (q : Query) (work : List ℕ) (answer : Earliest) (work′ : List ℕ) (permitted : AsArrival file q work answer work′) where
   abbrev t : Timetable
   t = decode versionOne file
-
-  abbrev q : Query
-  q = plainQuery (arguments .1 .0) (arguments .1 .1 .0) (arguments .1 .1 .1 .0)
-
-  abbrev work : List ℕ
-  work = now (arguments .1 .1 .1 .1 .0)
-
-  abbrev work′ : List ℕ
-  work′ = now (ending .1 .1 .1 .1 .0)
 
   abbrev pub verdict : Verdict
   verdict = admission versionOne file q (workRoom (length work)) noRoom

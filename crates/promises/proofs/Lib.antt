@@ -2,6 +2,7 @@
 pub mod Admitted
 pub mod PlanCall
 pub mod ArrivalCall
+pub mod ArrivalCalls
 pub mod Minutes
 pub mod HostReads
 pub mod DeskCall
@@ -9,3 +10,4 @@ pub mod DeskCalls
 pub mod ShutOut
 pub mod SheetCall
 pub mod Margins
+pub mod Gates

@@ -18,6 +18,7 @@ use Rattle.file_layout.specs.Decode.{decode, trailerOf}
 use Rattle.query.specs.declared.Query.{Query}
 use Rattle.plans.specs.Rides.{Ride, IsRide, landsBy}
 use Rattle.timetable.specs.Ticks.{ticksAMinute}
+use Rattle.plans.specs.Journeys.{readyAt}
 use Rattle.plans.specs.Worth.{Valued, valued, ridesOf, firstOpen, landWorth, arrivalWorth, changeWorth}
 use Rattle.plans.specs.Chosen.{worthOf}
 use Rattle.plans.proofs.Open.{found-member}
@@ -36,18 +37,18 @@ use Rattle.promises.proofs.PlanCall.{demanded-rides}
 
 -- rides that land by a minute are worth no more than it
 valued-most :
-    (target minute : ℕ) (rides : List Ride) → ((r : Ride) → List·Memᴰ r rides → (sum (r .shares) ≡ shareTotal) × (landsBy r ≤ minute))
-    → (v : Valued) → List·Memᴰ v (valued target rides) → v .worth ≤ ticksAMinute * minute
+    (gate target minute : ℕ) (rides : List Ride) → ((r : Ride) → List·Memᴰ r rides → (sum (r .shares) ≡ shareTotal) × (landsBy r ≤ minute))
+    → (v : Valued) → List·Memᴰ v (valued gate target rides) → v .worth ≤ ticksAMinute * minute
 unfolding valued landWorth
-valued-most target minute [] each v m = absurd (List·Memᴰ·not-nil m)
-valued-most target minute (r ∷ rides) each v m =
-    let behind = valued-most target minute rides (λ x k. each x (List·Memᴰ·tail k)) in
+valued-most gate target minute [] each v m = absurd (List·Memᴰ·not-nil m)
+valued-most gate target minute (r ∷ rides) each v m =
+    let behind = valued-most gate target minute rides (λ x k. each x (List·Memᴰ·tail k)) in
     let own = each r (List·Memᴰ·head refl) in
     head-or-later (v .worth ≤ ticksAMinute * minute) m
     (λ e. subst (λ (x : Valued). x .worth ≤ ticksAMinute * minute) (sym e)
-    (ifb (λ b. cond b (arrivalWorth r) (changeWorth r (valued target rides)) ≤ ticksAMinute * minute) (eqb (r .to) target)
+    (ifb (λ b. cond b (arrivalWorth r) (changeWorth gate r (valued gate target rides)) ≤ ticksAMinute * minute) (eqb (r .to) target)
     (λ _. le-trans (arrival-most r (own .0)) (mul-le-mul-left ticksAMinute (own .1)))
-    (λ _. change-most r (valued target rides) (ticksAMinute * minute) (own .0) behind)))
+    (λ _. change-most gate r (valued gate target rides) (ticksAMinute * minute) (own .0) behind)))
     (λ k. behind v k)
 
 module _ (file : List ℕ) (q : Query) (work other : Room) (call : admission versionOne file q work other ≡ fine) where
@@ -77,7 +78,7 @@ module _ (file : List ℕ) (q : Query) (work other : Room) (call : admission ver
   module _ {rides : List Valued} {expected latest bound : ℕ} (demanded : Demanded (decode versionOne file) q rides expected latest bound) where
     worths-most : (v : Valued) → List·Memᴰ v rides → v .worth ≤ ticksAMinute * latest
     worths-most v m =
-        valued-most (q .target) latest (ridesOf rides)
+        valued-most (q .gate) (q .target) latest (ridesOf rides)
         (λ r k. let found = mapped-from (λ (u : Valued). u .ride) rides k in (
           ride-shares (decode versionOne file) (is-timely file q work other call) r (demanded .safe .are-rides r k),
           subst (λ (x : Ride). landsBy x ≤ latest) (sym (found .2)) (demanded .latest-minute .0 (found .0) (found .1)),
@@ -88,11 +89,11 @@ module _ (file : List ℕ) (q : Query) (work other : Room) (call : admission ver
     expected-worth : (v : Valued) × List·Memᴰ v rides × (v .worth ≡ expected)
     unfolding expectedOf
     expected-worth =
-        let own : valued (q .target) (sorted (ridesOf rides)) ≡ rides =
-        ap (valued (q .target)) (sorted-same (demanded .by-boarding-row)) ∙ demanded .own-worths in
-        let first = ap (λ (l : List Valued). worthOf (firstOpen l (q .source) (q .minute))) (sym own) ∙ demanded .expects in
-        let found = worth-is (firstOpen rides (q .source) (q .minute)) first in
-        (found .0, found-member rides (q .source) (q .minute) (found .1), found .2)
+        let own : valued (q .gate) (q .target) (sorted (ridesOf rides)) ≡ rides =
+        ap (valued (q .gate) (q .target)) (sorted-same (demanded .by-boarding-row)) ∙ demanded .own-worths in
+        let first = ap (λ (l : List Valued). worthOf (firstOpen l (q .source) (readyAt q))) (sym own) ∙ demanded .expects in
+        let found = worth-is (firstOpen rides (q .source) (readyAt q)) first in
+        (found .0, found-member rides (q .source) (readyAt q) (found .1), found .2)
 
   -- of every plan demanded: what the printed times and the desk's bytes are asked to hold
   pub plan-minutes : {rides : List Valued} {expected latest bound : ℕ} → Demanded (decode versionOne file) q rides expected latest bound

@@ -1,4 +1,4 @@
--- What a host reads from its answer and bytes, and what a pier reads from a sheet: the rides that demands 2 and 3 ask, on days 1 to 8.
+-- Which outcome a call gives; what a host reads from its answer and bytes, and what a pier reads from a sheet: the rides that demands 2 and 3 ask, on days 1 to 8.
 use Prim.Native.Nat.{ℕ, _*_, _≤_}
 use mathlib.Core.List.{List, _++_}
 use mathlib.Core.Path.{_≡_}
@@ -10,6 +10,8 @@ use Rattle.query.specs.declared.Query.{Query}
 use Rattle.plans.specs.Worth.{Valued}
 use Rattle.demands.specs.Demanded.{Demanded}
 use Rattle.plan_slice.specs.Slice.{ridesIn}
+use Rattle.planner.specs.declared.Earliest.{Earliest}
+use Rattle.planner.specs.Outcome.{earliestOutcome}
 use Rattle.sayurimpak.specs.Desk.{deskOutcome}
 use Rattle.sayurimpak.specs.Host.{numbersIn}
 use Rattle.sheet_text.specs.Sheet.{firstText, ridesText}
@@ -17,6 +19,10 @@ use Rattle.sheet_text.specs.Sheet.{firstText, ridesText}
 -- a call of the desk gives the desk's outcome for this query
 abbrev pub AsDesk : (file : List ℕ) → Query → (out : List ℕ) → (answer : ℕ) (bytes : List ℕ) → Type 0
 AsDesk file q out answer bytes = (answer ≡ deskOutcome versionOne file q out .answer) × (bytes ≡ deskOutcome versionOne file q out .bytes)
+
+-- a call for the earliest safe arrival gives its outcome for this query
+abbrev pub AsArrival : (file : List ℕ) → Query → (work : List ℕ) → (answer : Earliest) (after : List ℕ) → Type 0
+AsArrival file q work answer after = (answer ≡ earliestOutcome versionOne file q work .answer) × (after ≡ earliestOutcome versionOne file q work .work)
 
 -- the answer counts the rides that stand in the bytes, 12 bytes a ride; other bytes stay as they were in `out`
 pub record Booked (t : Timetable) (q : Query) (out : List ℕ) (answer : ℕ) (bytes : List ℕ) : Type 0 where

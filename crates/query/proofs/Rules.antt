@@ -11,7 +11,7 @@ use borrow.Author.Tests.{ltb-true, leb-true, eqb-true, eqb-false, lt-ltb, le-ltb
 use Rattle.laws.proofs.Tests.{both-left, both-right, either, cond-true, cond-false}
 use Rattle.numbers.specs.Numbers.{u16At}
 use Rattle.query.specs.declared.Query.{Query}
-use Rattle.query.specs.Query.{journeyRule, fewestQuarters, mostQuarters, codeRule, queryRule, leastMargin, mostMargin, marginRule, QueryFits, queryBytes, marginBytes, fourNumbers, withMargin, noQuery, queryIn}
+use Rattle.query.specs.Query.{journeyRule, fewestQuarters, mostQuarters, codeRule, queryRule, leastMargin, mostMargin, marginRule, mostGate, gateRule, QueryFits, queryBytes, marginBytes, gateBytes, fourNumbers, fiveNumbers, withGate, noQuery, queryIn}
 
 -- a conjunction with a false part is false
 broken : (b : Bool) → (b && false) ≡ false
@@ -38,15 +38,20 @@ module _ (stops last : ℕ) (q : Query) where
 
   pub journey-breaks : journeyRule stops last q ≡ false → false ≡ queryRule stops last q
   unfolding queryRule
-  journey-breaks e = sym (ap (λ x. x && codeRule q && marginRule q) e)
+  journey-breaks e = sym (ap (λ x. x && codeRule q && marginRule q && gateRule q) e)
 
   pub code-breaks : codeRule q ≡ false → false ≡ queryRule stops last q
   unfolding queryRule
   code-breaks e = simp (e, broken)
 
-  pub margin-decides-rule : journeyRule stops last q ≡ true → codeRule q ≡ true → marginRule q ≡ queryRule stops last q
+  pub margin-breaks : marginRule q ≡ false → false ≡ queryRule stops last q
   unfolding queryRule
-  margin-decides-rule e c = sym (ap (λ x. x && codeRule q && marginRule q) e ∙ ap (λ x. x && marginRule q) c)
+  margin-breaks e = simp (e, broken)
+
+  pub gate-decides-rule : journeyRule stops last q ≡ true → codeRule q ≡ true → marginRule q ≡ true → gateRule q ≡ queryRule stops last q
+  unfolding queryRule
+  gate-decides-rule e c m =
+      sym (ap (λ x. x && codeRule q && marginRule q && gateRule q) e ∙ ap (λ x. x && marginRule q && gateRule q) c ∙ ap (λ x. x && gateRule q) m)
 
 -- the bound code
 module _ (q : Query) where
@@ -72,16 +77,22 @@ module _ (q : Query) where
   unfolding marginRule
   margin-decides h = simp (le-leb _ _ h)
 
+-- the gate time
+pub gate-decides : (q : Query) → leb (q .gate) mostGate ≡ gateRule q
+unfolding gateRule
+gate-decides q = refl
+
 -- all that a kept rule tells
 pub rule-gives : (stops last : ℕ) (q : Query) → queryRule stops last q ≡ true → QueryFits stops last q
-unfolding queryRule journeyRule codeRule marginRule
+unfolding queryRule journeyRule codeRule marginRule gateRule
 rule-gives stops last q kept =
     let source = ltb (q .source) stops in
     let target = source && ltb (q .target) stops in
     let apart = target && not (eqb (q .source) (q .target)) in
     let journey = apart && leb (q .minute) last in
-    let both = both-left (journey && codeRule q) (marginRule q) kept in
-    let margin = both-right (journey && codeRule q) (marginRule q) kept in
+    let three = both-left (journey && codeRule q && marginRule q) (gateRule q) kept in
+    let both = both-left (journey && codeRule q) (marginRule q) three in
+    let margin = both-right (journey && codeRule q) (marginRule q) three in
     let e = both-left journey (codeRule q) both in
     let e₃ = both-left apart (leb (q .minute) last) e in
     let e₂ = both-left target (not (eqb (q .source) (q .target))) e₃ in
@@ -103,32 +114,43 @@ rule-gives stops last q kept =
         leb-true leastMargin (q .margin) (both-left (leb leastMargin (q .margin)) (leb (q .margin) mostMargin) margin),
         leb-true (q .margin) mostMargin (both-right (leb leastMargin (q .margin)) (leb (q .margin) mostMargin) margin),
       );
+      gate = leb-true (q .gate) mostGate (both-right (journey && codeRule q && marginRule q) (gateRule q) kept);
     }
 
 -- no code is above the most quarters
 pub code-most : {stops last : ℕ} {q : Query} → QueryFits stops last q → q .code ≤ mostQuarters
 code-most {stops} {last} {q} fits = elim (fits .code) [ inl p ↦ (let z : q .code ≤ mostQuarters = omega arith in z) | inr p ↦ p .1 ]
 
--- what 8 bytes, 10 bytes and any other bytes ask
+-- what 8 bytes, 10 bytes, 12 bytes and any other bytes ask
 module _ (bytes : List ℕ) where
+  not-so-many : {count other : ℕ} → length bytes ≡ count → count ≢ other → eqb (length bytes) other ≡ false
+  not-so-many e apart = ne-eqb _ _ (λ k. apart (sym e ∙ k))
+
   pub eight-bytes : length bytes ≡ queryBytes → fourNumbers bytes ≡ queryIn bytes
   unfolding queryIn
   eight-bytes e = sym (cond-true (fourNumbers bytes) _ (eq-eqb _ _ e))
 
-  pub ten-bytes : length bytes ≡ marginBytes → withMargin (u16At bytes 8) (fourNumbers bytes) ≡ queryIn bytes
+  pub ten-bytes : length bytes ≡ marginBytes → fiveNumbers bytes ≡ queryIn bytes
   unfolding queryIn
   ten-bytes e =
-      sym (cond-false (fourNumbers bytes) _ (ne-eqb (length bytes) queryBytes (λ k. let z : ⊥ = omega arith in z))
-      ∙ cond-true (withMargin (u16At bytes 8) (fourNumbers bytes)) noQuery (eq-eqb _ _ e))
+      sym (cond-false (fourNumbers bytes) _ (not-so-many e (λ k. let z : ⊥ = omega arith in z)) ∙ cond-true (fiveNumbers bytes) _ (eq-eqb _ _ e))
 
-  pub other-length : length bytes ≢ queryBytes → length bytes ≢ marginBytes → noQuery ≡ queryIn bytes
+  pub twelve-bytes : length bytes ≡ gateBytes → withGate (u16At bytes 10) (fiveNumbers bytes) ≡ queryIn bytes
   unfolding queryIn
-  other-length eight ten =
-      sym (cond-false (fourNumbers bytes) _ (ne-eqb _ _ eight) ∙ cond-false (withMargin (u16At bytes 8) (fourNumbers bytes)) noQuery (ne-eqb _ _ ten))
+  twelve-bytes e =
+      sym (cond-false (fourNumbers bytes) _ (not-so-many e (λ k. let z : ⊥ = omega arith in z))
+      ∙ cond-false (fiveNumbers bytes) _ (not-so-many e (λ k. let z : ⊥ = omega arith in z))
+      ∙ cond-true (withGate (u16At bytes 10) (fiveNumbers bytes)) noQuery (eq-eqb _ _ e))
 
-  -- `query` neither of 8 bytes nor of 10 is 6 in its usual place, for every file
-  pub other-length-refused : length bytes ≢ queryBytes → length bytes ≢ marginBytes → (stops last : ℕ)
+  pub other-length : length bytes ≢ queryBytes → length bytes ≢ marginBytes → length bytes ≢ gateBytes → noQuery ≡ queryIn bytes
+  unfolding queryIn
+  other-length eight ten twelve =
+      sym (cond-false (fourNumbers bytes) _ (ne-eqb _ _ eight) ∙ cond-false (fiveNumbers bytes) _ (ne-eqb _ _ ten)
+      ∙ cond-false (withGate (u16At bytes 10) (fiveNumbers bytes)) noQuery (ne-eqb _ _ twelve))
+
+  -- `query` of neither 8 bytes, nor 10, nor 12 is 6 in its usual place, for every file
+  pub other-length-refused : length bytes ≢ queryBytes → length bytes ≢ marginBytes → length bytes ≢ gateBytes → (stops last : ℕ)
       → queryRule stops last (queryIn bytes) ≡ false
-  other-length-refused eight ten stops last =
-      ap (queryRule stops last) (sym (other-length eight ten))
+  other-length-refused eight ten twelve stops last =
+      ap (queryRule stops last) (sym (other-length eight ten twelve))
       ∙ sym (journey-breaks stops last noQuery (sym (one-stop stops last noQuery refl)))

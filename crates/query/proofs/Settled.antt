@@ -11,6 +11,8 @@ use Rattle.query.proofs.code_rule.Kinds as code-kinds
 use Rattle.query.proofs.code_rule.Reads as code-reads
 use Rattle.query.proofs.margin_rule.Kinds as margin-kinds
 use Rattle.query.proofs.margin_rule.Reads as margin-reads
+use Rattle.query.proofs.gate_rule.Kinds as gate-kinds
+use Rattle.query.proofs.gate_rule.Reads as gate-reads
 
 pub query-of-settled : SettlesResult 0 numbers-kinds.ps numbers-kinds.r numbers-reads.Post
 query-of-settled κs arguments one other ending another first second = first ∙ sym second
@@ -26,3 +28,6 @@ code-rule-settled κs arguments one other ending another first second = first �
 
 pub margin-rule-settled : SettlesResult 0 margin-kinds.ps margin-kinds.r margin-reads.Post
 margin-rule-settled κs arguments one other ending another first second = first ∙ sym second
+
+pub gate-rule-settled : SettlesResult 0 gate-kinds.ps gate-kinds.r gate-reads.Post
+gate-rule-settled κs arguments one other ending another first second = first ∙ sym second

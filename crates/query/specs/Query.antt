@@ -1,4 +1,4 @@
--- Document 01, "Rides, safe journeys, plans" and "The sheet", and document 02, E1: what is asked of a plan, its rule and its bytes.
+-- Document 01, "Rides, safe journeys, plans" and "The sheet", and document 02, E1 and E3: what is asked of a plan, its rule and its bytes.
 use Prim.Native.Nat.{ℕ, _≤_, _<_}
 use mathlib.Core.Bool.{Bool, cond, not, _&&_, _||_}
 use mathlib.Core.List.{List}
@@ -16,17 +16,29 @@ leastMargin = 1
 abbrev pub mostMargin : ℕ
 mostMargin = 2560
 
--- from a stop to another, at minute T or later, with no bound and the least margin; the earliest safe arrival is asked so
+-- E3: a gate time of 0 to 30 minutes; gate 0 is document 01's rule
+abbrev pub mostGate : ℕ
+mostGate = 30
+
+-- from a stop to another, at minute T or later, with no bound, the least margin and no gate; the earliest safe arrival is asked so
 abbrev pub plainQuery : (source target minute : ℕ) → Query
-plainQuery source target minute = record { source = source; target = target; minute = minute; code = 0; margin = leastMargin }
+plainQuery source target minute =
+    record { source = source; target = target; minute = minute; code = 0; margin = leastMargin; gate = 0 }
 
 -- the same with bound code q
 abbrev pub withCode : (code : ℕ) → Query → Query
-withCode code q = record { source = q .source; target = q .target; minute = q .minute; code = code; margin = q .margin }
+withCode code q =
+    record { source = q .source; target = q .target; minute = q .minute; code = code; margin = q .margin; gate = q .gate }
 
 -- the same with another margin
 abbrev pub withMargin : (margin : ℕ) → Query → Query
-withMargin margin q = record { source = q .source; target = q .target; minute = q .minute; code = q .code; margin = margin }
+withMargin margin q =
+    record { source = q .source; target = q .target; minute = q .minute; code = q .code; margin = margin; gate = q .gate }
+
+-- the same with another gate time
+abbrev pub withGate : (gate : ℕ) → Query → Query
+withGate gate q =
+    record { source = q .source; target = q .target; minute = q .minute; code = q .code; margin = q .margin; gate = gate }
 
 -- both stops are below S and differ, and T is not past the last minute
 unfoldable pub journeyRule : (stops last : ℕ) → Query → Bool
@@ -46,9 +58,12 @@ codeRule q = eqb (q .code) 0 || (leb fewestQuarters (q .code) && leb (q .code) m
 unfoldable pub marginRule : Query → Bool
 marginRule q = leb leastMargin (q .margin) && leb (q .margin) mostMargin
 
--- all three, else 6; without a bound code q is 0 and without a margin it is 1, which keep their rules
+unfoldable pub gateRule : Query → Bool
+gateRule q = leb (q .gate) mostGate
+
+-- all four, else 6; without a bound code q is 0, without a margin it is 1 and without a gate time 0, which keep their rules
 unfoldable pub queryRule : (stops last : ℕ) → Query → Bool
-queryRule stops last q = journeyRule stops last q && codeRule q && marginRule q
+queryRule stops last q = journeyRule stops last q && codeRule q && marginRule q && gateRule q
 
 -- a query that keeps its rule
 pub record QueryFits (stops last : ℕ) (q : Query) : Type 0 where
@@ -58,13 +73,17 @@ pub record QueryFits (stops last : ℕ) (q : Query) : Type 0 where
   pub minute : q .minute ≤ last
   pub code : (q .code ≡ 0) ⊎ ((fewestQuarters ≤ q .code) × (q .code ≤ mostQuarters))
   pub margin : (leastMargin ≤ q .margin) × (q .margin ≤ mostMargin)
+  pub gate : q .gate ≤ mostGate
 
--- 8 bytes: source, target, T, q as u16; 10 bytes end with the margin
+-- 8 bytes: source, target, T, q as u16; 10 bytes end with the margin, 12 with the gate time behind it
 abbrev pub queryBytes : ℕ
 queryBytes = 8
 
 abbrev pub marginBytes : ℕ
 marginBytes = 10
+
+abbrev pub gateBytes : ℕ
+gateBytes = 12
 
 -- the four numbers that every query has
 abbrev pub fourNumbers : List ℕ → Query
@@ -74,8 +93,13 @@ fourNumbers bytes = withCode (u16At bytes 6) (plainQuery (u16At bytes 0) (u16At 
 abbrev pub noQuery : Query
 noQuery = plainQuery 0 0 0
 
--- A query of 10 bytes ends with the margin, one of 8 means 1
+-- and the margin behind them
+abbrev pub fiveNumbers : List ℕ → Query
+fiveNumbers bytes = withMargin (u16At bytes 8) (fourNumbers bytes)
+
+-- A query of 10 bytes ends with the margin, one of 8 means 1; one of 12 bytes ends with the gate time, a shorter one means 0
 unfoldable pub queryIn : List ℕ → Query
 queryIn bytes =
     cond (eqb (length bytes) queryBytes) (fourNumbers bytes)
-    (cond (eqb (length bytes) marginBytes) (withMargin (u16At bytes 8) (fourNumbers bytes)) noQuery)
+    (cond (eqb (length bytes) marginBytes) (fiveNumbers bytes)
+    (cond (eqb (length bytes) gateBytes) (withGate (u16At bytes 10) (fiveNumbers bytes)) noQuery))

@@ -12,7 +12,7 @@ pub const PLAN: usize = 6000;
 // More than the longest sound file, so that one byte too many is seen.
 pub const SAILINGS: usize = 28000;
 
-// More than a query's 10 bytes, so that one byte too many is seen.
+// More than a query's 12 bytes, so that one byte too many is seen.
 pub const QUERY: usize = 16;
 
 pub fn work_room() -> [u32; WORK]

@@ -1,9 +1,9 @@
-// Document 01, "Numbers returned on refusal", and document 02, E1: the booking desk's calls. include/sayurimpak.h is their manual.
+// Document 01, "Numbers returned on refusal", and document 02, E1 and E3: the booking desk's calls. include/sayurimpak.h is their manual.
 ghost use mathlib.Core.Path.{_≡_};
 ghost use Prim.Native.Nat.{_/_, min};
 ghost use lib.ListN.{length};
 ghost use Rattle.file_layout.specs.Format.{versionOne};
-ghost use Rattle.query.specs.Query.{plainQuery, withCode, withMargin};
+ghost use Rattle.query.specs.Query.{plainQuery, withCode, withGate, withMargin};
 ghost use Rattle.sayurimpak.specs.Desk.{deskOutcome};
 ghost use Rattle.sayurimpak.specs.Given.{given, Fitting};
 use numbers::cell;
@@ -47,7 +47,25 @@ pub extern "C" fn sayurimpak_plan_margin(
     ensures { λ r. ⌜ (r ≡ deskOutcome versionOne (now (file .entry)) (withMargin margin (withCode code (plainQuery source target minute))) (now (out .entry)) .answer)
         × (now (out .exit) ≡ deskOutcome versionOne (now (file .entry)) (withMargin margin (withCode code (plainQuery source target minute))) (now (out .entry)) .bytes) ⌝ }
 {
-    let q = query_of(source, target, minute, code, margin);
+    sayurimpak_plan_gate(file, source, target, minute, code, margin, 0, out)
+}
+
+// The same where gates close so many minutes before departure.
+#[no_mangle]
+pub extern "C" fn sayurimpak_plan_gate(
+    file: &[u8],
+    source: u32,
+    target: u32,
+    minute: u32,
+    code: u32,
+    margin: u32,
+    gate: u32,
+    out: &mut [u8],
+) -> u32
+    ensures { λ r. ⌜ (r ≡ deskOutcome versionOne (now (file .entry)) (withGate gate (withMargin margin (withCode code (plainQuery source target minute)))) (now (out .entry)) .answer)
+        × (now (out .exit) ≡ deskOutcome versionOne (now (file .entry)) (withGate gate (withMargin margin (withCode code (plainQuery source target minute)))) (now (out .entry)) .bytes) ⌝ }
+{
+    let q = query_of(source, target, minute, code, margin, gate);
     let mut work = work_room();
     let mut numbers = plan_room();
     let lent = lent_numbers(out.len());

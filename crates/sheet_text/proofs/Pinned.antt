@@ -1,4 +1,4 @@
--- Facts that pin the sheet to document 01's own lines, and to document 02, E1. Assumes nothing.
+-- Facts that pin the sheet to document 01's own lines, and to document 02, E1 and E3. Assumes nothing.
 use Prim.Native.Nat.{ℕ}
 use mathlib.Core.List.{List, [], _∷_}
 use mathlib.Core.Path.{_≡_, refl}
@@ -8,7 +8,7 @@ use Rattle.numbers.specs.Numbers.{u16At, u32At}
 use Rattle.file_layout.specs.Decode.{decode, trailerOf, trailerAt, trailerStart, rowsFrom, rowAt, tablesFrom, tableAt, sharesFrom, blockEnd, tablesEnd}
 use Rattle.file_layout.specs.Check.{fileVerdict, sectionsVerdict, lengthRule, trailerRule, classVerdict, classesVerdict, joined, sectionsJoin}
 use Rattle.file_layout.specs.Format.{versionOne}
-use Rattle.query.specs.Query.{journeyRule, codeRule, marginRule, queryRule, queryIn}
+use Rattle.query.specs.Query.{journeyRule, codeRule, marginRule, gateRule, queryRule, queryIn}
 use Rattle.plans.specs.Worth.{weigh, firstOpen, worthOr, caught, arrivalWorth, changeWorth}
 use Rattle.plans.specs.Chosen.{whenSafe, offInTicks, worthOf, offInMinutes, nextOf, getOff, stayOn, leastOf, firstAt, leads, others, choose, bestOf, scan, scanned}
 use Rattle.plans.specs.Plan.{earliest, chosenFor, inWindow, wanted, upTo, windowsOf, extract, ridesFrom, latestOf, planWithin, planBefore, planned}
@@ -51,11 +51,16 @@ printedCases =
     ∷ record { answered = sheetText versionOne caseW (queryWith (1 ∷ 10 ∷ [])); expected = refusedText 6 }
     ∷ record { answered = sheetText versionOne caseW (queryWith (1 ∷ [])); expected = refusedText 6 }
     ∷ record { answered = sheetText versionOne caseW (queryWith (1 ∷ 0 ∷ 0 ∷ [])); expected = refusedText 6 }
+    -- E3: gate time 0 changes nothing of W's sheet; 31 is 6, and so are a margin of 0 ahead of it and thirteen bytes
+    ∷ record { answered = sheetText versionOne caseW (queryWith (1 ∷ 0 ∷ 0 ∷ 0 ∷ [])); expected = linesW }
+    ∷ record { answered = sheetText versionOne caseW (queryWith (1 ∷ 0 ∷ 31 ∷ 0 ∷ [])); expected = refusedText 6 }
+    ∷ record { answered = sheetText versionOne caseW (queryWith (0 ∷ 0 ∷ 0 ∷ 0 ∷ [])); expected = refusedText 6 }
+    ∷ record { answered = sheetText versionOne caseW (queryWith (1 ∷ 0 ∷ 0 ∷ 0 ∷ 0 ∷ [])); expected = refusedText 6 }
     ∷ []
 
 pub cases-print : Hold printedCases
-unfolding sheetText askedText plannedText planText firstText ridesText rideText lineText callText refusedText numberText queryIn queryRule journeyRule codeRule marginRule admission callVerdict enough timeText faceText decimal digitsOnto dayOf dayStart sinceMidnight hourOf minuteOfHour roundedUp u16At u32At fileVerdict sectionsVerdict lengthRule trailerRule classVerdict classesVerdict joined sectionsJoin decode trailerOf trailerAt trailerStart rowsFrom rowAt tablesFrom tableAt sharesFrom blockEnd tablesEnd ownRule departureRule lastOfTrip follows tripRule rowVerdict rowsVerdict sum sharesRule planned planBefore earliest weigh firstOpen worthOr caught arrivalWorth changeWorth whenSafe offInTicks worthOf offInMinutes nextOf getOff stayOn leastOf firstAt leads others choose bestOf scan scanned chosenFor inWindow wanted upTo windowsOf extract ridesFrom latestOf planWithin
-cases-print = (refl, (refl, (refl, (refl, (refl, (refl, (refl, (refl, (refl, (refl, (refl, tt)))))))))))
+unfolding sheetText askedText plannedText planText firstText ridesText rideText lineText callText refusedText numberText queryIn queryRule journeyRule codeRule marginRule gateRule admission callVerdict enough timeText faceText decimal digitsOnto dayOf dayStart sinceMidnight hourOf minuteOfHour roundedUp u16At u32At fileVerdict sectionsVerdict lengthRule trailerRule classVerdict classesVerdict joined sectionsJoin decode trailerOf trailerAt trailerStart rowsFrom rowAt tablesFrom tableAt sharesFrom blockEnd tablesEnd ownRule departureRule lastOfTrip follows tripRule rowVerdict rowsVerdict sum sharesRule planned planBefore earliest weigh firstOpen worthOr caught arrivalWorth changeWorth whenSafe offInTicks worthOf offInMinutes nextOf getOff stayOn leastOf firstAt leads others choose bestOf scan scanned chosenFor inWindow wanted upTo windowsOf extract ridesFrom latestOf planWithin
+cases-print = (refl, (refl, (refl, (refl, (refl, (refl, (refl, (refl, (refl, (refl, (refl, (refl, (refl, (refl, (refl, tt)))))))))))))))
 
 -- `refused 4`
 pub refusal-prints : refusedText 4 ≡

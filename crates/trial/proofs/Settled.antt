@@ -10,8 +10,12 @@ use Rattle.trial.proofs.trial_plan.Kinds as plan-kinds
 use Rattle.trial.proofs.trial_plan.Reads as plan-reads
 use Rattle.trial.proofs.trial_plan_margin.Kinds as margin-kinds
 use Rattle.trial.proofs.trial_plan_margin.Reads as margin-reads
+use Rattle.trial.proofs.trial_plan_gate.Kinds as gate-kinds
+use Rattle.trial.proofs.trial_plan_gate.Reads as gate-reads
 use Rattle.trial.proofs.trial_earliest.Kinds as earliest-kinds
 use Rattle.trial.proofs.trial_earliest.Reads as earliest-reads
+use Rattle.trial.proofs.trial_earliest_gate.Kinds as gated-kinds
+use Rattle.trial.proofs.trial_earliest_gate.Reads as gated-reads
 use Rattle.trial.proofs.trial_house.Kinds as house-kinds
 use Rattle.trial.proofs.trial_house.Reads as house-reads
 
@@ -42,6 +46,16 @@ pub trial-plan-margin-settled :
 trial-plan-margin-settled κs arguments one other ending another first second =
     (first .0 ∙ sym (second .0), first .1 ∙ sym (second .1), first .2 ∙ sym (second .2))
 
+pub trial-plan-gate-settled :
+    (κs : Lfts 4) (arguments : Dens κs gate-kinds.ps) (one other : resT gate-kinds.r κs .Denot)
+    (ending another : AtExit (endedOf 4 gate-kinds.ps gate-kinds.r) κs)
+    → gate-reads.Post κs arguments one ending → gate-reads.Post κs arguments other another
+    → (now (ending .1 .1 .1 .1 .1 .1 .1 .1 .1 .0) ≡ now (another .1 .1 .1 .1 .1 .1 .1 .1 .1 .0))
+    × (now (ending .1 .1 .1 .1 .1 .1 .1 .0) ≡ now (another .1 .1 .1 .1 .1 .1 .1 .0))
+    × (now (ending .1 .1 .1 .1 .1 .1 .1 .1 .0) ≡ now (another .1 .1 .1 .1 .1 .1 .1 .1 .0))
+trial-plan-gate-settled κs arguments one other ending another first second =
+    (first .0 ∙ sym (second .0), first .1 ∙ sym (second .1), first .2 ∙ sym (second .2))
+
 pub trial-earliest-settled :
     (κs : Lfts 3) (arguments : Dens κs earliest-kinds.ps) (one other : resT earliest-kinds.r κs .Denot)
     (ending another : AtExit (endedOf 3 earliest-kinds.ps earliest-kinds.r) κs)
@@ -49,6 +63,15 @@ pub trial-earliest-settled :
     → (now (ending .1 .1 .1 .1 .1 .0) ≡ now (another .1 .1 .1 .1 .1 .0))
     × (now (ending .1 .1 .1 .1 .0) ≡ now (another .1 .1 .1 .1 .0))
 trial-earliest-settled κs arguments one other ending another first second =
+    (first .0 ∙ sym (second .0), first .1 ∙ sym (second .1))
+
+pub trial-earliest-gate-settled :
+    (κs : Lfts 3) (arguments : Dens κs gated-kinds.ps) (one other : resT gated-kinds.r κs .Denot)
+    (ending another : AtExit (endedOf 3 gated-kinds.ps gated-kinds.r) κs)
+    → gated-reads.Post κs arguments one ending → gated-reads.Post κs arguments other another
+    → (now (ending .1 .1 .1 .1 .1 .1 .0) ≡ now (another .1 .1 .1 .1 .1 .1 .0))
+    × (now (ending .1 .1 .1 .1 .1 .0) ≡ now (another .1 .1 .1 .1 .1 .0))
+trial-earliest-gate-settled κs arguments one other ending another first second =
     (first .0 ∙ sym (second .0), first .1 ∙ sym (second .1))
 
 pub trial-house-settled :

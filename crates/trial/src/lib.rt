@@ -3,7 +3,7 @@ ghost use mathlib.Core.Path.{_≡_};
 ghost use Rattle.file_layout.specs.Check.{answerOf, checked};
 ghost use Rattle.house.specs.HouseShare.{houseShare, houseAnswer};
 ghost use Rattle.file_layout.specs.Format.{versionOne};
-ghost use Rattle.query.specs.Query.{plainQuery, withCode, withMargin};
+ghost use Rattle.query.specs.Query.{plainQuery, withCode, withGate, withMargin};
 ghost use Rattle.planner.specs.Outcome.{planOutcome, planAnswer, earliestOutcome, earliestAnswer};
 ghost use Rattle.trial_answers.specs.Seen.{seen};
 use file_check::check;
@@ -13,7 +13,7 @@ use house::house_share;
 use numbers::cell;
 use plan_whole::Planned;
 use planner::Earliest;
-use planner::earliest_safe_arrival;
+use planner::earliest_with_gate;
 use planner::plan;
 use query::LEAST_MARGIN;
 use query::query_of;
@@ -92,7 +92,41 @@ pub extern "C" fn trial_plan_margin(
         × (now (work .exit) ≡ planOutcome versionOne (now (file .entry)) (withMargin margin (withCode code (plainQuery source target minute))) (now (work .entry)) (now (rides .entry)) .work)
         × (now (rides .exit) ≡ planOutcome versionOne (now (file .entry)) (withMargin margin (withCode code (plainQuery source target minute))) (now (work .entry)) (now (rides .entry)) .plan) ⌝ }
 {
-    let q = query_of(source, target, minute, code, margin);
+    trial_plan_gate(
+        file,
+        source,
+        target,
+        minute,
+        code,
+        margin,
+        0,
+        work,
+        rides,
+        answer,
+    );
+}
+
+// The same with a gate time.
+#[no_mangle]
+pub extern "C" fn trial_plan_gate(
+    file: &[u8],
+    source: u32,
+    target: u32,
+    minute: u32,
+    code: u32,
+    margin: u32,
+    gate: u32,
+    work: &mut [u32],
+    rides: &mut [u32],
+    answer: &mut [u32],
+)
+    ensures { λ r. ⌜ (now (answer .exit) ≡ seen
+        (planAnswer (planOutcome versionOne (now (file .entry)) (withGate gate (withMargin margin (withCode code (plainQuery source target minute)))) (now (work .entry)) (now (rides .entry)) .answer))
+        (now (answer .entry)))
+        × (now (work .exit) ≡ planOutcome versionOne (now (file .entry)) (withGate gate (withMargin margin (withCode code (plainQuery source target minute)))) (now (work .entry)) (now (rides .entry)) .work)
+        × (now (rides .exit) ≡ planOutcome versionOne (now (file .entry)) (withGate gate (withMargin margin (withCode code (plainQuery source target minute)))) (now (work .entry)) (now (rides .entry)) .plan) ⌝ }
+{
+    let q = query_of(source, target, minute, code, margin, gate);
     let planned = plan(file, q, work, rides);
     put_planned(planned, answer);
 }
@@ -112,8 +146,27 @@ pub extern "C" fn trial_earliest(
         (now (answer .entry)))
         × (now (work .exit) ≡ earliestOutcome versionOne (now (file .entry)) (plainQuery source target minute) (now (work .entry)) .work) ⌝ }
 {
-    let q = query_of(source, target, minute, 0, cell(LEAST_MARGIN));
-    let found = earliest_safe_arrival(file, q.source, q.target, q.minute, work);
+    trial_earliest_gate(file, source, target, minute, 0, work, answer);
+}
+
+// The same with a gate time.
+#[no_mangle]
+pub extern "C" fn trial_earliest_gate(
+    file: &[u8],
+    source: u32,
+    target: u32,
+    minute: u32,
+    gate: u32,
+    work: &mut [u32],
+    answer: &mut [u32],
+)
+    ensures { λ r. ⌜ (now (answer .exit) ≡ seen
+        (earliestAnswer (earliestOutcome versionOne (now (file .entry)) (withGate gate (plainQuery source target minute)) (now (work .entry)) .answer))
+        (now (answer .entry)))
+        × (now (work .exit) ≡ earliestOutcome versionOne (now (file .entry)) (withGate gate (plainQuery source target minute)) (now (work .entry)) .work) ⌝ }
+{
+    let q = query_of(source, target, minute, 0, cell(LEAST_MARGIN), gate);
+    let found = earliest_with_gate(file, q.source, q.target, q.minute, q.gate, work);
     put_earliest(found, answer);
 }
 

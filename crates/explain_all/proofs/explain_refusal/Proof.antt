@@ -15,6 +15,9 @@ print-starts-requires c κs = let a = c .before .before .before .before .before 
 returns : tie.Need-returns
 returns c = search needs
 
+is-query-length-requires : tie.Need-is-query-length-requires
+is-query-length-requires c κs = search needs
+
 say-query-length-requires : tie.Need-say-query-length-requires
 say-query-length-requires c κs = search needs
 
@@ -35,6 +38,7 @@ explain-refusal-spec =
     print-no-journey-requires
     print-starts-requires
     returns
+    is-query-length-requires
     say-query-length-requires
     returns-2
     print-query-fault-requires

@@ -14,12 +14,12 @@ use Rattle.explain_starts.proofs.last_start.Statement.{statement}
 use Rattle.explain_starts.proofs.last_start.Tie as tie
 
 abbrev Inv-loop : tie.InvT-loop
-Inv-loop file f trailer source target work₀ low₀ high₀ work low high =
-    StartFits f file trailer source target work × (work ≡ workAfter f file work₀) × (length work ≡ length work₀)
-    × Closing (decode f file) source target (f .lastminute) low high
+Inv-loop file f trailer source target gate work₀ low₀ high₀ work low high =
+    StartFits f file trailer source target gate work × (work ≡ workAfter f file work₀) × (length work ≡ length work₀)
+    × Closing (decode f file) source target gate (f .lastminute) low high
 
 abbrev μ-loop : tie.MeasureT-loop
-μ-loop file f trailer source target work₀ low₀ high₀ work low high = high - low
+μ-loop file f trailer source target gate work₀ low₀ high₀ work low high = high - low
 
 starts-at-requires : tie.Need-starts-at-requires Inv-loop μ-loop
 starts-at-requires c κs = (c .before .before .before .pre, zero-le)
@@ -32,7 +32,7 @@ returns c =
     let p = c .before .before .before in
     let a = p .before .before .before .before .args in
     let asked = p .starts-at .ensures in
-    (never-any (decode (a .f) (a .file .now)) (a .source) (a .target) (a .f .lastminute) (asked .0 .no (not-true _ (c .if1 .taken))), asked .1)
+    (never-any (decode (a .f) (a .file .now)) (a .source) (a .target) (a .gate) (a .f .lastminute) (asked .0 .no (not-true _ (c .if1 .taken))), asked .1)
 
 loop-holds : tie.Need-loop-holds Inv-loop μ-loop
 loop-holds c =
@@ -42,7 +42,7 @@ loop-holds c =
       fits-again (a .pre) (omega arith),
       asked .1 ∙ sym (cleared-again (a .args .f) (a .args .file .now) (a .args .work .now) (asked .1)),
       refl,
-      closing-first (decode (a .args .f) (a .args .file .now)) (a .args .source) (a .args .target) (a .args .f .lastminute)
+      closing-first (decode (a .args .f) (a .args .file .now)) (a .args .source) (a .args .target) (a .args .gate) (a .args .f .lastminute)
           (asked .0 .yes (not-false _ (c .if1 .left))),
     )
 
@@ -70,7 +70,7 @@ loop-again c =
       fits-again (l .inv .0) (omega arith),
       asked .1 ∙ cleared-again (a .f) (a .file .now) _ (l .inv .1),
       omega (arith, l .inv .2),
-      closing-up (decode (a .f) (a .file .now)) (a .source) (a .target) (l .inv .3) above within (asked .0 .yes (c .if2 .taken)),
+      closing-up (decode (a .f) (a .file .now)) (a .source) (a .target) (a .gate) (l .inv .3) above within (asked .0 .yes (c .if2 .taken)),
     )
 
 sub-high : tie.Need-sub-high Inv-loop μ-loop
@@ -91,7 +91,7 @@ loop-again-2 c =
       fits-again (l .inv .0) (omega arith),
       asked .1 ∙ cleared-again (a .f) (a .file .now) _ (l .inv .1),
       omega (arith, l .inv .2),
-      closing-down (decode (a .f) (a .file .now)) (a .source) (a .target) (l .inv .3) above within (asked .0 .no (c .if2 .left)),
+      closing-down (decode (a .f) (a .file .now)) (a .source) (a .target) (a .gate) (l .inv .3) above within (asked .0 .no (c .if2 .left)),
     )
 
 same-length-2 : tie.Need-same-length-2 Inv-loop μ-loop
@@ -102,7 +102,7 @@ returns-2 c =
     let l = c .before .loop in
     let p = c .before .before .before .before .before in
     let a = p .before .before .before .before .args in (
-      closing-end (decode (a .f) (a .file .now)) (a .source) (a .target) (l .inv .3) (omega arith),
+      closing-end (decode (a .f) (a .file .now)) (a .source) (a .target) (a .gate) (l .inv .3) (omega arith),
       l .inv .1 ∙ cleared-again (a .f) (a .file .now) (a .work .now) (p .starts-at .ensures .1),
     )
 

@@ -1,5 +1,6 @@
 -- `plan_earliest::board` meets its contract: a line for each return. Assumes nothing.
-use mathlib.Core.Path.{sym, _∙_}
+use mathlib.Core.Path.{sym, ap, _∙_}
+use Rattle.plans.specs.Rides.{ready}
 use Rattle.plan_earliest.specs.Cells.{already}
 use Rattle.plan_earliest.proofs.Returns.{boards-now, misses-now}
 use borrow.Author.Needs.{needs}
@@ -30,6 +31,9 @@ slice-read-number c = search needs
 number-requires : tie.Need-number-requires
 number-requires c κs = search needs
 
+ready-requires : tie.Need-ready-requires
+ready-requires c κs = search needs
+
 can-board-requires : tie.Need-can-board-requires
 can-board-requires c κs = search needs
 
@@ -44,14 +48,16 @@ same-length c = search needs
 
 returns-2 : tie.Need-returns-2
 returns-2 c =
-    let a = c .before .before .before .before .before .before .before .before .before .args in
-    boards-now (a .row) (a .work .now) (c .before .before .number .ensures .0)
+    let a = c .before .before .before .before .before .before .before .before .before .before .args in
+    boards-now (a .gate) (a .row) (a .work .now)
+    (c .before .before .ready .ensures ∙ ap (ready (a .gate)) (c .before .before .before .number .ensures .0))
     (sym (c .before .can-board .ensures) ∙ c .if2 .taken)
 
 returns-3 : tie.Need-returns-3
 returns-3 c =
-    let a = c .before .before .before .before .before .before .before .before .before .args in
-    misses-now (a .row) (a .work .now) (c .before .before .before .before .if1 .left) (c .before .before .number .ensures .0)
+    let a = c .before .before .before .before .before .before .before .before .before .before .args in
+    misses-now (a .gate) (a .row) (a .work .now) (c .before .before .before .before .before .if1 .left)
+    (c .before .before .ready .ensures ∙ ap (ready (a .gate)) (c .before .before .before .number .ensures .0))
     (sym (c .before .can-board .ensures) ∙ c .if2 .left)
 
 pub board-spec : {M : Type 1} → statement M
@@ -66,6 +72,7 @@ board-spec =
     mul-number
     slice-read-number
     number-requires
+    ready-requires
     can-board-requires
     mul-work
     slice-write-work

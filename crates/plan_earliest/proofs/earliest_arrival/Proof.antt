@@ -51,6 +51,7 @@ sail-until-requires c κs =
       a .pre .3,
       omega (arith, a .pre .6 .inside, a .pre .0 .rows-count),
       omega (arith, a .pre .7, start .same-length),
+      a .pre .8,
     )
 
 mul-result : tie.Need-mul-result
@@ -58,7 +59,7 @@ mul-result c = search needs
 
 -- only the cells of trips and stops were touched
 behind :
-    (c : tie.After-slice-known5) → SameOutside tripCells pairCells (entry (sweep c) .args .work .now) (c .before .before .before .sail-until .last .1 .1 .1 .1 .1 .0)
+    (c : tie.After-slice-known5) → SameOutside tripCells pairCells (entry (sweep c) .args .work .now) (c .before .before .before .sail-until .last .1 .1 .1 .1 .1 .1 .0)
 behind c =
     let a = entry (sweep c) in
     outside-then (start-behind (blank (sweep c)) (a .args .q .source) (a .pre .2) (sweep c .before .cell .ensures))

@@ -16,7 +16,7 @@ returns : tie.Need-returns
 returns c =
     let a = c .before .before .before .before .before .before .before .args in
     let b = c .before .before .before .board in
-    missed (subst (λ on. Boarded (a .row) (a .work .now) (b .last .1 .0) on) (not-true _ (c .if1 .taken)) (b .ensures))
+    missed (subst (λ on. Boarded (a .gate) (a .row) (a .work .now) (b .last .1 .1 .0) on) (not-true _ (c .if1 .taken)) (b .ensures))
 
 land-requires : tie.Need-land-requires
 land-requires c κs = search needs
@@ -29,7 +29,7 @@ returns-2 c =
     let a = c .before .before .before .before .before .before .before .before .before .before .before .args in
     let b = c .before .before .before .before .before .before .before .board in
     let test = c .before .before .before .before .if1 in
-    sailed (subst (λ on. Boarded (a .row) (a .work .now) (b .last .1 .0) on) (not-false _ (test .left)) (b .ensures))
+    sailed (subst (λ on. Boarded (a .gate) (a .row) (a .work .now) (b .last .1 .1 .0) on) (not-false _ (test .left)) (b .ensures))
     (c .before .before .land .ensures)
 
 pub sail-spec : {M : Type 1} → statement M

@@ -13,12 +13,12 @@ use Rattle.plan_earliest.proofs.sail_until.Statement.{statement}
 use Rattle.plan_earliest.proofs.sail_until.Tie as tie
 
 abbrev Inv-loop : tie.InvT-loop
-Inv-loop file s tables target first work₀ i₀ work i =
+Inv-loop file s tables target gate first work₀ i₀ work i =
     (first ≤ i) × (i ≤ s .rows) × SameOutside tripCells pairCells work₀ work
-    × ((source minute : ℕ) → Swept (timetableIn file s) source minute first work₀ → Swept (timetableIn file s) source minute i work)
+    × ((source minute : ℕ) → Swept (timetableIn file s) gate source minute first work₀ → Swept (timetableIn file s) gate source minute i work)
 
 abbrev μ-loop : tie.MeasureT-loop
-μ-loop file s tables target first work₀ i₀ work i = s .rows - i
+μ-loop file s tables target gate first work₀ i₀ work i = s .rows - i
 
 loop-holds : tie.Need-loop-holds Inv-loop μ-loop
 loop-holds c = (omega arith, omega arith, outside-same tripCells pairCells (c .before .before .before .args .work .now), λ _ _ sw. sw)
@@ -54,7 +54,7 @@ returns c =
       l .inv .2,
       λ source minute sw. stops-there (a .args .file .now) (a .args .s) (a .pre .0) (l .i) (omega arith)
           (c .before .before .before .before .nth-row .ensures .0) (a .args .target) (a .pre .2) (l .work) (c .before .before .number .ensures .0)
-          (sym (c .before .can-board .ensures) ∙ c .if2 .taken) source minute (l .inv .3 source minute sw),
+          (sym (c .before .can-board .ensures) ∙ c .if2 .taken) (a .args .gate) source minute (l .inv .3 source minute sw),
     )
 
 sail-requires : tie.Need-sail-requires Inv-loop μ-loop
@@ -65,6 +65,7 @@ sail-requires c κs =
           (row-placed (a .args .file .now) (a .args .s) (a .pre .0) (a .args .tables .now) (a .pre .1) (l .i) (omega arith)),
       a .pre .1 .room,
       omega (arith, l .inv .2 .same-length),
+      a .pre .5,
     )
 
 loop-less : tie.Need-loop-less Inv-loop μ-loop
@@ -93,7 +94,7 @@ returns-2 c =
     let l = c .before .before .loop in (
       l .inv .2,
       λ source minute sw. ends-there (a .args .file .now) (a .args .s) (a .pre .0) (l .i) (omega arith) (a .args .target) (a .pre .2)
-          (l .work) source minute (l .inv .3 source minute sw),
+          (l .work) (a .args .gate) source minute (l .inv .3 source minute sw),
     )
 
 pub sail-until-spec : {M : Type 1} → statement M

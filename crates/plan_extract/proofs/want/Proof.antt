@@ -10,11 +10,11 @@ use Rattle.plan_extract.proofs.want.Statement.{statement}
 use Rattle.plan_extract.proofs.want.Tie as tie
 
 abbrev Inv-loop : tie.InvT-loop
-Inv-loop land arrival landing work₀ entry₀ key₀ work entry key =
-    Down work₀ work (stackStart work₀ land) (stackSize work₀ land) arrival landing entry key
+Inv-loop land soon last work₀ entry₀ key₀ work entry key =
+    Down work₀ work (stackStart work₀ land) (stackSize work₀ land) soon last entry key
 
 abbrev μ-loop : tie.MeasureT-loop
-μ-loop land arrival landing work₀ entry₀ key₀ work entry key = entry
+μ-loop land soon last work₀ entry₀ key₀ work entry key = entry
 
 stack-of-requires : tie.Need-stack-of-requires Inv-loop μ-loop
 stack-of-requires c κs = (omega arith, omega arith)
@@ -22,7 +22,7 @@ stack-of-requires c κs = (omega arith, omega arith)
 first-open-requires : tie.Need-first-open-requires Inv-loop μ-loop
 first-open-requires c κs =
     let a = c .before .before .before .before in
-    passing.falling-there (a .args .work .now) (a .args .land) (a .args .arrival) (a .args .landing) (a .pre)
+    passing.falling-there (a .args .work .now) (a .args .land) (a .args .soon) (a .args .last) (a .pre)
     (c .before .stack-of .ensures .0) (c .before .stack-of .ensures .1)
 
 mul-key : tie.Need-mul-key Inv-loop μ-loop
@@ -35,7 +35,7 @@ loop-holds : tie.Need-loop-holds Inv-loop μ-loop
 loop-holds c =
     let a = c .before .before .before .before .before .before in
     let stack = c .before .before .before .stack-of in
-    passing.down-first (a .args .work .now) (a .args .land) (a .args .arrival) (a .args .landing) (a .pre) (stack .ensures .0) (stack .ensures .1)
+    passing.down-first (a .args .work .now) (a .args .land) (a .args .soon) (a .args .last) (a .pre) (stack .ensures .0) (stack .ensures .1)
     (c .before .first-open .ensures)
 
 departure-of-requires : tie.Need-departure-of-requires Inv-loop μ-loop
@@ -75,8 +75,8 @@ loop-again c =
     let d = c .before .before .before .before .departure-of in
     let o = c .before .before .before .can-board in
     let here : 0 + c .before .row-of .result ≡ l .key % keyStep = omega (arith, c .before .row-of .ensures) in
-    passing.down-on (a .args .work .now) (a .args .land) (a .args .arrival) (a .args .landing) (a .pre) (l .inv) (0 + c .before .row-of .result)
-    here (passing.missed (a .args .landing) (l .key) (d .result) (o .result) (o .ensures) (d .ensures) (c .before .before .if1 .taken))
+    passing.down-on (a .args .work .now) (a .args .land) (a .args .soon) (a .args .last) (a .pre) (l .inv) (0 + c .before .row-of .result)
+    here (passing.missed (a .args .last) (l .key) (d .result) (o .result) (o .ensures) (d .ensures) (c .before .before .if1 .taken))
 
 row-of-requires-2 : tie.Need-row-of-requires-2 Inv-loop μ-loop
 row-of-requires-2 c κs = tt
@@ -100,8 +100,8 @@ returns c =
     let d = c .before .before .before .departure-of in
     let o = c .before .before .can-board in
     let here : 0 + c .row-of2 .result ≡ l .key % keyStep = omega (arith, c .row-of2 .ensures) in
-    passing.down-last (a .args .work .now) (a .args .land) (a .args .arrival) (a .args .landing) (a .pre) (l .inv) (0 + c .row-of2 .result) here
-    (passing.reached (a .args .landing) (l .key) (d .result) (o .result) (o .ensures) (d .ensures) (c .before .if1 .left))
+    passing.down-last (a .args .work .now) (a .args .land) (a .args .soon) (a .args .last) (a .pre) (l .inv) (0 + c .row-of2 .result) here
+    (passing.reached (a .args .last) (l .key) (d .result) (o .result) (o .ensures) (d .ensures) (c .before .if1 .left))
 
 pub want-spec : {M : Type 1} → statement M
 want-spec =

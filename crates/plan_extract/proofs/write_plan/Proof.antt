@@ -87,6 +87,7 @@ write-wanted-requires c κs =
       a .pre .4,
       still-ahead k (a .pre .5),
       alone (c .before .before .before .before),
+      a .pre .6,
     )
 
 same-length : tie.Need-same-length

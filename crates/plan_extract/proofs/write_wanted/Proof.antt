@@ -1,12 +1,13 @@
 -- `plan_extract::write_wanted` meets its contract: at row i the plan is written as far as the rows before it. Assumes nothing.
-use Prim.Native.Nat.{_+_, _-_, _≤_, _<_}
+use Prim.Native.Nat.{ℕ, _+_, _-_, _≤_, _<_}
 use mathlib.Core.List.{List, List·Memᴰ}
 use mathlib.Core.Logic.{_≢_}
-use mathlib.Core.Path.{sym, ap, _∙_}
+use mathlib.Core.Path.{_≡_, sym, ap, _∙_}
 use native.Mathlib.Nat.{zero-add}
 use native.Mathlib.Omega.{arith}
 use lib.ListN.{getD}
 use Rattle.timetable.specs.declared.Row.{Row}
+use Rattle.plans.specs.Rides.{ready}
 use Rattle.plans.specs.Worth.{Valued}
 use Rattle.plans.proofs.Open.{found-member}
 use Rattle.plans.proofs.Order.{Ordered}
@@ -40,7 +41,7 @@ Ahead a = PlanAhead (a .args .file .now) (a .args .s) (a .args .goal) (a .args .
 abbrev chosen : (a : tie.Start Inv-loop μ-loop) → Ahead a → List Valued
 chosen a p = scanIn (a .args .file .now) (a .args .s) (a .args .goal) (p .first) (a .args .end) .chosen
 
-scanned : (a : tie.Start Inv-loop μ-loop) (p : Ahead a) → Ordered (chosen a p) × OwnWorth (a .args .goal .target) (chosen a p)
+scanned : (a : tie.Start Inv-loop μ-loop) (p : Ahead a) → Ordered (chosen a p) × OwnWorth (a .args .goal .gate) (a .args .goal .target) (chosen a p)
 scanned a p = (
   ordered (a .args .file .now) (a .args .s) (a .pre .0) (a .args .end) (a .pre .2) (a .args .goal) (p .first) (p .ordered),
   own-worth (a .args .file .now) (a .args .s) (a .pre .0) (a .args .end) (a .pre .2) (a .args .goal) (p .first) (p .ordered),
@@ -65,7 +66,7 @@ loop-holds c =
       omega arith,
       outside-same tripCells stopCells (a .args .work .now),
       λ p.
-          writing-start (chosen a p) (scanned a p .0) (p .begins) (a .args .goal .target) (a .args .s .rows) (scanned a p .1) (a .args .plan .now) w
+          writing-start (chosen a p) (scanned a p .0) (p .begins) (a .args .goal .gate) (a .args .goal .target) (a .args .s .rows) (scanned a p .1) (a .args .plan .now) w
           (a .pre .6),
     )
 
@@ -169,39 +170,51 @@ leaving c = c .before .before .before .before .before .nth-row .result
 
 -- away from the target the stack of the landing stop is met
 stack-met : (c : tie.After-later Inv-loop μ-loop) → leaving c .land ≢ entered (boarded c) .args .goal .target
-    → Catching (boarded c .before .before .before .loop .work) (leaving c .land) (leaving c .arrival)
-    (leaving c .arrival + c .before .before .number .result)
+    → {soon by : ℕ} → soon ≡ ready (entered (boarded c) .args .goal .gate) (leaving c .arrival)
+    → by ≡ ready (entered (boarded c) .args .goal .gate) (leaving c .arrival + c .before .before .number .result)
+    → Catching (boarded c .before .before .before .loop .work) (leaving c .land) soon by
 stack-met c =
     let w = c .before .before .before .before .before .before .before .before .write-row in
     let n = c .before .before .before .before .before .nth-row in
     let d = c .before .before .number in
     met (own-turn (boarded c)) (w .result) (w .ensures .0) (n .result) (n .ensures .0) (d .result) (d .ensures .0)
 
+ready-requires : tie.Need-ready-requires Inv-loop μ-loop
+ready-requires c κs = (entered (boarded (c .before .before .before)) .pre .7, omega (arith, lands-soon (c .before .before .before .before .before)))
+
+ready-requires-2 : tie.Need-ready-requires-2 Inv-loop μ-loop
+ready-requires-2 c κs =
+    (entered (boarded (c .before .before .before .before)) .pre .7, omega (arith, lands-soon (c .before .before .before .before .before .before)))
+
 want-requires : tie.Need-want-requires Inv-loop μ-loop
-want-requires c κs = stack-met (c .before .before .before .before) (c .before .if2 .taken)
+want-requires c κs =
+    stack-met (c .before .before .before .before .before .before) (c .before .before .before .if2 .taken) (c .before .before .ready .ensures)
+    (c .before .ready2 .ensures)
 
 loop-less : tie.Need-loop-less Inv-loop μ-loop
 loop-less c =
-    let r = c .before .before .before .before .before .before .before in
+    let r = c .before .before .before .before .before .before .before .before .before in
     omega (arith, own-turn (boarded r) .below)
 
 loop-again : tie.Need-loop-again Inv-loop μ-loop
 loop-again c =
-    let r = c .before .before .before .before .before .before .before in
+    let r = c .before .before .before .before .before .before .before .before .before in
     let m = boarded r in
     let l = m .before .before .before .loop in
     let w = r .before .before .before .before .before .before .before .before .write-row in
     let n = r .before .before .before .before .before .nth-row in
     let d = r .before .before .number in
-    let away = c .before .before .before .before .if2 .taken in
+    let away = c .before .before .before .before .before .before .if2 .taken in
+    let soon = c .before .before .before .before .before .ready .ensures in
+    let by = c .before .before .before .before .ready2 .ensures in
     let passed = c .before .before .want .ensures in (
       omega (arith, own-turn m .below),
       omega (arith, l .inv .1),
       omega (arith, r .later .ensures, lands-soon (r .before .before), l .inv .2),
-      outside-then (l .inv .3) (marks-only (l .work) _ _ _ (stack-met r away) passed),
+      outside-then (l .inv .3) (marks-only (l .work) _ _ _ (stack-met r away soon by) passed),
       λ p.
           changed (turn m p) (w .result) (w .ensures .0) (n .result) (n .ensures .0) (d .result) (d .ensures .0) (w .last .1 .1 .1 .0) (w .ensures .1)
-          (r .later .result) (r .later .ensures) away (c .before .before .want .last .1 .1 .1 .0) passed,
+          (r .later .result) (r .later .ensures) away soon by (c .before .before .want .last .1 .1 .1 .0) passed,
     )
 
 loop-less-2 : tie.Need-loop-less-2 Inv-loop μ-loop
@@ -276,6 +289,8 @@ write-wanted-spec =
     add-landing
     add-rides
     later-requires
+    ready-requires
+    ready-requires-2
     want-requires
     loop-less
     loop-again

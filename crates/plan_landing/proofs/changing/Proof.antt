@@ -15,13 +15,13 @@ use Rattle.plan_landing.proofs.changing.Statement.{statement}
 use Rattle.plan_landing.proofs.changing.Tie as tie
 
 abbrev Inv-loop : tie.InvT-loop
-Inv-loop work at arrival landing tables shares entry₀ departure₀ done₀ sum₀ entry departure done sum =
+Inv-loop work at soon last tables shares entry₀ departure₀ done₀ sum₀ entry departure done sum =
     (start first : ℕ) (held : List ℕ) (caught : ℕ → ℕ) → at ≡ start + 2 * first
-    → Boarding work tables start first arrival landing shares held caught
-    → Turn work start first arrival held caught entry departure done sum
+    → Boarding work tables start first soon last shares held caught
+    → Turn work start first soon held caught entry departure done sum
 
 abbrev μ-loop : tie.MeasureT-loop
-μ-loop work at arrival landing tables shares entry₀ departure₀ done₀ sum₀ entry departure done sum = entry
+μ-loop work at soon last tables shares entry₀ departure₀ done₀ sum₀ entry departure done sum = entry
 
 -- places on the way: the entry, the loop's head, and where a turn's share is read
 abbrev begun : tie.At-loop Inv-loop μ-loop → tie.Start Inv-loop μ-loop
@@ -38,7 +38,7 @@ sharing c = c .before .before
 
 turn-at : (c : tie.At-loop Inv-loop μ-loop) →
     let s = begun c in
-    Turn (s .args .work .now) (s .pre .start) (s .pre .first) (s .args .arrival) (s .pre .shares) (s .pre .caught) (c .loop .entry)
+    Turn (s .args .work .now) (s .pre .start) (s .pre .first) (s .args .soon) (s .pre .shares) (s .pre .caught) (c .loop .entry)
     (c .loop .departure) (c .loop .done) (c .loop .sum)
 turn-at c =
     let p = begun c .pre in
@@ -46,23 +46,23 @@ turn-at c =
 
 room-at : (c : tie.At-loop Inv-loop μ-loop) →
     let a = begun c .args in
-    Room (a .work .now) (a .arrival) (c .loop .entry) (c .loop .departure) (c .loop .done) (c .loop .sum)
+    Room (a .work .now) (a .soon) (c .loop .entry) (c .loop .departure) (c .loop .done) (c .loop .sum)
 room-at c = room (begun c .pre .boarding) (turn-at c)
 
-early : (c : tie.Then1 Inv-loop μ-loop) → turning c .loop .departure < begun (turning c) .args .landing
+early : (c : tie.Then1 Inv-loop μ-loop) → turning c .loop .departure < begun (turning c) .args .last
 early c =
-    leb-false (begun (turning c) .args .landing) (turning c .loop .departure)
+    leb-false (begun (turning c) .args .last) (turning c .loop .departure)
     (sym (c .before .can-board .ensures) ∙ not-true (c .before .can-board .result) (c .if1 .taken))
 
 more-at : (c : tie.Then1 Inv-loop μ-loop) →
     let l = turning c in
     let a = begun l .args in
-    MoreRoom (a .tables .now) (a .arrival) (a .shares) (l .loop .entry) (l .loop .departure) (l .loop .done)
+    MoreRoom (a .tables .now) (a .soon) (a .shares) (l .loop .entry) (l .loop .departure) (l .loop .done)
 more-at c = more-room (begun (turning c) .pre .boarding) (turn-at (turning c)) (early c)
 
-late : (c : tie.Else1 Inv-loop μ-loop) → begun (leaving c) .args .landing ≤ leaving c .loop .departure
+late : (c : tie.Else1 Inv-loop μ-loop) → begun (leaving c) .args .last ≤ leaving c .loop .departure
 late c =
-    leb-true (begun (leaving c) .args .landing) (leaving c .loop .departure)
+    leb-true (begun (leaving c) .args .last) (leaving c .loop .departure)
     (sym (c .before .can-board .ensures) ∙ not-false (c .before .can-board .result) (c .if1 .left))
 
 -- what a turn adds fits: the share is within the whole, the worth within an entry
@@ -181,7 +181,7 @@ loop-again c =
     let share = shared .long .result in
     let worth : getD (a .work .now) (l .entry + 1) 0 ≡ c .before .before .long2 .result = sym (c .before .before .long2 .ensures .0) in
     subst
-    (λ w. Turn (a .work .now) start first (a .arrival) held caught (l .entry - 2) (c .departure-of2 .result) share
+    (λ w. Turn (a .work .now) start first (a .soon) held caught (l .entry - 2) (c .departure-of2 .result) share
     (l .sum + (share - l .done) * w))
     worth
     (turns boarding (l .inv start first held caught stands boarding) share (c .departure-of2 .result) (early (sharing shared))

@@ -4,14 +4,19 @@ use mathlib.Core.List.{List}
 use mathlib.Core.Path.{_≡_, sym, ap, subst, _∙_}
 use native.Mathlib.Nat.{add-zero}
 use native.Mathlib.Omega.{arith}
+use lib.Dec.{leb}
 use lib.ListN.{getD}
 use borrow.Author.Needs.{needs}
 use borrow.Author.Tests.{leb-true, leb-false, not-true, not-false}
 use Rattle.timetable.specs.Timetable.{maximumDelay}
 use Rattle.plan_stacks.specs.Stacks.{keyStep, stackStart, stackSize, Falling, FirstOpenAt, entryDeparture}
-use Rattle.plans.specs.Worth.{Valued, caught}
-use Rattle.plan_landing.specs.Landing.{Ready}
-use Rattle.plan_landing.proofs.Landings.{falling, none-there, all-gone, boarding, expected-fits, off-late, off-there, off-unsafe, off-changing}
+use Rattle.plans.specs.Rides.{ready}
+use Rattle.timetable.specs.Classes.{shareTotal}
+use Rattle.timetable.specs.Ticks.{quotientUp}
+use Rattle.plans.specs.Worth.{Valued, caught, weigh}
+use Rattle.plan_landing.specs.Landing.{Landable}
+use Rattle.plan_landing.specs.Boarding.{Boarding, SomeBoarding}
+use Rattle.plan_landing.proofs.Landings.{falling, none-there, all-gone, boarding, expected-fits, landing-small, off-late, off-there, off-unsafe, off-changing}
 use Rattle.plan_landing.proofs.getting_off.Statement.{statement}
 use Rattle.plan_landing.proofs.getting_off.Tie as tie
 
@@ -32,7 +37,7 @@ abbrev timed : tie.After-stack-of → tie.After-number
 timed c = elsewhere c .before .before .before .before
 
 abbrev stacked : tie.After-can-board → tie.After-stack-of
-stacked c = c .before .before .before .before .before
+stacked c = c .before .before .before .before .before .before
 
 -- a + M, as the class's block has it
 abbrev landing : tie.After-number → ℕ
@@ -40,11 +45,15 @@ landing c = begun c .args .row .arrival + c .number .result
 
 lands : (c : tie.After-number) (shares : List ℕ) (chosen : List Valued) →
     let a = begun c .args in
-    Ready (a .row) (a .tables .now) (a .work .now) shares chosen → landing c ≡ a .row .arrival + maximumDelay shares
-lands c shares chosen ready =
+    Landable (a .row) (a .tables .now) (a .work .now) shares chosen → landing c ≡ a .row .arrival + maximumDelay shares
+lands c shares chosen given =
     let a = begun c .args in
     ap (λ m. a .row .arrival + m)
-    (c .number .ensures .0 ∙ ap (λ k. getD (a .tables .now) k 0) (add-zero (256 * a .row .class)) ∙ ready .block .longest-held)
+    (c .number .ensures .0 ∙ ap (λ k. getD (a .tables .now) k 0) (add-zero (256 * a .row .class)) ∙ given .block .longest-held)
+
+-- when one who lands at a + M is ready
+abbrev last : tie.After-can-board → ℕ
+last c = let t = timed (stacked c) in ready (begun t .args .goal .gate) (landing t)
 
 some-entry : (c : tie.Else3) →
     let a = begun (timed (c .before .before)) .args in
@@ -64,32 +73,38 @@ bottom-read c =
 gone : (c : tie.Then4) →
     let t = timed (stacked (c .before)) in
     let a = begun t .args in
-    entryDeparture (a .work .now) (stackStart (a .work .now) (a .row .land)) 0 < landing t
+    entryDeparture (a .work .now) (stackStart (a .work .now) (a .row .land)) 0 < last (c .before)
 gone c =
-    let t = timed (stacked (c .before)) in
-    subst (λ d. d < landing t) (bottom-read (c .before))
-    (leb-false (landing t) (c .before .before .departure-of .result)
-    (sym (c .before .can-board .ensures) ∙ not-true (c .before .can-board .result) (c .if4 .taken)))
+    subst (λ d. d < last (c .before)) (bottom-read (c .before))
+    (leb-false (last (c .before)) (c .before .before .departure-of .result)
+    (ap (λ m. leb m (c .before .before .departure-of .result)) (sym (c .before .before .before .before .ready .ensures))
+    ∙ sym (c .before .can-board .ensures) ∙ not-true (c .before .can-board .result) (c .if4 .taken)))
 
 late : (c : tie.Else4) →
     let t = timed (stacked (c .before)) in
     let a = begun t .args in
-    landing t ≤ entryDeparture (a .work .now) (stackStart (a .work .now) (a .row .land)) 0
+    last (c .before) ≤ entryDeparture (a .work .now) (stackStart (a .work .now) (a .row .land)) 0
 late c =
-    let t = timed (stacked (c .before)) in
-    subst (λ d. landing t ≤ d) (bottom-read (c .before))
-    (leb-true (landing t) (c .before .before .departure-of .result)
-    (sym (c .before .can-board .ensures) ∙ not-false (c .before .can-board .result) (c .if4 .left)))
+    subst (λ d. last (c .before) ≤ d) (bottom-read (c .before))
+    (leb-true (last (c .before)) (c .before .before .departure-of .result)
+    (ap (λ m. leb m (c .before .before .departure-of .result)) (sym (c .before .before .before .before .ready .ensures))
+    ∙ sym (c .before .can-board .ensures) ∙ not-false (c .before .can-board .result) (c .if4 .left)))
+
+-- when one who lands on time is ready
+abbrev soon : tie.After-can-board → ℕ
+soon c = let a = begun (timed (stacked c)) .args in ready (a .goal .gate) (a .row .arrival)
 
 found : (c : tie.After-first-open) →
-    let a = begun (timed (stacked (c .before .before))) .args in
+    let a = begun (timed (stacked (c .before .before .before))) .args in
     FirstOpenAt (a .work .now) (stackStart (a .work .now) (a .row .land)) (stackSize (a .work .now) (a .row .land))
-    (a .row .arrival) (c .first-open .result)
+    (soon (c .before .before .before)) (c .first-open .result)
 found c =
-    let s = stacked (c .before .before) in
+    let s = stacked (c .before .before .before) in
     let a = begun (timed s) .args in
-    moved (λ start size. FirstOpenAt (a .work .now) start size (a .row .arrival) (c .first-open .result)) (sym (s .stack-of .ensures .0))
-    (sym (s .stack-of .ensures .1)) (c .first-open .ensures)
+    moved (λ start size. FirstOpenAt (a .work .now) start size (soon (c .before .before .before)) (c .first-open .result)) (sym (s .stack-of .ensures .0))
+    (sym (s .stack-of .ensures .1))
+    (subst (λ m. FirstOpenAt (a .work .now) (s .stack-of .result .start) (s .stack-of .result .size) m (c .first-open .result)) (c .before .ready2 .ensures)
+    (c .first-open .ensures))
 
 mul-class : tie.Need-mul-class
 mul-class c = search needs
@@ -114,10 +129,10 @@ bounded-requires c κs = search needs
 
 returns : tie.Need-returns
 returns c =
-    λ shares chosen ready.
+    λ shares chosen given.
     let t = timed-there (c .before .before) in
     let goal = begun t .args .goal in
-    off-late ready goal (landing t) (lands t shares chosen ready) (c .before .before .if1 .taken)
+    off-late given goal (landing t) (lands t shares chosen given) (c .before .before .if1 .taken)
     (sym (c .before .bounded .ensures) ∙ not-true (c .before .bounded .result) (c .if2 .taken))
 
 mul-cell : tie.Need-mul-cell
@@ -138,17 +153,17 @@ shared-slice-read-result c = search needs
 add-result-2 : tie.Need-add-result-2
 add-result-2 c =
     let t = timed-there (c .before .before .before .before .before) in
-    omega (arith, c .before .cell .ensures, expected-fits (begun t .pre .ready))
+    omega (arith, c .before .cell .ensures, expected-fits (begun t .pre .0 .given))
 
 returns-2 : tie.Need-returns-2
 returns-2 c =
-    λ shares chosen ready.
+    λ shares chosen given.
     let there = c .before .before .before .before .before in
     let t = timed-there there in
     let a = begun t .args in
     let soon = c .before .before .before .before .bounded in
     ap (λ x. x + getD (a .tables .now) (256 * a .row .class + 1) 0) (c .before .cell .ensures)
-    ∙ off-there ready (a .goal) (landing t) (lands t shares chosen ready) (there .if1 .taken)
+    ∙ off-there given (a .goal) (landing t) (lands t shares chosen given) (there .if1 .taken)
     (sym (soon .ensures) ∙ not-false (soon .result) (c .before .before .before .if2 .left))
 
 stack-of-requires : tie.Need-stack-of-requires
@@ -156,12 +171,12 @@ stack-of-requires c κs = search needs
 
 returns-3 : tie.Need-returns-3
 returns-3 c =
-    λ shares chosen ready.
+    λ shares chosen given.
     let s = c .before .before in
     let t = timed s in
     let goal = begun t .args .goal in
-    off-unsafe ready goal (landing t) (lands t shares chosen ready) (elsewhere s .if1 .left)
-    (none-there ready (landing t) (sym (s .stack-of .ensures .1) ∙ c .if3 .taken))
+    off-unsafe given goal (landing t) (lands t shares chosen given) (elsewhere s .if1 .left)
+    (none-there given (ready (goal .gate) (landing t)) (sym (s .stack-of .ensures .1) ∙ c .if3 .taken))
 
 mul-departure-of : tie.Need-mul-departure-of
 mul-departure-of c = search needs
@@ -172,55 +187,76 @@ shared-slice-read-departure-of c = search needs
 departure-of-requires : tie.Need-departure-of-requires
 departure-of-requires c κs = search needs
 
+ready-requires : tie.Need-ready-requires
+ready-requires c κs =
+    let t = timed (c .before .before) in
+    let p = begun t .pre in
+    (p .1, landing-small (p .0 .given) (landing t) (lands t (p .0 .shares) (p .0 .chosen) (p .0 .given)))
+
 can-board-requires : tie.Need-can-board-requires
 can-board-requires c κs = search needs
 
 returns-4 : tie.Need-returns-4
 returns-4 c =
-    λ shares chosen ready.
+    λ shares chosen given.
     let s = stacked (c .before) in
     let t = timed s in
     let goal = begun t .args .goal in
-    off-unsafe ready goal (landing t) (lands t shares chosen ready) (elsewhere s .if1 .left)
-    (all-gone ready (landing t) (some-entry (c .before .before .before .before)) (gone c))
+    off-unsafe given goal (landing t) (lands t shares chosen given) (elsewhere s .if1 .left)
+    (all-gone given (last (c .before)) (some-entry (c .before .before .before .before .before)) (gone c))
+
+ready-requires-2 : tie.Need-ready-requires-2
+ready-requires-2 c κs = let p = begun (timed (stacked (c .before))) .pre in (p .1, omega (arith, p .0 .given .lands))
 
 first-open-requires : tie.Need-first-open-requires
 first-open-requires c κs =
-    let s = stacked (c .before) in
-    let begin = begun (timed s) in
-    moved (λ start size. Falling (begin .args .work .now) start size (begin .args .row .arrival)) (s .stack-of .ensures .0) (s .stack-of .ensures .1)
-    (falling (begin .pre .ready) (begin .args .row .arrival) (some-entry (c .before .before .before .before)) (omega (arith, late c)))
+    let board = c .before .before in
+    let s = stacked board in
+    let a = begun (timed s) in
+    moved (λ start size. Falling (a .args .work .now) start size (c .ready2 .result)) (s .stack-of .ensures .0) (s .stack-of .ensures .1)
+    (falling (a .pre .0 .given) (c .ready2 .result) (some-entry (board .before .before .before .before))
+    (omega (arith, c .ready2 .ensures, late (c .before))))
 
 add-changing : tie.Need-add-changing
-add-changing c = search needs
+add-changing c = let p = begun (timed (stacked (c .before .before .before))) .pre in omega (arith, p .0 .given .class)
 
 changing-requires : tie.Need-changing-requires
 changing-requires c κs =
-    let t = timed (stacked (c .before .before)) in
+    let board = c .before .before .before in
+    let t = timed (stacked board) in
     let a = begun t .args in
-    let p = begun t .pre in
-    record {
+    let p = begun t .pre .0 in
+    moved (λ from until. SomeBoarding (a .work .now) (a .tables .now) (c .first-open .result) from until (256 * a .row .class + 2))
+    (c .before .ready2 .ensures) (board .before .before .before .ready .ensures)
+    (record {
       start = stackStart (a .work .now) (a .row .land);
       first = found c .place;
       shares = p .shares;
       caught = λ minute. caught (p .chosen) (a .row .land) minute;
       stands = found c .stands;
-      boarding = boarding (p .ready) (c .first-open .result) (found c) (landing t) (lands t (p .shares) (p .chosen) (p .ready)) (late (c .before));
-    }
+      boarding =
+          boarding (p .given) (soon board) (c .first-open .result) (found c) (last board)
+          (omega (arith, lands t (p .shares) (p .chosen) (p .given))) (late (c .before .before));
+    })
 
 returns-5 : tie.Need-returns-5
 returns-5 c =
-    λ shares chosen ready.
-    let s = stacked (c .before .before .before) in
+    λ shares chosen given.
+    let board = c .before .before .before .before in
+    let s = stacked board in
     let t = timed s in
     let a = begun t .args in
     let opened = found (c .before) in
-    let on = lands t shares chosen ready in
-    let safe = late (c .before .before) in
+    let on = lands t shares chosen given in
+    let safe = late (c .before .before .before) in
     c .changing .ensures (stackStart (a .work .now) (a .row .land)) (opened .place) shares (λ minute. caught chosen (a .row .land) minute)
-    (opened .stands) (boarding ready (c .before .first-open .result) opened (landing t) on safe)
-    ∙ off-changing ready (a .goal) (landing t) on (elsewhere s .if1 .left)
-    (some-entry (c .before .before .before .before .before .before)) safe
+    (opened .stands)
+    (moved (λ from until. Boarding (a .work .now) (a .tables .now) (stackStart (a .work .now) (a .row .land)) (opened .place) from until
+    (256 * a .row .class + 2) shares (λ minute. caught chosen (a .row .land) minute))
+    (c .before .before .ready2 .ensures) (board .before .before .before .ready .ensures)
+    (boarding given (soon board) (c .before .first-open .result) opened (last board) (omega (arith, on)) safe))
+    ∙ ap (λ from. quotientUp shareTotal (weigh shares from (λ minute. caught chosen (a .row .land) minute))) (c .before .before .ready2 .ensures)
+    ∙ off-changing given (a .goal) (landing t) on (elsewhere s .if1 .left) (some-entry (board .before .before .before .before)) safe
 
 pub getting-off-spec : {M : Type 1} → statement M
 getting-off-spec =
@@ -243,11 +279,13 @@ getting-off-spec =
     returns-2
     stack-of-requires
     returns-3
+    ready-requires
     mul-departure-of
     shared-slice-read-departure-of
     departure-of-requires
     can-board-requires
     returns-4
+    ready-requires-2
     first-open-requires
     add-changing
     changing-requires

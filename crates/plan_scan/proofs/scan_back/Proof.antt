@@ -127,7 +127,7 @@ unfolding closed-here
 weigh-rows-requires c κs =
     let parted = c .before .before .before .before in
     let a = begun (emptied-at parted) in
-    (a .pre .0, a .pre .1, a .pre .2, a .pre .3, room-closed parted, laid-here parted)
+    (a .pre .0, a .pre .1, a .pre .2, a .pre .3, room-closed parted, laid-here parted, a .pre .5)
 
 abbrev parted-at : tie.After-weigh-rows → tie.After-part-stacks
 parted-at c = c .before .before .before .before .before

@@ -7,7 +7,7 @@ use Rattle.plan_cells.specs.Cells.{tripCells, used}
 use Rattle.plan_cells.specs.Outside.{SameOutside}
 use Rattle.plan_cells.proofs.Outside.{outside-same, outside-then}
 use Rattle.plan_scan.specs.Held.{Held}
-use Rattle.plan_scan.proofs.Turn.{Weighed, turn-weighable, turn-some-ready, turn-weighed, turn-unchosen, turn-pushable, turn-chosen, turn-stays}
+use Rattle.plan_scan.proofs.Turn.{Weighed, turn-weighable, turn-some-landable, turn-weighed, turn-unchosen, turn-pushable, turn-chosen, turn-stays}
 use Rattle.plan_scan.proofs.weigh_rows.Statement.{statement}
 use Rattle.plan_scan.proofs.weigh_rows.Tie as tie
 
@@ -63,10 +63,12 @@ getting-off-requires : tie.Need-getting-off-requires Inv-loop μ-loop
 getting-off-requires c κs =
     let n = c .before in
     let a = begun n in
-    let l = n .before .before .loop in
-    turn-some-ready (a .args .file .now) (a .args .s) (a .args .goal) (a .args .first) (a .args .end) (a .pre .0) (a .pre .3) (l .i - 1) (first-here n)
-    (end-here n) (l .work) (l .limits) (room-here n) (n .nth-row .result) (n .nth-row .ensures .0) (held-here n)
-    (a .args .tables .now) (a .pre .1)
+    let l = n .before .before .loop in (
+      turn-some-landable (a .args .file .now) (a .args .s) (a .args .goal) (a .args .first) (a .args .end) (a .pre .0) (a .pre .3) (l .i - 1) (first-here n)
+          (end-here n) (l .work) (l .limits) (room-here n) (n .nth-row .result) (n .nth-row .ensures .0) (held-here n)
+          (a .args .tables .now) (a .pre .1),
+      a .pre .6,
+    )
 
 weigh-row-requires : tie.Need-weigh-row-requires Inv-loop μ-loop
 weigh-row-requires c κs =

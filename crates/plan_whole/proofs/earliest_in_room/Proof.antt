@@ -3,23 +3,23 @@ use mathlib.Core.Path.{refl, sym, ap, _∙_}
 use native.Mathlib.Omega.{arith}
 use Rattle.plan_cells.specs.Cells.{cellOf}
 use Rattle.plan_whole.specs.Steps.{PlanningInput}
-use Rattle.plan_whole.proofs.Laying.{rows-stand, tables-stand, lays, earliest-there}
+use Rattle.plan_whole.proofs.Laying.{rows-stand, tables-stand, minute-fits, lays, earliest-there}
 use borrow.Author.Needs.{needs}
 use Rattle.plan_whole.proofs.earliest_in_room.Statement.{statement}
 use Rattle.plan_whole.proofs.earliest_in_room.Tie as tie
 
 -- the entry, from where the rows are laid out
-abbrev begun : tie.After-rows-before → tie.Start
+abbrev begun : tie.After-rows-missed → tie.Start
 begun c = c .before .before .before .before .before .before .before
 
-laid : (c : tie.After-rows-before)
+laid : (c : tie.After-rows-missed)
     → PlanningInput (begun c .args .file .now) (c .before .before .before .before .places-in .result) (c .before .before .read-tables .last .1 .1 .0)
-    (begun c .args .q) (c .rows-before .result)
+    (begun c .args .q) (c .rows-missed .result)
 laid c =
     let a = begun c in
     let s = c .before .before .before .before .places-in in
     lays (a .args .f) (a .args .file .now) (a .args .trailer) (a .args .q) (a .pre .0) (s .result) (s .ensures)
-    (c .before .before .read-tables .last .1 .1 .0) (c .rows-before .result) (c .before .before .read-tables .ensures) (c .rows-before .ensures)
+    (c .before .before .read-tables .last .1 .1 .0) (c .rows-missed .result) (c .before .before .read-tables .ensures) (c .rows-missed .ensures)
 
 places-in-requires : tie.Need-places-in-requires
 places-in-requires c κs = search needs
@@ -33,11 +33,14 @@ read-tables-requires c κs =
     let s = c .before .places-in in
     (tables-stand (a .args .f) (a .args .file .now) (a .args .trailer) (a .args .q) (a .pre .0) (s .result) (s .ensures), refl)
 
-rows-before-requires : tie.Need-rows-before-requires
-rows-before-requires c κs =
+rows-missed-requires : tie.Need-rows-missed-requires
+rows-missed-requires c κs =
     let a = c .before .before .before .before .before .before in
-    let s = c .before .before .before .places-in in
-    rows-stand (a .args .f) (a .args .file .now) (a .args .trailer) (a .args .q) (a .pre .0) (s .result) (s .ensures)
+    let s = c .before .before .before .places-in in (
+      rows-stand (a .args .f) (a .args .file .now) (a .args .trailer) (a .args .q) (a .pre .0) (s .result) (s .ensures),
+      minute-fits (a .args .f) (a .args .file .now) (a .args .trailer) (a .args .q) (a .pre .0) (s .result) (s .ensures),
+      a .pre .0 .fits .gate,
+    )
 
 slice-aggregate-earliest-arrival : tie.Need-slice-aggregate-earliest-arrival
 slice-aggregate-earliest-arrival c = search needs
@@ -45,7 +48,7 @@ slice-aggregate-earliest-arrival c = search needs
 earliest-arrival-requires : tie.Need-earliest-arrival-requires
 earliest-arrival-requires c κs =
     let l = laid (c .before .before) in
-    (l .stand, l .held, l .source, l .target, l .apart, l .minute, l .cut, omega (arith, begun (c .before .before) .pre .1))
+    (l .stand, l .held, l .source, l .target, l .apart, l .minute, l .cut, omega (arith, begun (c .before .before) .pre .1), l .gate)
 
 same-length : tie.Need-same-length
 same-length c = search needs
@@ -68,7 +71,7 @@ earliest-in-room-spec =
     places-in-requires
     slice-aggregate-read-tables
     read-tables-requires
-    rows-before-requires
+    rows-missed-requires
     slice-aggregate-earliest-arrival
     earliest-arrival-requires
     same-length

@@ -6,37 +6,37 @@ use native.Mathlib.Omega.{arith}
 use lib.ListN.{length}
 use Rattle.file_layout.specs.Decode.{decode}
 use Rattle.query.proofs.Rules.{code-most}
-use Rattle.plans.specs.Journeys.{boundOf}
+use Rattle.plans.specs.Journeys.{boundOf, readyAt}
 use Rattle.plans.specs.Plan.{Plan, planned, earliest}
 use Rattle.plan_cells.specs.Cells.{used, missing, cellOf}
 use Rattle.plan_rows.specs.Reading.{timetableIn}
 use Rattle.plan_whole.specs.Steps.{PlanningInput, Reaches, planIn, KeptBehind}
 use Rattle.plan_whole.specs.Answers.{Answers}
-use Rattle.plan_whole.proofs.Bounds.{earliest-fits, bound-reaches}
+use Rattle.plan_whole.proofs.Bounds.{earliest-fits, code-stands, bound-reaches}
 use Rattle.plan_whole.proofs.Answered.{no-arrival-cell, arrival-cell, no-plan-answers, no-plan-of, kept-later, kept-both}
-use Rattle.plan_whole.proofs.Laying.{rows-stand, tables-stand, lays, plan-there, plan-by-arrival, rows-there}
+use Rattle.plan_whole.proofs.Laying.{rows-stand, tables-stand, minute-fits, lays, plan-there, plan-by-arrival, rows-there}
 use borrow.Author.Needs.{needs}
 use Rattle.plan_whole.proofs.plan_in_room.Statement.{statement}
 use Rattle.plan_whole.proofs.plan_in_room.Tie as tie
 
 -- places on the way: the entry; where the rows are laid out; where E is known
-abbrev begun : tie.After-rows-before → tie.Start
+abbrev begun : tie.After-rows-missed → tie.Start
 begun c = c .before .before .before .before .before .before .before .before
 
-abbrev laid-out : tie.After-earliest-arrival → tie.After-rows-before
+abbrev laid-out : tie.After-earliest-arrival → tie.After-rows-missed
 laid-out c = c .before .before .before
 
 abbrev arriving : tie.After-slice-known5 → tie.Else1
 arriving c = c .before .before .before .before .before .before .before .before .before .before
 
-laid : (c : tie.After-rows-before)
+laid : (c : tie.After-rows-missed)
     → PlanningInput (begun c .args .file .now) (c .before .before .before .before .places-in .result) (c .before .before .read-tables .last .1 .1 .0)
-    (begun c .args .q) (c .rows-before .result)
+    (begun c .args .q) (c .rows-missed .result)
 laid c =
     let a = begun c in
     let s = c .before .before .before .before .places-in in
     lays (a .args .f) (a .args .file .now) (a .args .trailer) (a .args .q) (a .pre .0) (s .result) (s .ensures)
-    (c .before .before .read-tables .last .1 .1 .0) (c .rows-before .result) (c .before .before .read-tables .ensures) (c .rows-before .ensures)
+    (c .before .before .read-tables .last .1 .1 .0) (c .rows-missed .result) (c .before .before .read-tables .ensures) (c .rows-missed .ensures)
 
 -- E or none, as it was found
 told : (c : tie.After-earliest-arrival)
@@ -45,10 +45,10 @@ told : (c : tie.After-earliest-arrival)
     (begun (laid-out c) .args .q))
 told c = c .earliest-arrival .ensures .0
 
--- E does not lie before T, and is a minute of 16 bits
-arrival-fits : (c : tie.After-rows-before) (e : ℕ)
+-- E does not lie before T + g, and is a minute of 16 bits
+arrival-fits : (c : tie.After-rows-missed) (e : ℕ)
     → earliest (timetableIn (begun c .args .file .now) (c .before .before .before .before .places-in .result)) (begun c .args .q) ≡ some e
-    → (begun c .args .q .minute ≤ e) × (e < 65536)
+    → (readyAt (begun c .args .q) ≤ e) × (e < 65536)
 arrival-fits c e found =
     let a = begun c .args in
     earliest-fits (a .file .now) (c .before .before .before .before .places-in .result) (laid c .stand) (laid c .timely) (a .q) e found
@@ -83,11 +83,14 @@ read-tables-requires c κs =
     let s = c .before .places-in in
     (tables-stand (a .args .f) (a .args .file .now) (a .args .trailer) (a .args .q) (a .pre .0) (s .result) (s .ensures), refl)
 
-rows-before-requires : tie.Need-rows-before-requires
-rows-before-requires c κs =
+rows-missed-requires : tie.Need-rows-missed-requires
+rows-missed-requires c κs =
     let a = c .before .before .before .before .before .before .before in
-    let s = c .before .before .before .places-in in
-    rows-stand (a .args .f) (a .args .file .now) (a .args .trailer) (a .args .q) (a .pre .0) (s .result) (s .ensures)
+    let s = c .before .before .before .places-in in (
+      rows-stand (a .args .f) (a .args .file .now) (a .args .trailer) (a .args .q) (a .pre .0) (s .result) (s .ensures),
+      minute-fits (a .args .f) (a .args .file .now) (a .args .trailer) (a .args .q) (a .pre .0) (s .result) (s .ensures),
+      a .pre .0 .fits .gate,
+    )
 
 slice-aggregate-earliest-arrival : tie.Need-slice-aggregate-earliest-arrival
 slice-aggregate-earliest-arrival c = search needs
@@ -95,7 +98,7 @@ slice-aggregate-earliest-arrival c = search needs
 earliest-arrival-requires : tie.Need-earliest-arrival-requires
 earliest-arrival-requires c κs =
     let l = laid (c .before .before) in
-    (l .stand, l .held, l .source, l .target, l .apart, l .minute, l .cut, omega (arith, begun (c .before .before) .pre .1))
+    (l .stand, l .held, l .source, l .target, l .apart, l .minute, l .cut, omega (arith, begun (c .before .before) .pre .1), l .gate)
 
 no-plan-requires : tie.Need-no-plan-requires
 no-plan-requires c κs = search needs
@@ -135,10 +138,14 @@ plan-within-requires c κs =
     let bounded = c .before .before .before in
     let at = bounded .before .before .before .before .before in
     let a = begun (laid-out at) in
+    let found = arrived at (λ e. let z : ⊥ = omega (arith, bounded .before .before .if1 .left) in z) in
+    let end = bounded .before .number .ensures .0 in
     let s = laid-out at .before .before .before .before .places-in in
     let rows = rows-there (a .args .f) (a .args .file .now) (a .args .trailer) (a .args .q) (a .pre .0) (s .result) (s .ensures) in (
       laid (laid-out at),
-      subst (Reaches (a .args .q .minute)) (sym (bounded .bound-of .ensures .0)) (bound-reaches (a .args .q) (bounded .before .number .result)),
+      subst (Reaches (readyAt (a .args .q))) (sym (bounded .bound-of .ensures .0))
+          (bound-reaches (a .args .q) (bounded .before .number .result) (code-stands (a .pre .0 .fits))
+          (omega (arith, arrival-fits (laid-out at) (at .earliest-arrival .result) found .0, end))),
       bounded .bound-of .ensures .1,
       (let z : used (s .result .rows) ≤ length (at .earliest-arrival .last .1 .1 .1 .1 .1 .0) = omega
           (arith, a .pre .1, rows, at .earliest-arrival .ensures .1) in z),
@@ -180,7 +187,7 @@ plan-in-room-spec =
     places-in-requires
     slice-aggregate-read-tables
     read-tables-requires
-    rows-before-requires
+    rows-missed-requires
     slice-aggregate-earliest-arrival
     earliest-arrival-requires
     no-plan-requires

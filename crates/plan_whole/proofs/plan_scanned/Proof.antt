@@ -2,6 +2,9 @@
 use Prim.Native.Nat.{_-_, _<_, _≤_}
 use mathlib.Core.Path.{_≡_, sym, ap, ap₂, subst, _∙_}
 use native.Mathlib.Omega.{arith}
+use Rattle.query.specs.Query.{mostGate}
+use Rattle.plans.specs.declared.Goal.{Goal}
+use Rattle.plans.specs.Journeys.{readyAt}
 use Rattle.plan_cells.specs.Cells.{tripCells, used}
 use Rattle.plan_cells.proofs.Outside.{outside-same}
 use Rattle.plan_stacks.specs.Stacks.{stackStart, stackSize, entryRow, entryWorth}
@@ -63,7 +66,7 @@ first-ride c =
     let a = begun (stacked c) in
     record {
       stop = a .args .q .source;
-      minute = a .args .q .minute;
+      minute = readyAt (a .args .q);
       ride = t .ride;
       stop-inside = a .pre .1 .source;
       is-first = t .first-here;
@@ -108,7 +111,7 @@ top-requires c κs =
 write-plan-requires : tie.Need-write-plan-requires
 write-plan-requires c κs =
     let a = begun (stacked (c .before .before)) in
-    (a .pre .1 .stand, a .pre .1 .held, a .pre .2 .inside, a .pre .3, a .pre .4, plan-ahead (c .before .before))
+    (a .pre .1 .stand, a .pre .1 .held, a .pre .2 .inside, a .pre .3, a .pre .4, plan-ahead (c .before .before), subst (λ (g : Goal). g .gate ≤ mostGate) (sym (a .pre .2 .aims)) (a .pre .1 .gate))
 
 cell-requires : tie.Need-cell-requires
 unfolding first-ride

@@ -34,7 +34,7 @@ scan-back-requires : tie.Need-scan-back-requires
 scan-back-requires c κs =
     let a = begun (c .before) in
     let part = looked-at (c .before) in
-    (a .pre .0 .stand, a .pre .0 .held, part .ordered, part .inside, a .pre .3)
+    (a .pre .0 .stand, a .pre .0 .held, part .ordered, part .inside, a .pre .3, a .pre .0 .gate)
 
 plan-scanned-requires : tie.Need-plan-scanned-requires
 plan-scanned-requires c κs =

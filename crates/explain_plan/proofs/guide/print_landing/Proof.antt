@@ -5,10 +5,10 @@ use Rattle.explain_plan.proofs.guide.print_landing.Statement.{statement
 use Rattle.explain_plan.proofs.guide.print_landing.Tie as tie
 
 abbrev Inv-loop : tie.InvT-loop
-Inv-loop file f start plan rides stop found₀ place₀ t9 found place = 1 ≤ place
+Inv-loop file f start plan rides stop gate found₀ place₀ t9 found place = 1 ≤ place
 
 abbrev μ-loop : tie.MeasureT-loop
-μ-loop file f start plan rides stop found₀ place₀ t9 found place = rides - place
+μ-loop file f start plan rides stop gate found₀ place₀ t9 found place = rides - place
 
 loop-holds : tie.Need-loop-holds Inv-loop μ-loop
 loop-holds c = search needs

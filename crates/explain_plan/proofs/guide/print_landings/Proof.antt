@@ -5,10 +5,10 @@ use Rattle.explain_plan.proofs.guide.print_landings.Statement.{statemen
 use Rattle.explain_plan.proofs.guide.print_landings.Tie as tie
 
 abbrev Inv-loop : tie.InvT-loop
-Inv-loop file f start plan rides stops stop₀ stop = stop ≤ stops
+Inv-loop file f start plan rides stops gate stop₀ stop = stop ≤ stops
 
 abbrev μ-loop : tie.MeasureT-loop
-μ-loop file f start plan rides stops stop₀ stop = stops - stop
+μ-loop file f start plan rides stops gate stop₀ stop = stops - stop
 
 loop-holds : tie.Need-loop-holds Inv-loop μ-loop
 loop-holds c = search needs

@@ -15,7 +15,7 @@ abbrev μ-loop : tie.MeasureT-loop
 μ-loop file f trailer q work₀ found₀ stop₀ t9 work found stop = trailer .stops - stop
 
 loop-holds : tie.Need-loop-holds Inv-loop μ-loop
-loop-holds c = (c .before .before .pre .3, refl)
+loop-holds c = (c .before .before .pre .4, refl)
 
 add-stop : tie.Need-add-stop Inv-loop μ-loop
 add-stop c = omega arith
@@ -27,8 +27,8 @@ print-other-requires : tie.Need-print-other-requires Inv-loop μ-loop
 print-other-requires c κs =
     let l = c .before .before .before .before .before in
     let a = l .before .before .before in
-    stops-fit (l .loop .stop) (a .args .q .target) (a .pre .0) (a .pre .1) (omega arith) (a .pre .2)
-    (c .before .before .is-other .ensures (c .before .if2 .taken)) (l .loop .inv .0)
+    stops-fit (l .loop .stop) (a .args .q .target) (a .args .q .gate) (a .pre .0) (a .pre .1) (omega arith) (a .pre .2)
+    (c .before .before .is-other .ensures (c .before .if2 .taken)) (a .pre .3) (l .loop .inv .0)
 
 loop-less : tie.Need-loop-less Inv-loop μ-loop
 loop-less c = omega arith

@@ -5,6 +5,7 @@ use native.Mathlib.Omega.{arith}
 use lib.ListN.{length}
 use Rattle.file_layout.specs.declared.Checked.the-variants.{Sound}
 use Rattle.file_layout.specs.Check.{checkedAs}
+use Rattle.query.specs.Query.{mostGate}
 use Rattle.plan_rows.specs.Sections.{Plannable}
 use Rattle.explain_starts.proofs.Asking.{until-small, stops-fit, lent-enough}
 use borrow.Author.Needs.{needs}
@@ -15,11 +16,11 @@ use Rattle.explain_starts.proofs.words.print_starts.Tie as tie
 others-fit : (p : tie.After-last-start) →
     let a = p .before .before .before .before .args in
     Plannable (a .f) × (checkedAs (a .f) (a .file .now) ≡ Sound (a .trailer)) × (a .q .target < a .trailer .stops)
-    × (4 * a .trailer .rows + 2500 ≤ length (p .last-start .last .1 .1 .1 .1 .1 .0))
+    × (a .q .gate ≤ mostGate) × (4 * a .trailer .rows + 2500 ≤ length (p .last-start .last .1 .1 .1 .1 .1 .1 .0))
 others-fit p =
     let a = p .before .before .before .before in
     let enough = lent-enough (a .args .f) (a .args .file .now) (a .args .trailer) (a .pre .0) (a .pre .1) in
-    (a .pre .0, a .pre .1, a .pre .2 .target, omega (arith, enough, p .before .before .work-room .ensures .1))
+    (a .pre .0, a .pre .1, a .pre .2 .target, a .pre .2 .gate, omega (arith, enough, p .before .before .work-room .ensures .1))
 
 work-room-requires : tie.Need-work-room-requires
 work-room-requires c κs = search needs
@@ -31,7 +32,7 @@ last-start-requires : tie.Need-last-start-requires
 last-start-requires c κs =
     let a = c .before .before .before in
     let q = a .args .q in
-    stops-fit (q .source) (q .target) (a .pre .0) (a .pre .1) (a .pre .2 .source) (a .pre .2 .target) (a .pre .2 .apart)
+    stops-fit (q .source) (q .target) (q .gate) (a .pre .0) (a .pre .1) (a .pre .2 .source) (a .pre .2 .target) (a .pre .2 .apart) (a .pre .2 .gate)
     (omega (arith, lent-enough (a .args .f) (a .args .file .now) (a .args .trailer) (a .pre .0) (a .pre .1), c .before .work-room .ensures .1))
 
 slice-aggregate-say-number : tie.Need-slice-aggregate-say-number
@@ -72,20 +73,20 @@ slice-aggregate-say-2 c = search needs
 say-requires-2 : tie.Need-say-requires-2
 say-requires-2 c κs = search needs
 
+slice-aggregate-say-help : tie.Need-slice-aggregate-say-help
+slice-aggregate-say-help c = search needs
+
+say-help-requires : tie.Need-say-help-requires
+say-help-requires c κs = search needs
+
+enum-told : tie.Need-enum-told
+enum-told c = search needs
+
 slice-aggregate-say-3 : tie.Need-slice-aggregate-say-3
 slice-aggregate-say-3 c = search needs
 
 say-requires-3 : tie.Need-say-requires-3
 say-requires-3 c κs = search needs
-
-enum-told : tie.Need-enum-told
-enum-told c = search needs
-
-slice-aggregate-say-4 : tie.Need-slice-aggregate-say-4
-slice-aggregate-say-4 c = search needs
-
-say-requires-4 : tie.Need-say-requires-4
-say-requires-4 c κs = search needs
 
 slice-aggregate-print-others-2 : tie.Need-slice-aggregate-print-others-2
 slice-aggregate-print-others-2 c = search needs
@@ -94,17 +95,17 @@ print-others-requires-2 : tie.Need-print-others-requires-2
 print-others-requires-2 c κs =
     others-fit (c .before .before .before .before .before .before .before .before)
 
-slice-aggregate-say-5 : tie.Need-slice-aggregate-say-5
-slice-aggregate-say-5 c = search needs
+slice-aggregate-say-4 : tie.Need-slice-aggregate-say-4
+slice-aggregate-say-4 c = search needs
 
-say-requires-5 : tie.Need-say-requires-5
-say-requires-5 c κs = search needs
+say-requires-4 : tie.Need-say-requires-4
+say-requires-4 c κs = search needs
 
-slice-aggregate-say-6 : tie.Need-slice-aggregate-say-6
-slice-aggregate-say-6 c = search needs
+slice-aggregate-say-help-2 : tie.Need-slice-aggregate-say-help-2
+slice-aggregate-say-help-2 c = search needs
 
-say-requires-6 : tie.Need-say-requires-6
-say-requires-6 c κs = search needs
+say-help-requires-2 : tie.Need-say-help-requires-2
+say-help-requires-2 c κs = search needs
 
 returns : tie.Need-returns
 returns c = search needs
@@ -130,16 +131,16 @@ print-starts-spec =
     print-others-requires
     slice-aggregate-say-2
     say-requires-2
+    slice-aggregate-say-help
+    say-help-requires
+    enum-told
     slice-aggregate-say-3
     say-requires-3
-    enum-told
-    slice-aggregate-say-4
-    say-requires-4
     slice-aggregate-print-others-2
     print-others-requires-2
-    slice-aggregate-say-5
-    say-requires-5
-    slice-aggregate-say-6
-    say-requires-6
+    slice-aggregate-say-4
+    say-requires-4
+    slice-aggregate-say-help-2
+    say-help-requires-2
     returns
     returns-2)

@@ -1,13 +1,13 @@
--- `trial::trial_earliest` meets its contract. Assumes nothing.
+-- `trial::trial_earliest_gate` meets its contract. Assumes nothing.
 use mathlib.Core.Path.{ap, _∙_}
 use borrow.Author.Needs.{needs}
 use Rattle.file_layout.specs.Format.{versionOne}
 use Rattle.query.specs.declared.Query.{Query}
-use Rattle.query.specs.Query.{plainQuery}
+use Rattle.query.specs.Query.{plainQuery, withGate}
 use Rattle.planner.specs.Outcome.{EarliestOutcome, earliestOutcome, earliestAnswer}
 use Rattle.trial_answers.specs.Seen.{seen}
-use Rattle.trial.proofs.trial_earliest.Statement.{statement}
-use Rattle.trial.proofs.trial_earliest.Tie as tie
+use Rattle.trial.proofs.trial_earliest_gate.Statement.{statement}
+use Rattle.trial.proofs.trial_earliest_gate.Tie as tie
 
 cell-requires : tie.Need-cell-requires
 cell-requires c κs = search needs
@@ -15,8 +15,8 @@ cell-requires c κs = search needs
 query-of-requires : tie.Need-query-of-requires
 query-of-requires c κs = search needs
 
-earliest-safe-arrival-requires : tie.Need-earliest-safe-arrival-requires
-earliest-safe-arrival-requires c κs = search needs
+earliest-with-gate-requires : tie.Need-earliest-with-gate-requires
+earliest-with-gate-requires c κs = search needs
 
 put-earliest-requires : tie.Need-put-earliest-requires
 put-earliest-requires c κs = search needs
@@ -31,21 +31,21 @@ returns : tie.Need-returns
 returns c =
     let at = c .before .before .before .before .before .before in
     let a = at .before .before .before .before .before .before .before .args in
-    let found = at .earliest-safe-arrival in
-    let o : Query → EarliestOutcome = λ q. earliestOutcome versionOne (a .file .now) (plainQuery (q .source) (q .target) (q .minute)) (a .work .now) in
+    let found = at .earliest-with-gate in
+    let o : Query → EarliestOutcome = λ q. earliestOutcome versionOne (a .file .now) (withGate (q .gate) (plainQuery (q .source) (q .target) (q .minute))) (a .work .now) in
     let asked = at .before .before .query-of .ensures in (
       c .before .before .put-earliest .ensures
           ∙ ap (λ e. seen (earliestAnswer e) (a .answer .now)) (found .ensures .0 ∙ ap (λ q. o q .answer) asked),
       found .ensures .1 ∙ ap (λ q. o q .work) asked,
     )
 
-pub trial-earliest-spec : {M : Type 1} → statement M
-trial-earliest-spec =
+pub trial-earliest-gate-spec : {M : Type 1} → statement M
+trial-earliest-gate-spec =
     tie.close
     (tie.spec
     cell-requires
     query-of-requires
-    earliest-safe-arrival-requires
+    earliest-with-gate-requires
     put-earliest-requires
     same-length
     same-length-2

@@ -1,12 +1,12 @@
--- `trial::trial_plan_margin` meets its contract. Assumes nothing.
+-- `trial::trial_plan_gate` meets its contract. Assumes nothing.
 use mathlib.Core.Path.{ap, _∙_}
 use borrow.Author.Needs.{needs}
 use Rattle.file_layout.specs.Format.{versionOne}
 use Rattle.query.specs.declared.Query.{Query}
 use Rattle.planner.specs.Outcome.{PlanOutcome, planOutcome, planAnswer}
 use Rattle.trial_answers.specs.Seen.{seen}
-use Rattle.trial.proofs.trial_plan_margin.Statement.{statement}
-use Rattle.trial.proofs.trial_plan_margin.Tie as tie
+use Rattle.trial.proofs.trial_plan_gate.Statement.{statement}
+use Rattle.trial.proofs.trial_plan_gate.Tie as tie
 
 query-of-requires : tie.Need-query-of-requires
 query-of-requires c κs = search needs
@@ -39,7 +39,7 @@ returns c =
       planned .ensures .2 ∙ ap (λ q. o q .plan) asked,
     )
 
-pub trial-plan-margin-spec : {M : Type 1} → statement M
-trial-plan-margin-spec =
+pub trial-plan-gate-spec : {M : Type 1} → statement M
+trial-plan-gate-spec =
     tie.close
     (tie.spec query-of-requires plan-requires put-planned-requires same-length same-length-2 same-length-3 returns)
