@@ -9,6 +9,12 @@ bool same(const Seen &one, const Seen &two) {
          one.work == two.work && one.plan == two.plan;
 }
 
+Query with_gate(const Query &query, uint32_t gate) {
+  Query answer = query;
+  answer.gate = gate;
+  return answer;
+}
+
 namespace {
 
 Answer check_answer(const Bytes &file) {
@@ -88,31 +94,52 @@ class Lent {
 // Unused entries must be set to 0 by the call itself.
 constexpr uint32_t UNSET = 0xABABABAB;
 
+// A query with a gate and no margin is asked with margin 1.
+void ask_plan(const uint8_t *bytes, size_t length, const Query &query,
+              Lent &work, Lent &plan, Lent &answer) {
+  if (query.gate)
+    trial_plan_gate(bytes, length, query.source, query.target, query.minute,
+                    query.code, query.margin.value_or(1), *query.gate,
+                    work.start(), work.length(), plan.start(), plan.length(),
+                    answer.start(), answer.length());
+  else if (query.margin)
+    trial_plan_margin(bytes, length, query.source, query.target, query.minute,
+                      query.code, *query.margin, work.start(), work.length(),
+                      plan.start(), plan.length(), answer.start(),
+                      answer.length());
+  else
+    trial_plan(bytes, length, query.source, query.target, query.minute,
+               query.code, work.start(), work.length(), plan.start(),
+               plan.length(), answer.start(), answer.length());
+}
+
+void ask_earliest(const uint8_t *bytes, size_t length, const Query &query,
+                  Lent &work, Lent &answer) {
+  if (query.gate)
+    trial_earliest_gate(bytes, length, query.source, query.target,
+                        query.minute, *query.gate, work.start(),
+                        work.length(), answer.start(), answer.length());
+  else
+    trial_earliest(bytes, length, query.source, query.target, query.minute,
+                   work.start(), work.length(), answer.start(),
+                   answer.length());
+}
+
 }  // namespace
 
 Seen by_subject(const Bytes &file, const Call &call) {
   Lent work(dirty(call.work_length, call.dirt));
   Lent plan(dirty(call.plan_length, ~call.dirt));
   Lent answer(Numbers(6, UNSET));
-  const Query &query = call.query;
   const Bytes before = file;
   const uint8_t nothing = 0;
   const uint8_t *bytes = file.empty() ? &nothing : file.data();
   if (call.entry == Entry::check)
-    trial_check(bytes, file.size(), answer.start(), 6);
-  else if (call.entry == Entry::plan && query.margin)
-    trial_plan_margin(bytes, file.size(), query.source, query.target,
-                        query.minute, query.code, *query.margin, work.start(),
-                        work.length(), plan.start(), plan.length(),
-                        answer.start(), 6);
+    trial_check(bytes, file.size(), answer.start(), answer.length());
   else if (call.entry == Entry::plan)
-    trial_plan(bytes, file.size(), query.source, query.target, query.minute,
-                 query.code, work.start(), work.length(), plan.start(),
-                 plan.length(), answer.start(), 6);
+    ask_plan(bytes, file.size(), call.query, work, plan, answer);
   else
-    trial_earliest(bytes, file.size(), query.source, query.target,
-                     query.minute, work.start(), work.length(),
-                     answer.start(), 6);
+    ask_earliest(bytes, file.size(), call.query, work, answer);
   Seen seen;
   const Numbers answered = answer.contents();
   std::copy(answered.begin(), answered.end(), seen.answer.begin());
@@ -138,6 +165,19 @@ const char *const ENTRY_NAMES[3] = {"check", "plan", "earliest"};
 
 std::string number(uint32_t value) { return " " + std::to_string(value); }
 
+uint32_t number_of(const std::string &word) {
+  return static_cast<uint32_t>(std::stoul(word));
+}
+
+bool entry_from_word(const std::string &word, Entry &entry) {
+  for (size_t known = 0; known < 3; ++known)
+    if (word == ENTRY_NAMES[known]) {
+      entry = static_cast<Entry>(known);
+      return true;
+    }
+  return false;
+}
+
 }  // namespace
 
 std::string words_of(const Call &call) {
@@ -146,26 +186,28 @@ std::string words_of(const Call &call) {
          number(call.query.minute) + number(call.query.code) +
          number(call.work_length) + number(call.plan_length) +
          number(call.dirt) +
-         (call.query.margin ? number(*call.query.margin) : "");
+         (call.query.margin ? " margin" + number(*call.query.margin) : "") +
+         (call.query.gate ? " gate" + number(*call.query.gate) : "");
 }
 
 bool call_from_words(const std::vector<std::string> &words, Call &call) {
-  if (words.size() != 8 && words.size() != 9) return false;
-  bool known = false;
-  for (size_t entry = 0; entry < 3; ++entry)
-    if (words[0] == ENTRY_NAMES[entry]) {
-      call.entry = static_cast<Entry>(entry);
-      known = true;
-    }
+  constexpr size_t ALWAYS = 8;
+  if (words.size() < ALWAYS || words.size() % 2 != 0 ||
+      !entry_from_word(words[0], call.entry))
+    return false;
   Numbers values;
-  for (size_t place = 1; place < words.size(); ++place)
-    values.push_back(static_cast<uint32_t>(std::stoul(words[place])));
+  for (size_t place = 1; place < ALWAYS; ++place)
+    values.push_back(number_of(words[place]));
   call.query = {values[0], values[1], values[2], values[3]};
   call.work_length = values[4];
   call.plan_length = values[5];
   call.dirt = values[6];
-  if (values.size() == 8) call.query.margin = values[7];
-  return known;
+  for (size_t place = ALWAYS; place < words.size(); place += 2) {
+    if (words[place] != "margin" && words[place] != "gate") return false;
+    (words[place] == "gate" ? call.query.gate : call.query.margin) =
+        number_of(words[place + 1]);
+  }
+  return true;
 }
 
 std::string text_of(const Answer &answer) {

@@ -18,6 +18,8 @@ struct Seen {
 
 bool same(const Seen &one, const Seen &two);
 
+Query with_gate(const Query &query, uint32_t gate);
+
 Seen by_definitions(const Bytes &file, const Call &call);
 Answer house_by_definitions(uint32_t pair, uint32_t minute);
 

@@ -1,5 +1,5 @@
-// The printed cases of document 01 and both sides of each line of request E1,
-// run on the definitions and, if there is one, on the subject.
+// The printed cases of document 01 and both sides of each line of requests E1
+// and E3, run on the definitions and, if there is one, on the subject.
 #include <cstdio>
 #include <string>
 
@@ -90,7 +90,7 @@ void case_w_itself() {
   expect(seen.answer == Answer{0, 0, 3, 172800, 690, 0}, "W: the answer");
   expect(holds_rides(seen, W_RIDES), "1: worths of W's rides");
   expect(slices_as_after_plan(seen, 4), "W: later contents");
-  Worths worths(checked.sailings, 2, std::nullopt);
+  Worths worths(checked.sailings, W_QUERY, std::nullopt);
   expect(worths.worth(2) == 179200u && !worths.chosen(2), "2: third row");
 }
 
@@ -199,12 +199,15 @@ Draft boats(const std::vector<Boat> &from_stop_1) {
 }
 
 // The rows boarded in the plan.
-Numbers boarded(const Draft &draft, uint32_t margin) {
-  const Seen seen = planned(draft, {0, 2, 590, 0, margin});
+Numbers boarded(const Seen &seen) {
   Numbers rows;
   for (size_t ride = 0; ride < seen.answer[2]; ++ride)
     rows.push_back(seen.plan[3 * ride]);
   return rows;
+}
+
+Numbers boarded(const Draft &draft, uint32_t margin) {
+  return boarded(planned(draft, {0, 2, 590, 0, margin}));
 }
 
 constexpr uint32_t LAST = 256 * 700;  // what the last boat is worth
@@ -271,6 +274,163 @@ void later_on_every_ride() {
          "E1: later by (margin - 1) x 2");
 }
 
+// -------------------------------------------------------- request E3: gates
+
+Seen gated(const Draft &draft, uint32_t minute, uint32_t gate) {
+  return planned(draft, with_gate({0, 2, minute, 0}, gate));
+}
+
+Seen earliest_gated(const Draft &draft, const Query &query, uint32_t gate) {
+  return answered(written(draft),
+                  {Entry::earliest, with_gate(query, gate), 2600, 0, 5});
+}
+
+void gate_at_source() {
+  for (uint32_t gate : {0u, 1u, 2u, 10u}) {
+    expect(gated(case_w(), 600 - gate, gate).answer[0] == 0,
+           "E3: T + g is the departure");
+    expect(refused(gated(case_w(), 601 - gate, gate), 8),
+           "E3: T + g is a minute late");
+    const Query late{0, 2, 601 - gate, 0};
+    expect(refused(earliest_gated(case_w(), late, gate), 8),
+           "E3: no E from a shut gate");
+  }
+}
+
+void gate_after_landing() {
+  Draft draft = case_w();
+  const Seen caught = gated(draft, 590, 2), missed = gated(draft, 590, 3);
+  expect(caught.answer == Answer{0, 0, 3, 172800, 690, 0}, "E3: 630 + 2");
+  expect(holds_rides(caught, W_RIDES), "E3: on time, 632 is caught");
+  expect(slices_as_after_plan(caught, 4), "E3: later contents");
+  expect(missed.answer == Answer{0, 0, 2, 176640, 690, 0}, "E3: 630 + 3");
+  expect(holds_rides(missed, {0, 0, 176640, 3, 3, 176640}),
+         "E3: on time, 632 is missed and out of the plan");
+  draft.rows[2].arrival = 670;
+  expect(holds_rides(gated(draft, 590, 1), {0, 0, 171520, 1, 1, 168960, 2, 2,
+                                            171520, 3, 3, 176640}),
+         "E3: 5 late, 636 is caught");
+  expect(holds_rides(gated(draft, 590, 2), {0, 0, 172800, 1, 1, 168960, 2, 2,
+                                            171520, 3, 3, 176640}),
+         "E3: 5 late, 636 is missed; 1 to 4 late, of share 0, it is not");
+  expect(boarded(gated(draft, 590, 6)) == Numbers{0, 2, 3},
+         "E3: the first at a + g");
+  expect(boarded(gated(draft, 590, 7)) == Numbers{0, 3},
+         "E3: none before a + g");
+}
+
+void gate_after_latest_landing() {
+  Draft draft = case_w();
+  expect(gated(draft, 590, 10).answer[0] == 0, "E3: 650 at a + M + g");
+  const Seen refusal = gated(draft, 580, 11);
+  expect(refused(refusal, 8), "E3: 650 a minute before a + M + g");
+  expect(slices_as_after_plan(refusal, 4), "E3: contents after 8");
+  expect(earliest_gated(draft, W_QUERY, 10).answer ==
+             Answer{0, 0, 690, 0, 0, 0},
+         "E3: E 690");
+  expect(refused(earliest_gated(draft, {0, 2, 580, 0}, 11), 8), "E3: no E");
+  draft.rows.push_back({1, 2, 655, 695, 4, 0});
+  expect(boarded(gated(draft, 580, 10)) == Numbers{0, 3},
+         "E3: none after the first at a + M + g");
+  expect(holds_rides(gated(draft, 580, 11),
+                     {0, 0, 176960, 3, 3, 176640, 4, 4, 177920}),
+         "E3: up to the first after a + M + g");
+}
+
+void no_gate_aboard() {
+  Draft draft = case_w();
+  draft.rows = {{0, 1, 600, 620, 0, 1}, {1, 2, 625, 660, 0, 1}};
+  const Seen seen = gated(draft, 570, 30);
+  expect(seen.answer == Answer{0, 0, 1, 169920, 670, 0},
+         "E3: no gate in the latest minute and in a worth");
+  expect(holds_rides(seen, {0, 1, 169920}), "E3: no gate for who stays aboard");
+  expect(refused(gated(draft, 571, 30), 8), "E3: a gate for who boards");
+}
+
+void gate_and_bound() {
+  expect(planned(case_w(), with_gate({0, 2, 590, 5}, 2)).answer ==
+             Answer{0, 0, 3, 172800, 690, 715},
+         "E3: the bound counts from T, without g");
+  Draft draft;
+  draft.classes = {{0, {4096}}, {3, {4095, 0, 0, 1}}};
+  draft.rows = {{0, 1, 0, 4, 0, 0}, {0, 1, 1, 2, 1, 1}};
+  const Query query{0, 1, 0, 4};
+  expect(planned(draft, with_gate(query, 0)).answer ==
+             Answer{0, 0, 1, 1024, 4, 4},
+         "E3: 1,024 ticks with gate 0");
+  expect(planned(draft, with_gate(query, 1)).answer ==
+             Answer{0, 0, 1, 513, 5, 5},
+         "E3: 513 ticks with gate 1, since E is later");
+  for (uint32_t gate : {0u, 1u})
+    expect(earliest_gated(draft, query, gate).answer[2] == 4 + gate,
+           "E3: E reads the gate");
+  expect(refused(earliest_gated(draft, query, 2), 8), "E3: both gates shut");
+}
+
+void gate_and_margin() {
+  const Draft draft =
+      boats({{640, LAST - 19}, {645, LAST - 10}, {650, LAST}});
+  expect(boarded(planned(draft, {0, 2, 590, 0, 9, 10})) ==
+             Numbers{0, 1, 2, 3},
+         "E3: gains the margin");
+  expect(boarded(planned(draft, {0, 2, 590, 0, 10, 10})) == Numbers{0, 2, 3},
+         "E3: no gate between the boats of a stop");
+}
+
+void gate_0_is_today() {
+  for (uint32_t minute : {590u, 600u, 601u}) {
+    const Query plain{0, 2, minute, 0}, margin{0, 2, minute, 4, 256};
+    for (const Query &query : {plain, margin})
+      expect(same(planned(case_w(), query),
+                  planned(case_w(), with_gate(query, 0))),
+             "E3: gate 0 plans as today");
+    expect(same(answered(written(case_w()),
+                         {Entry::earliest, plain, 2600, 0, 5}),
+                earliest_gated(case_w(), plain, 0)),
+           "E3: gate 0 has today's E");
+  }
+}
+
+// One boat to a stop and, 30 minutes behind the landing, one from it.
+void greatest_gate() {
+  Draft draft = case_w();
+  draft.rows = {{0, 1, 600, 630, 0, 0}, {1, 2, 660, 690, 1, 0}};
+  expect(boarded(gated(draft, 570, 30)) == Numbers{0, 1}, "E3: gate 30");
+  expect(refused(gated(draft, 571, 30), 8), "E3: gate 30, source");
+  expect(earliest_gated(draft, {0, 2, 570, 0}, 30).answer[2] == 690,
+         "E3: gate 30, E");
+  draft.rows[1].departure = 659;
+  expect(refused(gated(draft, 570, 30), 8), "E3: gate 30, landing");
+  expect(boarded(gated(draft, 570, 29)) == Numbers{0, 1}, "E3: gate 29");
+}
+
+void gate_out_of_range() {
+  const Query query{0, 2, 500, 0}, late{0, 2, 601, 0};
+  for (uint32_t gate : {31u, 32u, 255u, 256u, 286u, 65535u, 65536u, 65566u,
+                        4294967295u}) {
+    expect(refused(planned(case_w(), with_gate(query, gate)), 6),
+           "E3: gate out of range");
+    expect(refused(planned(case_w(), with_gate(late, gate)), 6),
+           "E3: 6 before 8");
+    const Call no_room{Entry::plan, with_gate(query, gate), 0, 0, 5};
+    expect(refused(answered(written(case_w()), no_room), 6), "E3: 6 before 7");
+    expect(refused(planned(Bytes(19), with_gate(query, gate)), 1),
+           "E3: 1 before 6");
+    expect(refused(earliest_gated(case_w(), query, gate), 6),
+           "E3: gate out of range, E");
+  }
+}
+
+void ranges_of_margin_and_gate() {
+  for (uint32_t margin : {0u, 1u, 2560u, 2561u})
+    for (uint32_t gate : {0u, 10u, 31u}) {
+      const bool known = margin_is_known(margin) && gate <= 30;
+      expect(planned(case_w(), {0, 2, 590, 0, margin, gate}).answer[0] ==
+                 (known ? 0 : 6),
+             "E3: margin and gate each in its range");
+    }
+}
+
 }  // namespace
 
 int main() {
@@ -285,6 +445,16 @@ int main() {
   same_minute();
   least_and_greatest_margin();
   later_on_every_ride();
+  gate_at_source();
+  gate_after_landing();
+  gate_after_latest_landing();
+  no_gate_aboard();
+  gate_and_bound();
+  gate_and_margin();
+  gate_0_is_today();
+  greatest_gate();
+  gate_out_of_range();
+  ranges_of_margin_and_gate();
   std::printf("%d fixed cases hold, %d fail\n", passed, failures);
   return failures == 0 ? 0 : 1;
 }

@@ -37,7 +37,8 @@ const char *const ENTRIES[3] = {"check", "plan", "earliest"};
 
 void count_answer(const Call &call, const Answer &answer) {
   const std::string entry = ENTRIES[static_cast<size_t>(call.entry)] +
-                            std::string(call.query.margin ? ", margin" : "");
+                            std::string(call.query.margin ? ", margin" : "") +
+                            (call.query.gate ? ", gate" : "");
   count(entry + (answer[0] == 0 ? ": answered"
                                 : ": refused " + std::to_string(answer[0])));
   if (call.entry != Entry::plan || answer[0] != 0) return;
@@ -106,7 +107,7 @@ bool plan_is_itself_safe(const Sailings &sailings, const Query &query,
                          const Plan &plan) {
   const std::vector<Ride> rides = rides_of(plan);
   if (!is_safe_plan(sailings, query, plan.bound, rides)) return false;
-  SetWorths worths(sailings, query.target, rides);
+  SetWorths worths(sailings, query, rides);
   for (size_t place = 0; place < rides.size(); ++place)
     if (worths.worth(rides[place]) != plan.rides[place].worth) return false;
   return expected_arrival(sailings, query, rides) == plan.expected;
@@ -136,7 +137,7 @@ void count_if(bool seen, const char *feature) {
 
 void count_features(const Sailings &sailings, const Query &query,
                     const Plan &plan) {
-  Worths worths(sailings, query.target, plan.bound);
+  Worths worths(sailings, query, plan.bound);
   Query unbounded = query;
   unbounded.code = 0;
   count_if(plan_of(sailings, unbounded)->expected != plan.expected,
@@ -159,11 +160,14 @@ void count_features(const Sailings &sailings, const Query &query,
 constexpr size_t MOST_RIDES_FOR_SETS = 13;
 constexpr uint64_t MOST_CHOICES = 4096;
 
+bool closes_early(const Query &query) { return query.gate.value_or(0) > 0; }
+
 std::string demand_2(const Sailings &sailings, const Query &query,
                      const std::optional<Plan> &plan) {
   const SafePlanCensus census = census_of_safe_plans(
       sailings, query, plan ? plan->bound : std::nullopt);
   count("demand 2: files and queries enumerated");
+  count("demand 2: of these with a gate above 0", closes_early(query));
   count("demand 2: sets of rides tried", census.sets_tried);
   count("demand 2: safe plans found", census.safe_plans);
   if (earliest_by_listing(sailings, query) !=
@@ -182,6 +186,7 @@ std::string demand_3(const Sailings &sailings, const Query &query,
                      const Plan &plan) {
   const WalkCensus census = census_of_walks(sailings, query, plan);
   count("demand 3: plans walked under all delays");
+  count("demand 3: of these with a gate above 0", closes_early(query));
   count("demand 3: choices of delays walked", census.choices);
   if (census.some_ride_only_at_share_zero)
     count("demand 3: plans with a ride caught only at share 0");
@@ -222,9 +227,9 @@ bool earlier_rides_gain(const Sailings &sailings, const Plan &plan,
 }
 
 // "Margin 1 is today's rule": every row's worth, and whether it is chosen.
-bool margin_1_is_todays_rule(const Sailings &sailings, uint32_t target,
-                             const Bound &bound) {
-  Worths today(sailings, target, bound), one(sailings, target, bound, 1);
+bool margin_1_is_todays_rule(const Sailings &sailings, const Query &without,
+                             const Query &with, const Bound &bound) {
+  Worths today(sailings, without, bound), one(sailings, with, bound);
   for (size_t row = 0; row < sailings.rows.size(); ++row)
     if (today.worth(row) != one.worth(row) ||
         today.chosen(row) != one.chosen(row))
@@ -272,15 +277,81 @@ std::string beside_margin_1(const Sailings &sailings, const Query &query,
   if (plan->bound != least->bound) return "E1: the margin moves the bound";
   if (*query.margin > 1)
     return later_by_too_much(sailings, query, *plan, *least);
-  return margin_1_is_todays_rule(sailings, query.target, plan->bound)
+  return margin_1_is_todays_rule(sailings, without, query, plan->bound)
              ? ""
              : "E1: margin 1 is not today's rule";
 }
 
-// A run in which no margin made a difference shows nothing.
-bool margins_were_tried() {
+// -------------------------------------------------------- request E3: gates
+
+const char *const ABOVE_0 = "gate above 0: plans";
+const char *const SHUT_OUT = "gate above 0: no plan, with gate 0 there is one";
+const char *const OTHER_PLAN = "gate above 0: another plan than gate 0";
+const char *const OTHER_BOUND = "gate above 0: another bound than gate 0";
+const char *const EARLIER_PLAN =
+    "gate above 0: expected earlier than gate 0, by a greater bound";
+const char *const A_MINUTE_MORE =
+    "gate above 0: another plan or none if it closes a minute earlier";
+
+Numbers worths_of(const Plan &plan) {
+  Numbers worths;
+  for (const PlannedRide &planned : plan.rides)
+    worths.push_back(planned.worth);
+  return worths;
+}
+
+bool same_plans(const std::optional<Plan> &one,
+                const std::optional<Plan> &two) {
+  if (!one || !two) return one.has_value() == two.has_value();
+  return same_rides(*one, *two) && worths_of(*one) == worths_of(*two) &&
+         one->expected == two->expected && one->latest == two->latest &&
+         one->bound == two->bound;
+}
+
+// For one who boards, a gate is a boat that leaves so much earlier, and the
+// minute at which it leaves plays no other part. Not asked where a boat would
+// leave before minute 0; departures never fall, so the first row tells.
+bool is_as_leaving_earlier(Sailings sailings, const Query &query,
+                           const std::optional<Plan> &plan) {
+  if (!sailings.rows.empty() && sailings.rows[0].departure < *query.gate)
+    return true;
+  for (Row &row : sailings.rows) row.departure -= *query.gate;
+  return same_plans(plan, plan_of(sailings, with_gate(query, 0)));
+}
+
+// A gate that closes earlier takes choice away. With a bound the plan may yet
+// be better, since the bound reads E.
+std::string beside_gate_0(const Sailings &sailings, const Query &query,
+                          const std::optional<Plan> &plan) {
+  if (!is_as_leaving_earlier(sailings, query, plan))
+    return "E3: not as if all boats left the gate's minutes earlier";
+  const Query open = with_gate(query, 0);
+  const std::optional<Plan> most = plan_of(sailings, open);
+  if (plan && !most) return "E3: the gate makes a plan";
+  count(SHUT_OUT, most && !plan);
+  if (!plan) return "";
+  if (earliest_safe_arrival(sailings, query) <
+      earliest_safe_arrival(sailings, open))
+    return "E3: the gate makes E earlier";
+  const bool earlier = plan->expected < most->expected;
+  if (earlier && query.code == 0 && !query.margin)
+    return "E3: the gate makes the expected arrival earlier";
+  count(ABOVE_0);
+  count(OTHER_PLAN, !same_plans(plan, most));
+  count(OTHER_BOUND, plan->bound != most->bound);
+  count(EARLIER_PLAN, earlier && query.code != 0);
+  count(A_MINUTE_MORE,
+        !same_plans(plan,
+                    plan_of(sailings, with_gate(query, *query.gate + 1))));
+  return "";
+}
+
+// A run in which no margin or no gate made a difference shows nothing.
+bool requests_were_tried() {
   bool tried = true;
-  for (const char *kind : {ABOVE_1, OTHER_RIDES, LATER, BY_ALL, BY_ALL_LONG})
+  for (const char *kind :
+       {ABOVE_1, OTHER_RIDES, LATER, BY_ALL, BY_ALL_LONG, ABOVE_0, SHUT_OUT,
+        OTHER_PLAN, OTHER_BOUND, EARLIER_PLAN, A_MINUTE_MORE})
     if (tally[kind] == 0) {
       std::printf("never tried: %s\n", kind);
       tried = false;
@@ -304,7 +375,9 @@ std::string doubts(const Bytes &file, const Call &call, bool enumerate) {
     doubt = beside_margin_1(sailings, call.query, plan);
   else if (enumerate && all_rides(sailings).size() <= MOST_RIDES_FOR_SETS)
     doubt = demand_2(sailings, call.query, plan);
-  const bool walk = enumerate || call.query.margin;
+  if (doubt.empty() && closes_early(call.query))
+    doubt = beside_gate_0(sailings, call.query, plan);
+  const bool walk = enumerate || call.query.margin || call.query.gate;
   if (!doubt.empty() || !plan || !walk || plan->rides.size() > 8 ||
       !choices_of_delays(sailings, *plan, MOST_CHOICES))
     return doubt;
@@ -327,7 +400,7 @@ bool is_meant_sound(const Sample &made) {
 bool is_tiny(const Sample &made) {
   return made.shape == Shape::tiny || made.shape == Shape::relay ||
          made.shape == Shape::passing || made.shape == Shape::network ||
-         made.shape == Shape::close;
+         made.shape == Shape::close || made.shape == Shape::gated;
 }
 
 void try_call(const Options &options, uint64_t seed, const Sample &made,
@@ -346,7 +419,8 @@ void try_call(const Options &options, uint64_t seed, const Sample &made,
   }
   const bool decided = defined.answer[0] == 0 || defined.answer[0] == 8;
   if (call.entry != Entry::plan || !decided) return;
-  if (!options.self && !enumerate && !call.query.margin) return;
+  if (!options.self && !enumerate && !call.query.margin && !call.query.gate)
+    return;
   const std::string doubt = doubts(made.file, call, enumerate);
   if (!doubt.empty()) complain(seed, made.file, call, doubt);
 }
@@ -423,7 +497,7 @@ int main(int words, char **arguments) {
   try_house(options);
   try_files(options);
   print_tally();
-  if (!margins_were_tried()) return 1;
+  if (!requests_were_tried()) return 1;
   std::printf("%llu files from seed %llu, %s: no difference, %.1f s\n",
               static_cast<unsigned long long>(options.files),
               static_cast<unsigned long long>(options.seed),

@@ -1,5 +1,5 @@
-// The rules of document 01 and of request E1 of document 02, transcribed
-// sentence by sentence.
+// The rules of document 01 and of requests E1 and E3 of document 02,
+// transcribed sentence by sentence.
 //
 // Every function stands under the sentence that it transcribes. Nothing here
 // is meant to be fast: worths and journeys are recursions over the definitions
@@ -62,7 +62,13 @@ struct Query {
   uint32_t source, target, minute, code;
   // No value means that document 01's own rule chooses the rows.
   std::optional<uint32_t> margin = std::nullopt;
+  // No value means the calls of before E3, whose gates never close early.
+  std::optional<uint32_t> gate = std::nullopt;
 };
+
+// The first departure whose gate is still open for one who stands at the pier
+// at this minute.
+uint32_t ready_to_board(const Query &query, uint32_t minute);
 
 struct Ride {
   size_t boards, leaves;  // row numbers
@@ -88,6 +94,7 @@ std::optional<uint32_t> earliest_by_listing(const Sailings &sailings,
                                             const Query &query);
 bool code_is_known(uint32_t code);
 bool margin_is_known(uint32_t margin);
+bool gate_is_known(uint32_t gate);
 Bound bound_of(const Query &query, uint32_t earliest);
 
 // ------------------------------------------------- worths and chosen rows
@@ -98,11 +105,10 @@ uint32_t worth_elsewhere(const SailingClass &sailing_class,
 
 class Worths {
  public:
-  Worths(const Sailings &sailings, uint32_t target, Bound bound,
-         std::optional<uint32_t> margin = std::nullopt);
+  Worths(const Sailings &sailings, const Query &query, Bound bound);
   std::optional<uint32_t> worth(size_t row);
   bool chosen(size_t row);
-  std::optional<size_t> first_chosen(uint32_t stop, uint32_t minute);
+  std::optional<size_t> first_chosen(uint32_t stop, uint32_t departure);
   std::optional<uint32_t> getting_off(size_t row);
   std::optional<uint32_t> staying_on(size_t row);
 
@@ -111,7 +117,7 @@ class Worths {
   void take(size_t row, uint32_t margin);
   enum class Known : uint8_t { no, yes };
   const Sailings &sailings_;
-  uint32_t target_;
+  const Query query_;
   Bound bound_;
   std::vector<Known> worth_known_, chosen_known_;
   std::vector<std::optional<uint32_t>> worth_;
@@ -161,15 +167,15 @@ bool is_safe_plan(const Sailings &sailings, const Query &query,
 // Worths of the rides of one safe plan, whatever its rides are.
 class SetWorths {
  public:
-  SetWorths(const Sailings &sailings, uint32_t target,
+  SetWorths(const Sailings &sailings, const Query &query,
             const std::vector<Ride> &rides)
-      : sailings_(sailings), target_(target), rides_(rides),
+      : sailings_(sailings), query_(query), rides_(rides),
         known_(rides.size()) {}
   uint32_t worth(const Ride &ride);  // one of the set's own
 
  private:
   const Sailings &sailings_;
-  uint32_t target_;
+  const Query query_;
   const std::vector<Ride> &rides_;
   std::vector<std::optional<uint32_t>> known_;
 };

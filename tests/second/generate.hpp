@@ -47,10 +47,10 @@ struct Call {
 };
 
 enum class Shape {
-  tiny, relay, small, network, passing, empty, medium, close, damaged, edge,
-  noise, large
+  tiny, relay, small, network, passing, empty, medium, close, gated, damaged,
+  edge, noise, large
 };
-constexpr size_t SHAPES = 12;
+constexpr size_t SHAPES = 13;
 const char *name_of(Shape shape);
 
 struct Sample {

@@ -27,6 +27,14 @@ void give_plan(const Bytes &file, const Query &query, uint32_t *work,
        answer);
 }
 
+void give_earliest(const Bytes &file, const Query &query, uint32_t *work,
+                   size_t work_len, uint32_t *answer) {
+  Numbers lent_work(work, work + work_len);
+  const EarliestAnswer got = earliest_call(file, query, lent_work);
+  std::copy(lent_work.begin(), lent_work.end(), work);
+  give({got.number, got.place, got.earliest, 0, 0, 0}, answer);
+}
+
 }  // namespace
 
 extern "C" {
@@ -58,14 +66,30 @@ void trial_plan_margin(const uint8_t *file, size_t file_len, uint32_t source,
             work, work_len, plan, plan_len, answer);
 }
 
+void trial_plan_gate(const uint8_t *file, size_t file_len, uint32_t source,
+                     uint32_t target, uint32_t minute, uint32_t code,
+                     uint32_t margin, uint32_t gate, uint32_t *work,
+                     size_t work_len, uint32_t *plan, size_t plan_len,
+                     uint32_t *answer, size_t) {
+  give_plan(bytes_of(file, file_len),
+            {source, target, minute, code, margin, gate}, work, work_len, plan,
+            plan_len, answer);
+}
+
 void trial_earliest(const uint8_t *file, size_t file_len, uint32_t source,
                       uint32_t target, uint32_t minute, uint32_t *work,
                       size_t work_len, uint32_t *answer, size_t) {
-  Numbers lent_work(work, work + work_len);
-  const EarliestAnswer got = earliest_call(
-      bytes_of(file, file_len), {source, target, minute, 0}, lent_work);
-  std::copy(lent_work.begin(), lent_work.end(), work);
-  give({got.number, got.place, got.earliest, 0, 0, 0}, answer);
+  give_earliest(bytes_of(file, file_len), {source, target, minute, 0}, work,
+                work_len, answer);
+}
+
+void trial_earliest_gate(const uint8_t *file, size_t file_len, uint32_t source,
+                         uint32_t target, uint32_t minute, uint32_t gate,
+                         uint32_t *work, size_t work_len, uint32_t *answer,
+                         size_t) {
+  give_earliest(bytes_of(file, file_len),
+                {source, target, minute, 0, std::nullopt, gate}, work,
+                work_len, answer);
 }
 
 void trial_house(uint32_t pair, uint32_t minute, uint32_t *answer, size_t) {

@@ -57,27 +57,27 @@ if run; then echo "the mirror itself: no difference"
 else echo "the mirror itself differs"; cat "$place/run/out"; exit 1; fi
 
 mutant "a boat at the landing minute is missed" worths \
-  's/minute <= here.departure/minute < here.departure/'
+  's/departure <= here.departure/departure < here.departure/'
 mutant "a boat one minute earlier is caught" worths \
-  's/minute <= here.departure/minute <= here.departure + 1/'
+  's/departure <= here.departure/departure <= here.departure + 1/'
 mutant "safe journeys miss the boat at a+M" rides \
-  's/row.departure >= minute/row.departure > minute/'
+  's/.departure >= departure/.departure > departure/'
 mutant "E by planned arrival" rides \
   's/take_less(least, safe);/take_less(least, arrival(sailings_, ride));/'
 mutant "one more ride after a safe one at exactly a+M" plan \
-  's/here.departure >= safe_arrival/here.departure > safe_arrival/'
+  's/here.departure >= safe/here.departure > safe/'
 mutant "each product rounded" worths \
   's/sum += uint64_t{sailing_class.shares\[delay\]} \* worth_after_delay\[delay\]/sum += 4096 * divided_rounded_up(uint64_t{sailing_class.shares[delay]} * worth_after_delay[delay], 4096)/'
 mutant "rounded down" worths 's/ + (sum % by != 0)//'
 mutant "product summed in 32 bits" worths \
   '/^uint32_t worth_elsewhere/,/^}/s/uint64_t sum/uint32_t sum/'
 mutant "a ride caught only at share 0 left out" plan \
-  's/    answer.push_back(row);/    if (here.departure < safe_arrival(sailings, ride) \&\& class_of(sailings, ride).shares[here.departure - a] == 0) continue;\n&/'
+  's/    answer.push_back(row);/    if (here.departure < safe \&\& class_of(sailings, ride).shares[here.departure - first] == 0) continue;\n&/'
 mutant "lowest row number among equals" worths 's/other > row/other < row/'
 mutant "equal worth later does not hinder" worths \
   's/\*its <= \*own) return/*its < *own) return/'
 mutant "rows boarding at the target have no worth" worths \
-  's/  if (!next) return std::nullopt;/  if (!next || sailings_.rows[*next].boarding == target_) return std::nullopt;/'
+  's/  if (!next) return std::nullopt;/  if (!next || sailings_.rows[*next].boarding == query_.target) return std::nullopt;/'
 mutant "leaves at the first equal landing" plan \
   's/if (!next || /if (!next || worths.getting_off(ride.leaves) == worths.worth(row) || /'
 mutant "never passes the target" plan \
@@ -88,10 +88,10 @@ mutant "bound rounded up" rides 's|(earliest - query.minute) / 4|(earliest - que
 mutant "bound counted from midnight" rides \
   's|query.minute + query.code \* (earliest - query.minute) / 4|query.code * earliest / 4|'
 mutant "bound on planned arrival" worths \
-  's/within(bound_, safe_arrival(sailings_, landing))/within(bound_, a)/'
+  's/within(bound_, safe)/within(bound_, a)/'
 mutant "bound exclusive" rides 's/minute <= \*bound/minute < *bound/'
 mutant "a landing's own minute not taken into the plan" plan \
-  's/here.departure < a ||/here.departure <= a ||/'
+  's/here.departure < first ||/here.departure <= first ||/'
 mutant "latest by planned arrival" plan \
   's/plan.latest = std::max(plan.latest, safe_arrival(/plan.latest = std::max(plan.latest, arrival(/'
 mutant "shares summed in 16 bits" file_check 's/uint64_t sum = 0/uint16_t sum = 0/'
@@ -145,7 +145,7 @@ mutant "work left dirty on 8" plan \
   's/  clear_work(sailings, work);/  if (plan) clear_work(sailings, work);/; /^EarliestAnswer/,/^}/s/if (plan) //'
 mutant "plan slice may be one shorter" plan \
   's/slice.size() < 3 \* sailings.rows.size()/slice.size() + 1 < 3 * sailings.rows.size()/'
-mutant "earliest reads the bound code" plan 's/query.minute, 0};/query.minute, 3};/'
+mutant "earliest reads the bound code" plan 's/unbounded.code = 0/unbounded.code = 3/'
 # request E1
 mutant "must gain more than the margin" worths \
   's/+ margin > \*worth(\*first)/+ margin >= *worth(*first)/'
@@ -156,16 +156,16 @@ mutant "compared with every later row, chosen or not" worths \
 mutant "both rows of a minute stay" worths 's/    chosen_\[\*first\] = false;/    ;/'
 mutant "no margin in the same minute" worths \
   's/\*worth(row) + margin >/*worth(row) + (sailings_.rows[*first].departure == here.departure ? 1 : margin) >/'
-mutant "the margin ignored" worths 's/take(row - 1, \*margin)/take(row - 1, 1)/'
-mutant "margin counted in minutes" worths 's/take(row - 1, \*margin)/take(row - 1, *margin * 256)/'
+mutant "the margin ignored" worths 's/take(row - 1, \*query.margin)/take(row - 1, 1)/'
+mutant "margin counted in minutes" worths 's/take(row - 1, \*query.margin)/take(row - 1, *query.margin * 256)/'
 mutant "margin at the source alone" plan \
-  's/^  Worths worths(sailings, query.target, plan.bound, query.margin);/  Worths with(sailings, query.target, plan.bound, query.margin), worths(sailings, query.target, plan.bound);/; s/= worths.first_chosen(query.source/= with.first_chosen(query.source/'
+  's/^  Worths worths(sailings, query, plan.bound);/  Query without = query;\n  without.margin.reset();\n  Worths with(sailings, query, plan.bound), worths(sailings, without, plan.bound);/; s/= worths.first_chosen(query.source/= with.first_chosen(query.source/'
 mutant "margin in E" rides \
-  's/^class Journeys {/uint32_t margin = 1;\n&/; s/^        take_less(least, boarding_row(row));/        if (const Earliest its = boarding_row(row); its \&\& (!least || 256 * *its + margin <= 256 * *least)) least = its;/; s/^  return Journeys(sailings, query.target, true)/  margin = query.margin.value_or(1);\n&/'
+  's/^class Journeys {/uint32_t margin = 1;\n&/; s/^        take_less(least, boarding_row(row));/        if (const Earliest its = boarding_row(row); its \&\& (!least || 256 * *its + margin <= 256 * *least)) least = its;/; s/^  return Journeys(sailings, query, true)/  margin = query.margin.value_or(1);\n&/'
 mutant "margin in the bound" plan \
   's/bound_of(query, \*earliest)/bound_of(query, *earliest + query.margin.value_or(1) \/ 256)/'
 mutant "rides stay aboard within the margin" plan \
-  's/^Ride ride_of_chosen/uint32_t margin = 1;\n&/; s/worths.worth(\*next) != worths.worth(row)) return/!worths.worth(*next) || *worths.worth(*next) >= *worths.worth(row) + margin) return/; s/^  Worths worths(sailings, query.target/  margin = query.margin.value_or(1);\n&/'
+  's/^Ride ride_of_chosen/uint32_t margin = 1;\n&/; s/worths.worth(\*next) != worths.worth(row)) return/!worths.worth(*next) || *worths.worth(*next) >= *worths.worth(row) + margin) return/; s/^  Worths worths(sailings, query/  margin = query.margin.value_or(1);\n&/'
 mutant "margin 0 taken" rides 's/1 <= margin && //'
 mutant "margin 2,561 taken" rides 's/margin <= 2560/margin <= 2561/'
 mutant "margin 2,560 refused" rides 's/margin <= 2560/margin < 2560/'
@@ -173,6 +173,54 @@ mutant "margins of two bytes" rides \
   's/{ return 1 <= margin/{ margin \&= 65535; return 1 <= margin/'
 mutant "margin refused after the slices" plan \
   's/^  if (!query_is_right(sailings, query)) return plan_refused(6, 0);/  Query without = query; without.margin.reset();\n  if (!query_is_right(sailings, without)) return plan_refused(6, 0);/; s/^  const std::optional<Plan> plan = plan_of(sailings, query);/  if (!query_is_right(sailings, query)) return plan_refused(6, 0);\n&/'
+# request E3
+mutant "no gate at the source" plan 's/ready_to_board(query, query.minute)/query.minute/'
+mutant "no gate at the source in E" rides 's/ready_to_board(query_, query_.minute)/query_.minute/'
+mutant "no gate behind a landing in E" rides 's/ready_to_board(query_, safe)/safe/'
+mutant "no gate in E at all" rides 's/ready_to_board(query_, \([a-z_.]*\))/\1/'
+mutant "no gate in safe" worths \
+  's/ready_to_board(query_, safe)/safe/; s/\*first_chosen(stop, ready_to_board(query_, a + delay))/first_chosen(stop, ready_to_board(query_, a + delay)).value_or(*first_chosen(stop, safe))/'
+mutant "no gate in the worths" worths 's/ready_to_board(query_, a + delay)/a + delay/'
+mutant "no gate for the late in the worths" worths \
+  's/ready_to_board(query_, a + delay)/delay == 0 ? ready_to_board(query_, a) : a + delay/'
+mutant "no gate at the window's start" plan \
+  's/ready_to_board(query, arrival(sailings, ride))/arrival(sailings, ride)/'
+mutant "no gate at the window's end" plan \
+  's/ready_to_board(query, safe_arrival(sailings, ride))/safe_arrival(sailings, ride)/'
+mutant "a boat at the gate's very minute is missed" rides \
+  's/return minute + query.gate.value_or(0)/& + (query.gate.value_or(0) > 0)/'
+mutant "a boat a minute behind the gate is caught" rides \
+  's/return minute + query.gate.value_or(0)/& - (query.gate.value_or(0) > 0)/'
+mutant "gate added twice" rides 's/return minute + query.gate.value_or(0)/return minute + 2 * query.gate.value_or(0)/'
+mutant "gate added twice at the source" plan \
+  's/ready_to_board(query, query.minute)/ready_to_board(query, &)/'
+mutant "gate in the latest minute" plan \
+  's/std::max(plan.latest, safe_arrival(sailings, ride))/std::max(plan.latest, ready_to_board(query, safe_arrival(sailings, ride)))/'
+mutant "gate in the worth at the target" worths \
+  's/return worth_at_target(sailing_class, a)/return worth_at_target(sailing_class, ready_to_board(query_, a))/'
+mutant "gate behind the last landing in E" rides 's/take_less(least, safe);/take_less(least, ready_to_board(query_, safe));/'
+mutant "gate added to the bound" rides 's/return query.minute + query.code/return ready_to_board(query, query.minute) + query.code/'
+mutant "bound counted from T + g" rides \
+  's|return query.minute + query.code \* (earliest - query.minute) / 4|const uint32_t from = ready_to_board(query, query.minute); return from + query.code * (earliest - from) / 4|'
+mutant "bound from the E of gate 0" plan \
+  's/^  plan.bound = bound_of(query, \*earliest);/  Query open = query;\n  open.gate.reset();\n  plan.bound = bound_of(query, *earliest_safe_arrival(sailings, open));/'
+mutant "a + M + g within the bound" worths 's/within(bound_, safe)/within(bound_, ready_to_board(query_, safe))/'
+mutant "gate for who stays aboard" worths \
+  's/^  if (!next) return std::nullopt;/  if (!next || sailings_.rows[*next].departure < ready_to_board(query_, sailings_.rows[row].arrival)) return std::nullopt;/'
+mutant "gate between the boats of a stop" worths \
+  's/first_chosen(here.boarding, here.departure)/first_chosen(here.boarding, ready_to_board(query_, here.departure))/'
+mutant "gate 31 taken" rides 's/gate <= 30/gate <= 31/'
+mutant "gate 30 refused" rides 's/gate <= 30/gate < 30/'
+mutant "gates of one byte" rides 's/{ return gate <= 30/{ gate \&= 255; return gate <= 30/'
+mutant "gates of two bytes" rides 's/{ return gate <= 30/{ gate \&= 65535; return gate <= 30/'
+mutant "gate refused after the slices" plan \
+  's/^  if (!query_is_right(sailings, query)) return plan_refused(6, 0);/  Query without = query; without.gate.reset();\n  if (!query_is_right(sailings, without)) return plan_refused(6, 0);/; s/^  const std::optional<Plan> plan = plan_of(sailings, query);/  if (!query_is_right(sailings, query)) return plan_refused(6, 0);\n&/'
+mutant "earliest leaves the gate out" plan 's/^  unbounded.code = 0;/&\n  if (query.gate \&\& gate_is_known(*query.gate)) unbounded.gate.reset();/'
+mutant "earliest takes gate 31" plan \
+  's/^  unbounded.code = 0;/&\n  if (query.gate == 31u) unbounded.gate = 30;/'
+mutant "margin and gate exchanged" mirror 's/code, margin, gate}/code, gate, margin}/'
+mutant "gate read from the bound code" mirror 's/code, margin, gate}/code, margin, code}/'
+mutant "T and gate exchanged" mirror 's/{source, target, minute, 0, std::nullopt, gate}/{source, target, gate, 0, std::nullopt, minute}/'
 mutant "house shares rounded up" house 's|4096 \* above / below|(4096 * above + below - 1) / below|'
 mutant "house tail rising too slowly" house 's/31 \* (x - m)/30 * (x - m)/'
 echo "$noticed noticed, $missed missed"

@@ -1,5 +1,5 @@
 // Document 01: the plan, whole calls with refusals 1 to 8, and later contents
-// of the lent slices. The margin is E1's.
+// of the lent slices. The margin is E1's, the gate E3's.
 #include "definitions.hpp"
 
 #include <algorithm>
@@ -20,18 +20,20 @@ Ride ride_of_chosen(const Sailings &sailings, Worths &worths, size_t row) {
 namespace {
 
 // "for each ride in it not ending at the target, those of the chosen rows at
-// its landing stop from a up to and including the first at or after a+M"
-std::vector<size_t> chosen_after(const Sailings &sailings, Worths &worths,
-                                 const Ride &ride) {
+// its landing stop from a up to and including the first at or after a+M". E3:
+// "from a+g to the first at or after a+M+g"
+std::vector<size_t> chosen_after(const Sailings &sailings, const Query &query,
+                                 Worths &worths, const Ride &ride) {
   std::vector<size_t> answer;
   const uint32_t stop = left_row(sailings, ride).landing;
-  const uint32_t a = arrival(sailings, ride);
+  const uint32_t first = ready_to_board(query, arrival(sailings, ride));
+  const uint32_t safe = ready_to_board(query, safe_arrival(sailings, ride));
   for (size_t row = 0; row < sailings.rows.size(); ++row) {
     const Row &here = sailings.rows[row];
-    if (here.boarding != stop || here.departure < a || !worths.chosen(row))
+    if (here.boarding != stop || here.departure < first || !worths.chosen(row))
       continue;
     answer.push_back(row);
-    if (here.departure >= safe_arrival(sailings, ride)) return answer;
+    if (here.departure >= safe) return answer;
   }
   return answer;
 }
@@ -39,14 +41,14 @@ std::vector<size_t> chosen_after(const Sailings &sailings, Worths &worths,
 // "The plan holds the ride of the first chosen row at the source at or after
 // T; and, for each ride in it not ending at the target, those of the chosen
 // rows at its landing stop (..). Nothing else."
-void hold(const Sailings &sailings, Worths &worths, uint32_t target,
+void hold(const Sailings &sailings, const Query &query, Worths &worths,
           size_t row, std::vector<bool> &held) {
   if (held[row]) return;
   held[row] = true;
   const Ride ride = ride_of_chosen(sailings, worths, row);
-  if (left_row(sailings, ride).landing == target) return;
-  for (size_t next : chosen_after(sailings, worths, ride))
-    hold(sailings, worths, target, next, held);
+  if (left_row(sailings, ride).landing == query.target) return;
+  for (size_t next : chosen_after(sailings, query, worths, ride))
+    hold(sailings, query, worths, next, held);
 }
 
 }  // namespace
@@ -57,10 +59,11 @@ std::optional<Plan> plan_of(const Sailings &sailings, const Query &query) {
   if (!earliest) return std::nullopt;
   Plan plan;
   plan.bound = bound_of(query, *earliest);
-  Worths worths(sailings, query.target, plan.bound, query.margin);
-  const size_t first = worths.first_chosen(query.source, query.minute).value();
+  Worths worths(sailings, query, plan.bound);
+  const uint32_t ready = ready_to_board(query, query.minute);
+  const size_t first = worths.first_chosen(query.source, ready).value();
   std::vector<bool> held(sailings.rows.size());
-  hold(sailings, worths, query.target, first, held);
+  hold(sailings, query, worths, first, held);
   for (size_t row = 0; row < held.size(); ++row) {
     if (!held[row]) continue;
     const Ride ride = ride_of_chosen(sailings, worths, row);
@@ -74,12 +77,14 @@ std::optional<Plan> plan_of(const Sailings &sailings, const Query &query) {
 namespace {
 
 // "6 | a stop not below S, source equals target, T above 10,079, q not 0 or 4
-// to 16". E1: "a margin outside its range is 6, after q"
+// to 16". E1: "a margin outside its range is 6, after q". E3: "g above 30 is 6,
+// after E1's margin"
 bool query_is_right(const Sailings &sailings, const Query &query) {
   return query.source < sailings.stops && query.target < sailings.stops &&
          query.source != query.target && query.minute <= 10079 &&
          code_is_known(query.code) &&
-         (!query.margin || margin_is_known(*query.margin));
+         (!query.margin || margin_is_known(*query.margin)) &&
+         (!query.gate || gate_is_known(*query.gate));
 }
 
 size_t work_needed(const Sailings &sailings) {
@@ -148,7 +153,9 @@ EarliestAnswer earliest_call(const Bytes &file, const Query &query,
   const Sailings &sailings = checked.sailings;
   if (checked.refusal.number != 0)
     return {checked.refusal.number, checked.refusal.place, 0};
-  const Query unbounded{query.source, query.target, query.minute, 0};
+  Query unbounded = query;
+  unbounded.code = 0;
+  unbounded.margin.reset();
   if (!query_is_right(sailings, unbounded)) return {6, 0, 0};
   if (work.size() < work_needed(sailings)) return {7, 0, 0};
   const std::optional<uint32_t> earliest =

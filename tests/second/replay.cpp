@@ -33,7 +33,7 @@ int main(int count, char **arguments) {
   if (count < 3 || !call_from_words({arguments + 2, arguments + count}, call)) {
     std::fprintf(stderr,
                  "replay FILE plan|earliest|check SOURCE TARGET MINUTE CODE "
-                 "WORK-LENGTH PLAN-LENGTH DIRT [MARGIN]\n");
+                 "WORK-LENGTH PLAN-LENGTH DIRT [margin MARGIN] [gate GATE]\n");
     return 2;
   }
   const Bytes file = read_file(arguments[1]);

@@ -1,4 +1,5 @@
-// Document 01, "Rides, safe journeys, plans": rides, journeys and the bound.
+// Document 01, "Rides, safe journeys, plans": rides, journeys and the bound;
+// E3's gate.
 #include "definitions.hpp"
 
 #include <algorithm>
@@ -53,6 +54,13 @@ bool within(const Bound &bound, uint32_t minute) {
   return !bound || minute <= *bound;
 }
 
+// E3: "a row is caught only if the landing minute plus g is at most its
+// departure. The same holds at the source with T, for "safe" and for the
+// plan's rides". Who stays aboard passes no gate.
+uint32_t ready_to_board(const Query &query, uint32_t minute) {
+  return minute + query.gate.value_or(0);
+}
+
 namespace {
 
 using Earliest = std::optional<uint32_t>;
@@ -61,31 +69,32 @@ void take_less(Earliest &least, const Earliest &other) {
   if (other && (!least || *other < *least)) least = other;
 }
 
-bool boards_at(const Row &row, uint32_t stop, uint32_t minute) {
-  return row.boarding == stop && row.departure >= minute;
-}
-
-// The safe journeys of one file to one target.
+// The safe journeys of one file and query.
 class Journeys {
  public:
-  Journeys(const Sailings &sailings, uint32_t target, bool remembering)
+  Journeys(const Sailings &sailings, const Query &query, bool remembering)
       : sailings_(sailings),
-        target_(target),
+        query_(query),
         remembering_(remembering),
         known_(sailings.rows.size()),
         least_(sailings.rows.size()) {}
 
+  Earliest from_source() {
+    return from(query_.source, ready_to_board(query_, query_.minute));
+  }
+
+ private:
   // "A safe journey boards first at the source, at or after query minute T;
   // each next ride boards where the last one landed, at or after a+M"
-  Earliest boarding(uint32_t stop, uint32_t minute) {
+  Earliest from(uint32_t stop, uint32_t departure) {
     Earliest least;
     for (size_t row = 0; row < sailings_.rows.size(); ++row)
-      if (boards_at(sailings_.rows[row], stop, minute))
+      if (sailings_.rows[row].boarding == stop &&
+          sailings_.rows[row].departure >= departure)
         take_less(least, boarding_row(row));
     return least;
   }
 
- private:
   // "the last one leaves at the target. The earliest safe arrival E is the
   // least a+M of a last ride."
   Earliest boarding_row(size_t row) {
@@ -94,15 +103,15 @@ class Journeys {
     for (const Ride &ride : rides_from(sailings_, row)) {
       const uint32_t safe = safe_arrival(sailings_, ride);
       const uint32_t landing = left_row(sailings_, ride).landing;
-      if (landing == target_) take_less(least, safe);
-      take_less(least, boarding(landing, safe));
+      if (landing == query_.target) take_less(least, safe);
+      take_less(least, from(landing, ready_to_board(query_, safe)));
     }
     known_[row] = true;
     return least_[row] = least;
   }
 
   const Sailings &sailings_;
-  uint32_t target_;
+  const Query query_;
   bool remembering_;
   std::vector<bool> known_;
   std::vector<Earliest> least_;
@@ -112,14 +121,12 @@ class Journeys {
 
 std::optional<uint32_t> earliest_safe_arrival(const Sailings &sailings,
                                               const Query &query) {
-  return Journeys(sailings, query.target, true)
-      .boarding(query.source, query.minute);
+  return Journeys(sailings, query, true).from_source();
 }
 
 std::optional<uint32_t> earliest_by_listing(const Sailings &sailings,
                                             const Query &query) {
-  return Journeys(sailings, query.target, false)
-      .boarding(query.source, query.minute);
+  return Journeys(sailings, query, false).from_source();
 }
 
 // "Bound code q is 0 (no bound) or 4 to 16 (quarters)."
@@ -129,6 +136,9 @@ bool code_is_known(uint32_t code) {
 
 // E1: "a margin of 1 to 2,560 ticks"
 bool margin_is_known(uint32_t margin) { return 1 <= margin && margin <= 2560; }
+
+// E3: "a gate time g, 0 to 30"
+bool gate_is_known(uint32_t gate) { return gate <= 30; }
 
 // "The bound is T + q(E-T)/4 rounded down."
 Bound bound_of(const Query &query, uint32_t earliest) {

@@ -1,17 +1,18 @@
-// Demand 2 on tiny files: every set of rides is tried.
+// Demand 2 on tiny files: every set of rides is tried. "Demands 2 and 3 read
+// g".
 #include "definitions.hpp"
 
 namespace second {
 namespace {
 
-// The first ride of a set that boards at a stop at or after a minute.
+// The first ride of a set that departs from a stop then or later.
 const Ride *first_boarding(const Sailings &sailings,
                            const std::vector<Ride> &rides, uint32_t stop,
-                           uint32_t minute) {
+                           uint32_t departure) {
   const Ride *first = nullptr;
   for (const Ride &ride : rides) {
     const Row &row = boarded_row(sailings, ride);
-    if (row.boarding != stop || row.departure < minute) continue;
+    if (row.boarding != stop || row.departure < departure) continue;
     if (!first || row.departure < boarded_row(sailings, *first).departure)
       first = &ride;
   }
@@ -35,14 +36,23 @@ bool no_two_board_together(const Sailings &sailings,
 // "none boards at the target; .. each has a+M within the bound; .. after each
 // ride not ending at the target, one boards at its landing stop at or after
 // a+M"
-bool ride_is_safe(const Sailings &sailings, uint32_t target,
+bool ride_is_safe(const Sailings &sailings, const Query &query,
                   const Bound &bound, const std::vector<Ride> &rides,
                   const Ride &ride) {
   const uint32_t landing = left_row(sailings, ride).landing;
   const uint32_t safe = safe_arrival(sailings, ride);
-  return boarded_row(sailings, ride).boarding != target &&
+  return boarded_row(sailings, ride).boarding != query.target &&
          within(bound, safe) &&
-         (landing == target || first_boarding(sailings, rides, landing, safe));
+         (landing == query.target ||
+          first_boarding(sailings, rides, landing,
+                         ready_to_board(query, safe)));
+}
+
+// "one boards at the source at or after T"
+const Ride *first_from_source(const Sailings &sailings, const Query &query,
+                              const std::vector<Ride> &rides) {
+  return first_boarding(sailings, rides, query.source,
+                        ready_to_board(query, query.minute));
 }
 
 }  // namespace
@@ -53,11 +63,9 @@ bool ride_is_safe(const Sailings &sailings, uint32_t target,
 // at its landing stop at or after a+M."
 bool is_safe_plan(const Sailings &sailings, const Query &query,
                   const Bound &bound, const std::vector<Ride> &rides) {
-  if (!first_boarding(sailings, rides, query.source, query.minute))
-    return false;
+  if (!first_from_source(sailings, query, rides)) return false;
   for (const Ride &ride : rides)
-    if (!ride_is_safe(sailings, query.target, bound, rides, ride))
-      return false;
+    if (!ride_is_safe(sailings, query, bound, rides, ride)) return false;
   return no_two_board_together(sailings, rides);
 }
 
@@ -69,11 +77,12 @@ uint32_t SetWorths::worth(const Ride &ride) {
   const uint32_t a = arrival(sailings_, ride);
   const uint32_t landing = left_row(sailings_, ride).landing;
   const SailingClass &sailing_class = class_of(sailings_, ride);
-  if (landing == target_) return *(known = worth_at_target(sailing_class, a));
+  if (landing == query_.target)
+    return *(known = worth_at_target(sailing_class, a));
   std::vector<uint32_t> after;
   for (uint32_t delay = 0; delay <= sailing_class.maximum_delay; ++delay)
-    after.push_back(
-        worth(*first_boarding(sailings_, rides_, landing, a + delay)));
+    after.push_back(worth(*first_boarding(
+        sailings_, rides_, landing, ready_to_board(query_, a + delay))));
   return *(known = worth_elsewhere(sailing_class, after));
 }
 
@@ -81,8 +90,8 @@ uint32_t SetWorths::worth(const Ride &ride) {
 // T."
 uint32_t expected_arrival(const Sailings &sailings, const Query &query,
                           const std::vector<Ride> &rides) {
-  return SetWorths(sailings, query.target, rides)
-      .worth(*first_boarding(sailings, rides, query.source, query.minute));
+  return SetWorths(sailings, query, rides)
+      .worth(*first_from_source(sailings, query, rides));
 }
 
 SafePlanCensus census_of_safe_plans(const Sailings &sailings,

@@ -1,4 +1,4 @@
-// Demand 3 on small plans: every choice of delays is walked.
+// Demand 3 on small plans: every choice of delays is walked, with E3's gate.
 #include "definitions.hpp"
 
 #include <algorithm>
@@ -10,13 +10,16 @@ namespace {
 using Large = unsigned __int128;
 using Delays = std::vector<uint32_t>;  // one for each ride of the plan
 
-// "boards the plan's first ride leaving that stop no earlier"
-std::optional<size_t> first_leaving(const Sailings &sailings, const Plan &plan,
+// "boards the plan's first ride leaving that stop no earlier" than one who is
+// there at this minute is ready.
+std::optional<size_t> first_leaving(const Sailings &sailings,
+                                    const Query &query, const Plan &plan,
                                     uint32_t stop, uint32_t minute) {
+  const uint32_t ready = ready_to_board(query, minute);
   std::optional<size_t> first;
   for (size_t place = 0; place < plan.rides.size(); ++place) {
     const Row &row = boarded_row(sailings, plan.rides[place].ride);
-    if (row.boarding != stop || row.departure < minute) continue;
+    if (row.boarding != stop || row.departure < ready) continue;
     if (!first ||
         row.departure <
             boarded_row(sailings, plan.rides[*first].ride).departure)
@@ -37,7 +40,7 @@ Walked walk(const Sailings &sailings, const Query &query, const Plan &plan,
             const Delays &delays, std::vector<bool> &boarded) {
   Walked walked;
   std::optional<size_t> place =
-      first_leaving(sailings, plan, query.source, query.minute);
+      first_leaving(sailings, query, plan, query.source, query.minute);
   while (place) {
     const Ride &ride = plan.rides[*place].ride;
     boarded[*place] = true;
@@ -48,7 +51,7 @@ Walked walk(const Sailings &sailings, const Query &query, const Plan &plan,
       walked.reached = minute;
       return walked;
     }
-    place = first_leaving(sailings, plan, stop, minute);
+    place = first_leaving(sailings, query, plan, stop, minute);
   }
   walked.ride_was_there = false;
   return walked;
@@ -104,7 +107,7 @@ uint32_t longest_from(const Sailings &sailings, const Query &query,
        stop != query.target && delay <= maximum(sailings, plan.rides[place]);
        ++delay)
     if (const std::optional<size_t> next = first_leaving(
-            sailings, plan, stop, arrival(sailings, ride) + delay))
+            sailings, query, plan, stop, arrival(sailings, ride) + delay))
       most = std::max(most, longest_from(sailings, query, plan, *next, known));
   return known[place] = 1 + most;
 }
@@ -115,7 +118,7 @@ uint32_t longest_way(const Sailings &sailings, const Query &query,
                      const Plan &plan) {
   std::vector<uint32_t> known(plan.rides.size(), 0);
   const std::optional<size_t> first =
-      first_leaving(sailings, plan, query.source, query.minute);
+      first_leaving(sailings, query, plan, query.source, query.minute);
   return longest_from(sailings, query, plan, first.value(), known);
 }
 

@@ -1,5 +1,5 @@
 // Document 01, "Expected arrival in ticks": worths and chosen rows; with a
-// margin, E1's rule chooses.
+// margin, E1's rule chooses, and E3's gate decides what is caught.
 #include "definitions.hpp"
 
 namespace second {
@@ -30,18 +30,18 @@ uint32_t worth_elsewhere(const SailingClass &sailing_class,
   return static_cast<uint32_t>(divided_rounded_up(sum, 4096));
 }
 
-Worths::Worths(const Sailings &sailings, uint32_t target, Bound bound,
-               std::optional<uint32_t> margin)
+Worths::Worths(const Sailings &sailings, const Query &query, Bound bound)
     : sailings_(sailings),
-      target_(target),
+      query_(query),
       bound_(bound),
       worth_known_(sailings.rows.size()),
-      chosen_known_(sailings.rows.size(), margin ? Known::yes : Known::no),
+      chosen_known_(sailings.rows.size(),
+                    query.margin ? Known::yes : Known::no),
       worth_(sailings.rows.size()),
       chosen_(sailings.rows.size()) {
-  if (!margin) return;
+  if (!query.margin) return;
   for (size_t row = sailings.rows.size(); row > 0; --row)
-    take(row - 1, *margin);
+    take(row - 1, *query.margin);
 }
 
 // E1: "Rows are taken from last to first; one is chosen only if its worth is at
@@ -49,7 +49,7 @@ Worths::Worths(const Sailings &sailings, uint32_t target, Bound bound,
 // stop has none yet; in the same minute it replaces that row."
 void Worths::take(size_t row, uint32_t margin) {
   const Row &here = sailings_.rows[row];
-  if (here.boarding == target_ || !worth(row)) return;
+  if (here.boarding == query_.target || !worth(row)) return;
   const std::optional<size_t> first =
       first_chosen(here.boarding, here.departure);
   if (first && *worth(row) + margin > *worth(*first)) return;
@@ -71,21 +71,23 @@ std::optional<uint32_t> Worths::worth(size_t row) {
 }
 
 // "getting off (at the target only if a+M is within the bound; elsewhere only
-// if a chosen row departs at or after a+M)"
+// if a chosen row departs at or after a+M)". "After a ride arriving at minute a
+// with delay v, a row is caught if a+v <= departure. An equal minute is caught"
 std::optional<uint32_t> Worths::getting_off(size_t row) {
   const Ride landing{row, row};
   const uint32_t stop = sailings_.rows[row].landing;
   const uint32_t a = arrival(sailings_, landing);
+  const uint32_t safe = safe_arrival(sailings_, landing);
   const SailingClass &sailing_class = class_of(sailings_, landing);
-  if (stop == target_) {
-    if (!within(bound_, safe_arrival(sailings_, landing))) return std::nullopt;
+  if (stop == query_.target) {
+    if (!within(bound_, safe)) return std::nullopt;
     return worth_at_target(sailing_class, a);
   }
-  if (!first_chosen(stop, safe_arrival(sailings_, landing)))
-    return std::nullopt;
+  if (!first_chosen(stop, ready_to_board(query_, safe))) return std::nullopt;
   std::vector<uint32_t> after;
   for (uint32_t delay = 0; delay <= sailing_class.maximum_delay; ++delay)
-    after.push_back(*worth(*first_chosen(stop, a + delay)));
+    after.push_back(
+        *worth(*first_chosen(stop, ready_to_board(query_, a + delay))));
   return worth_elsewhere(sailing_class, after);
 }
 
@@ -108,7 +110,7 @@ bool Worths::chosen(size_t row) {
 // deciding among equals. No row boarding at the target is chosen."
 bool Worths::decide(size_t row) {
   const Row &here = sailings_.rows[row];
-  if (here.boarding == target_) return false;
+  if (here.boarding == query_.target) return false;
   const std::optional<uint32_t> own = worth(row);
   if (!own) return false;
   for (size_t other = 0; other < sailings_.rows.size(); ++other) {
@@ -125,13 +127,12 @@ bool Worths::decide(size_t row) {
   return true;
 }
 
-// "After a ride arriving at minute a with delay v, a row is caught if a+v <=
-// departure. An equal minute is caught". Departures never fall from row to
-// row, so the first row in the file's order is the first in time.
-std::optional<size_t> Worths::first_chosen(uint32_t stop, uint32_t minute) {
+// The first that departs then or later. Departures never fall from row to row,
+// so the first row in the file's order is the first in time.
+std::optional<size_t> Worths::first_chosen(uint32_t stop, uint32_t departure) {
   for (size_t row = 0; row < sailings_.rows.size(); ++row) {
     const Row &here = sailings_.rows[row];
-    if (here.boarding == stop && minute <= here.departure && chosen(row))
+    if (here.boarding == stop && departure <= here.departure && chosen(row))
       return row;
   }
   return std::nullopt;
