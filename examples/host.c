@@ -1,8 +1,9 @@
 /*
  * A booking desk in C99: plans a query and prints its sheet.
- *   host FILE SOURCE TARGET MINUTE [BOUND [MARGIN]]
- * FILE is a sailing file; the others are numbers, as sayurimpak_plan_margin
- * takes them. Without a margin every ride that gains is on the sheet.
+ *   host FILE SOURCE TARGET MINUTE [BOUND [MARGIN [GATE]]]
+ * FILE is a sailing file; the others are numbers, as sayurimpak_plan_gate takes
+ * them. Without a margin every ride that gains is on the sheet; without a gate
+ * time gates are open until departure.
  * The exit status is 0 after a whole sheet, 1 after a refusal, 2 otherwise.
  */
 #include <errno.h>
@@ -74,18 +75,19 @@ static void print_sheet(size_t length, uint32_t rides) {
 }
 
 int main(int count, char **words) {
-  uint32_t asked[5] = {0, 0, 0, 0, SAYURIMPAK_LEAST_MARGIN};
+  uint32_t asked[6] = {0, 0, 0, 0, SAYURIMPAK_LEAST_MARGIN, 0};
   size_t length;
-  if (count < 5 || count > 7)
-    return trouble("usage", "host FILE SOURCE TARGET MINUTE [BOUND [MARGIN]]");
+  if (count < 5 || count > 8)
+    return trouble("usage",
+                   "host FILE SOURCE TARGET MINUTE [BOUND [MARGIN [GATE]]]");
   for (int place = 2; place < count; place++)
     if (!read_number(words[place], &asked[place - 2]))
       return trouble(words[place], "not a number");
   if (!read_file(words[1], &length))
     return trouble(words[1], "cannot be read");
   const uint32_t answer =
-      sayurimpak_plan_margin(file, length, asked[0], asked[1], asked[2],
-                             asked[3], asked[4], plan, sizeof plan);
+      sayurimpak_plan_gate(file, length, asked[0], asked[1], asked[2], asked[3],
+                           asked[4], asked[5], plan, sizeof plan);
   if (answer < SAYURIMPAK_REFUSED) {
     print_sheet(length, answer);
   } else {

@@ -24,7 +24,7 @@ extern "C" {
 #endif
 
 /* Of this header and the library beside it: it rises with every call added. */
-#define SAYURIMPAK_VERSION 2
+#define SAYURIMPAK_VERSION 3
 
 /*
  * The sailing file
@@ -52,6 +52,9 @@ extern "C" {
 /* Margins, in ticks: 1 leaves out no ride that gains, 2,560 are 10 minutes. */
 #define SAYURIMPAK_LEAST_MARGIN 1u
 #define SAYURIMPAK_MOST_MARGIN 2560u
+
+/* Gate times, in minutes: with 0 gates are open until departure. */
+#define SAYURIMPAK_MOST_GATE 30u
 
 /*
  * What a call answers
@@ -84,17 +87,19 @@ extern "C" {
  *         program `explain` names the class or the row.
  *   6  the query is wrong: source or target is not below the file's stops, they
  *      are equal, the minute is above 10,079, the bound code is not 0 or 4 to
- *      16, or the margin is not 1 to 2,560.
+ *      16, the margin is not 1 to 2,560, or the gate time is above 30.
  *      -> Correct the numbers that are passed. A margin is in ticks, 256 a
- *         minute; 1 stands for none.
+ *         minute; 1 stands for none. A gate time is in minutes; 0 stands for
+ *         none.
  *   7  out_len is below 12 bytes for each of the file's rows.
  *      -> Lend SAYURIMPAK_MOST_BYTES, which is enough for every file.
  *   8  there is no safe journey from the source at or after the minute to the
- *      target.
- *      -> A later minute cannot help, nor can another bound code or margin,
- *         since these never cause 8. An earlier minute, another target, next
- *         week's file or a relief sailing can; `explain` says until when, and
- *         from where, there is a safe journey.
+ *      target, with gates that close as early as was asked.
+ *      -> A later minute or a larger gate time cannot help, nor can another
+ *         bound code or margin, since these never cause 8. An earlier minute,
+ *         another target, next week's file, a relief sailing or, where gates
+ *         can stay open longer, a smaller gate time can; `explain` says until
+ *         when, and from where, there is a safe journey.
  */
 #define SAYURIMPAK_REFUSED 10000u
 
@@ -213,6 +218,43 @@ uint32_t sayurimpak_plan_margin(const uint8_t *file, size_t file_len,
                                 uint32_t margin, uint8_t *out, size_t out_len);
 
 /*
+ * sayurimpak_plan_gate
+ * --------------------
+ * The same where piers shut the gate some minutes before departure.
+ *
+ * margin           as above.
+ * gate             in minutes, 0 to SAYURIMPAK_MOST_GATE. With 0 it is the call
+ *                  above, and with 0 and a margin of 1 the first call: the same
+ *                  answer, and the same bytes of `out`.
+ *
+ * What it does: a ride that departs at minute d is caught by those who stand at
+ * its stop at d - gate or before, and missed by those who come later. So it is
+ * for one who lands, and at the source for the query's minute. A safe journey
+ * goes on at a + M + gate or later behind a ride that arrives at a and has a
+ * maximum delay of M. Staying aboard needs no gate.
+ *
+ * How to follow it: be at the first ride's gate by its departure minus gate.
+ * Whoever lands short of the target at minute x takes the first ride of the
+ * plan from that stop that departs at x + gate or later.
+ *
+ * What it costs: rides that depart too soon behind a landing are lost, so that
+ * E can be later than with a smaller gate time, and there can be no plan where
+ * a smaller one has a plan. E is worked out with the gate time, and the bound
+ * by this E.
+ *
+ * What stays: all that is said above of the answer, the plan in `out`, the
+ * limit of the promise and what you must see to. Arrivals, worths and the
+ * latest arrival end with the landing; no gate time is added to them. With
+ * margin 1 no safe plan with this gate time is expected to arrive earlier
+ * within the bound, and another margin costs no more than is said above.
+ */
+uint32_t sayurimpak_plan_gate(const uint8_t *file, size_t file_len,
+                              uint32_t source, uint32_t target,
+                              uint32_t minute, uint32_t bound_code,
+                              uint32_t margin, uint32_t gate, uint8_t *out,
+                              size_t out_len);
+
+/*
  * These calls will stay as they are. A request that adds a number to the query
  * adds a call with a name of its own, which takes all the numbers known by then.
  */
@@ -325,7 +367,8 @@ static inline const char *sayurimpak_refusal_words(uint32_t number) {
   case SAYURIMPAK_BAD_CLASS: return "a class of the sailing file is wrong";
   case SAYURIMPAK_BAD_ROW: return "a row of the sailing file is wrong";
   case SAYURIMPAK_BAD_ORDER: return "a row is out of order, or breaks off its trip";
-  case SAYURIMPAK_BAD_QUERY: return "a stop, minute, bound code or margin is wrong";
+  case SAYURIMPAK_BAD_QUERY:
+    return "a stop, minute, bound code, margin or gate time is wrong";
   case SAYURIMPAK_NO_ROOM: return "too little room for the plan";
   case SAYURIMPAK_NO_JOURNEY: return "there is no safe journey";
   default: return "no refusal";

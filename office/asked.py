@@ -4,10 +4,12 @@ from timetable import time_text
 
 
 def asked(timetable, query):
-    """From, to, from when, and a bound and a margin that make a difference."""
+    """From, to, from when, and a bound, a margin and a gate time that make a difference."""
     bound = f", bound {query.bound}" if query.bound else ""
     margin = f", margin {query.margin}" if left_out(query) else ""
-    return f"{timetable.stop_name(query.source)} to {timetable.stop_name(query.target)}, from {time_text(query.minute)}{bound}{margin}"
+    gate = f", gate {query.gate}" if query.gate else ""
+    ends = f"{timetable.stop_name(query.source)} to {timetable.stop_name(query.target)}"
+    return f"{ends}, from {time_text(query.minute)}{bound}{margin}{gate}"
 
 
 def named(timetable, query):

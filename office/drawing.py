@@ -1,9 +1,10 @@
 """Draws a plan: stops down, time across, each ride a line, and at every landing the minutes in which one may land.
 
-A bar runs from a landing's first minute to its last. It is cut at the departures of the rides to choose from, and a dashed line leads from
-each part to the ride that one takes who lands in it. A plan that does not fit one sheet of A4 gets several drawings, each ride in one.
+A bar runs from a landing's first minute to its last. It is cut where the gates of the rides to choose from close, and a dashed line leads
+from each part to the ride that one takes who lands in it. A plan that does not fit one sheet of A4 gets several drawings, each ride in one.
 """
 from axis import Axis, hours_of
+from gate import cut, drawn
 from landings import landings
 from lettering import DIGITS, Room, clock, name_lines, pixels
 from markup import element
@@ -19,9 +20,10 @@ MOST_STOPS = TALL // LOWEST
 MOST_HOURS = 12
 MOST_RIDES = 60
 LANE = 26  # how far below their landings rides depart
+GATE = 16  # the height of a gate's stroke
 KEY = (
     "The thick line is the first boat, the thin lines are the others, each named by its time of departure where there is room. A bar shows "
-    "when you may land, on time or late; it is cut where a boat leaves, and a dashed line leads from each part to the boat that you then take."
+    "when you may land, on time or late; it is cut {}, and a dashed line leads from each part to the boat that you then take."
 )
 
 
@@ -38,7 +40,7 @@ def drawings(plan, query, timetable):
             element("h2", {}, title, time_mark(time_text(query.minute)), place_among),
             element("p", {"class": "hint"}, "Move the drawing sideways to see all of it."),
             element("div", {"class": "scroll"}, picture),
-            element("p", {"class": "key"}, KEY),
+            element("p", {"class": "key"}, " ".join([KEY.format(cut(query)), *drawn(query)])),
         )
 
 
@@ -47,12 +49,17 @@ def portions_of(plan):
     portions, stops, hours = [], set(), set()
     for ride in plan:
         stops |= {ride.board, ride.land}
-        hours |= hours_of(ride.departure, ride.last)
+        hours |= hours_drawn(ride)
         if not portions or len(stops) > MOST_STOPS or len(hours) > MOST_HOURS or len(portions[-1]) == MOST_RIDES:
             portions.append([])
-            stops, hours = {ride.board, ride.land}, hours_of(ride.departure, ride.last)
+            stops, hours = {ride.board, ride.land}, hours_drawn(ride)
         portions[-1].append(ride)
     return portions
+
+
+def hours_drawn(ride):
+    """From the closing of its gate to its last landing."""
+    return hours_of(ride.closes, ride.last)
 
 
 class Drawing:
@@ -65,7 +72,7 @@ class Drawing:
         self.stops = [stop for stop in in_order(plan, query.target) if stop in here]
         self.names = {stop: name_lines(timetable.stop_name(stop)) for stop in self.stops}
         left = DIGITS + 24 + max(pixels(words) for lines in self.names.values() for words in lines)
-        self.axis = Axis(set().union(*(hours_of(ride.departure, ride.last) for ride in rides)), left, WIDTH - MARGIN)
+        self.axis = Axis(set().union(*(hours_drawn(ride) for ride in rides)), left, WIDTH - MARGIN)
         self.pitch = min(HIGHEST, TALL // len(self.stops))
         self.height = self.lands(self.stops[-1]) + LANE + 28
 
@@ -81,6 +88,7 @@ class Drawing:
         content = [element("title", {}, f"Rides from {source} on, up to {target}"), stripes(number)]
         content += [*self.scale(), *self.stop_rows()]
         content += [self.line(ride) for ride in self.rides]
+        content += [stroke for ride in self.rides for stroke in self.gate(ride)]
         departures = list(self.departures())  # these are the first to take room for words, and the last to be drawn
         for landing in self.landings:
             content += self.bar(landing, number)
@@ -127,6 +135,16 @@ class Drawing:
         }
         ends = self.axis.x(ride.departure), self.departs(ride.board), self.axis.x(ride.arrival), self.lands(ride.land)
         return line(*ends, "#000", 6 if first else 2, about)
+
+    def gate(self, ride):
+        """Where a ride's gate closes, if that is before it departs, and a line from there to the departure, which other words keep off."""
+        if ride.closes == ride.departure:
+            return
+        start, end, y = self.axis.x(ride.closes), self.axis.x(ride.departure), self.departs(ride.board)
+        self.room.fill(start, y, end - start)
+        about = {"class": "gate", "data-from": ride.board, "data-departure": ride.departure, "data-closes": ride.closes}
+        yield line(start, y - GATE / 2, start, y + GATE / 2, "#000", 2, about)
+        yield line(start, y, end, y, "#000", 2)
 
     def bar(self, landing, number):
         """The minutes of a landing, cut into parts, each with a dashed line to the ride that is then taken."""

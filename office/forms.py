@@ -4,7 +4,8 @@ from typing import Optional, Union
 
 import house
 import times
-from timetable import BOUND_CODES, FEWEST_STOPS, LEAST_MARGIN, LONGEST_DELAY, MARGINS, MOST_MARGIN, MOST_STOPS, SHARE_TOTAL, TICKS
+from timetable import (BOUND_CODES, FEWEST_STOPS, GATES, LEAST_MARGIN, LONGEST_DELAY, MARGINS, MOST_GATE, MOST_MARGIN, MOST_STOPS,
+                       SHARE_TOTAL, TICKS)
 from values import OWN_WORDS, is_number, is_own, name, number, query_name, stop, trip, whole
 from words import Word, WrongLine
 
@@ -12,6 +13,7 @@ SAIL_OPTIONS = {"trip": "a trip's number or name", "class": "a class's name or n
 QUERY_OPTIONS = {
     "bound": "a bound code, 0 or 4 to 16",
     "margin": f"a margin of {LEAST_MARGIN} to {MOST_MARGIN} ticks, {TICKS} a minute",
+    "gate": f"a gate time of 0 to {MOST_GATE} minutes",
     "name": "a query's name",
 }
 
@@ -43,6 +45,7 @@ class Asked:
     minute: int
     bound: int
     margin: Optional[int]
+    gate: Optional[int]
     name: Optional[str]
 
 
@@ -161,10 +164,11 @@ def query(words):
     called = query_name(values["name"]) if "name" in values else None
     bound = one_of(BOUND_CODES, values, "bound") or 0
     margin = one_of(MARGINS, values, "margin")
+    gate = one_of(GATES, values, "gate")
     source, target = left.take("the source stop"), left.take("the target stop")
     minute = times.moment(left, "the day behind two stops")
     left.end()
-    return Asked(source, target, minute, bound, margin, called)
+    return Asked(source, target, minute, bound, margin, gate, called)
 
 
 def tables(words):

@@ -8,8 +8,8 @@ from sheet import Ride
 class Landing:
     """A stretch of minutes, none left out, in which rides of the plan may land at a stop; and what can be taken there in them.
 
-    `choices` are the plan's rides from that stop, from the first one at or after the stretch's first minute to the first at or after its
-    last. Each is for those who land by its departure and after the departure of the choice before it. At the target there are none.
+    `choices` are the plan's rides from that stop, from the first whose gate closes at or after the stretch's first minute to the first of
+    which this is true of its last. Each is for those who land by then, but too late for the choice before it. At the target there are none.
     """
 
     stop: int
@@ -22,7 +22,7 @@ class Landing:
         """For each choice the first and the last minute of landing that lead to it."""
         first = self.first
         for choice in self.choices:
-            last = min(choice.departure, self.last)
+            last = min(choice.closes, self.last)
             yield first, last, choice
             first = last + 1
 
@@ -43,6 +43,6 @@ def landing_of(group, plan):
     stop, first, last = group[0].land, group[0].arrival, max(ride.last for ride in group)
     choices = []
     for ride in plan:  # by departure
-        if ride.board == stop and first <= ride.departure and not (choices and last <= choices[-1].departure):
+        if ride.board == stop and first <= ride.closes and not (choices and last <= choices[-1].closes):
             choices.append(ride)
     return Landing(stop, first, last, tuple(group), tuple(choices))

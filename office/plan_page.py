@@ -1,5 +1,6 @@
 """The printable page of one query: what to board first, what to take after each landing, and a drawing of it."""
 from drawing import drawings
+from gate import be_there, early, still_yours
 from landings import landings
 from margin import left_out
 from markup import element
@@ -18,7 +19,7 @@ def plan_page(timetable, answer):
 
 
 def minutes_of(rides):
-    return (minute for ride in rides for minute in (ride.departure, ride.arrival, ride.last, ride.line.expected))
+    return (minute for ride in rides for minute in (ride.closes, ride.departure, ride.arrival, ride.last, ride.line.expected))
 
 
 class Times:
@@ -54,7 +55,7 @@ class PlanPage:
         body = [self.arrivals(), self.first()]
         if self.landings:
             body.append(element("h2", {}, "After each landing"))
-            body.append(element("p", {}, "Look at the clock as you step ashore. A boat that leaves in that very minute is still yours."))
+            body.append(element("p", {}, f"Look at the clock as you step ashore. {still_yours(self.query)}"))
         body += [self.landing(number, landing) for number, landing in enumerate(self.landings, 1)]
         body.append(element("p", {"class": "promise"}, PROMISE))
         body += drawings(self.rides, self.query, self.timetable)
@@ -64,7 +65,7 @@ class PlanPage:
         return element("b", {}, self.timetable.stop_name(stop))
 
     def arrivals(self):
-        """Expected and latest arrival, how times are meant, and what is left out."""
+        """Expected and latest arrival, how times are meant, how early gates close, and what is left out."""
         name = self.timetable.stop_name(self.query.target)
         boxes = element(
             "ul",
@@ -72,12 +73,14 @@ class PlanPage:
             element("li", {}, f"Expected at {name}", self.times.mark(self.sheet.expected)),
             element("li", {}, "At the latest", self.times.mark(self.sheet.latest)),
         )
-        return element("div", {}, element("p", {}, " ".join([self.times.sentence(), *left_out(self.query)])), boxes)
+        said = [self.times.sentence(), *early(self.query), *left_out(self.query)]
+        return element("div", {}, element("p", {}, " ".join(said)), boxes)
 
     def first(self):
         ride = self.rides[0]
         taken = ["Board first: the ", *self.boat(ride), " from ", self.stop(ride.board), " to ", self.stop(ride.land), ", "]
-        return element("p", {"class": "first"}, *taken, *self.due(ride), ". ", self.onward(ride))
+        waits = be_there(self.query, self.times.mark(ride.closes))
+        return element("p", {"class": "first"}, *taken, *self.due(ride), ". ", *waits, self.onward(ride))
 
     def boat(self, ride):
         """What to look out for: the departure, and the trip if trips have names."""
@@ -132,13 +135,13 @@ class PlanPage:
         return [*times, f" from {self.timetable.stop_name(rides[0].board)}"]
 
     def choice(self, landing, ride):
-        """A ride to take, and for whom: those who land by its departure, or all others."""
+        """A ride to take, and for whom: those who land until its gate closes, or all others."""
         if len(landing.choices) == 1:
             when = ["whenever you land" if landing.first < landing.last else "then"]
         elif ride is landing.choices[-1]:
             when = ["otherwise"]
         else:
-            when = ["at or before ", self.times.mark(ride.departure)]
+            when = ["at or before ", self.times.mark(ride.closes)]
         taken = ["take the ", *self.boat(ride), " to ", self.stop(ride.land), ","]
         expected = element("span", {"class": "expected"}, "expected ", self.times.mark(ride.line.expected))
         return element(

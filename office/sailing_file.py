@@ -1,14 +1,15 @@
-"""Document 01's bytes: a timetable as a sailing file, a query as four numbers or five, and both read back by its rules."""
+"""Document 01's bytes: a timetable as a sailing file, a query as four to six numbers, and both read back by its rules."""
 import struct
 
-from timetable import (BOUND_CODES, FEWEST_STOPS, LAST_MINUTE, LEAST_MARGIN, LONGEST_DELAY, MARGINS, MOST_CLASSES, MOST_MARGIN, MOST_ROWS,
-                       MOST_STOPS, MOST_TRIPS, SHARE_TOTAL, Query, Row, Timetable)
+from timetable import (BOUND_CODES, FEWEST_STOPS, GATES, LAST_MINUTE, LEAST_MARGIN, LONGEST_DELAY, MARGINS, MOST_CLASSES, MOST_GATE,
+                       MOST_MARGIN, MOST_ROWS, MOST_STOPS, MOST_TRIPS, SHARE_TOTAL, Query, Row, Timetable)
 
 VERSION = 1
 TRAILER = struct.Struct("<4H2I")
 ROW = struct.Struct("<6H")
-QUERY = struct.Struct("<4H")
-MARGIN = struct.Struct("<H")  # behind a query that has one
+NUMBER = struct.Struct("<H")
+ASKED = ("source", "target", "minute", "bound", "margin", "gate")  # a query's numbers; a gate time or both last ones may be left out
+QUERY_BYTES = (8, 10, 12)
 FEWEST_BYTES, MOST_BYTES = 20, 27920
 
 
@@ -29,8 +30,10 @@ def sailings_bytes(timetable):
 
 
 def query_bytes(query):
-    asked = QUERY.pack(query.source, query.target, query.minute, query.bound)
-    return asked if query.margin is None else asked + MARGIN.pack(query.margin)
+    """A gate time stands behind a margin, which is the least where the query has none."""
+    margin = LEAST_MARGIN if query.margin is None and query.gate is not None else query.margin
+    numbers = (query.source, query.target, query.minute, query.bound, margin, query.gate)
+    return b"".join(NUMBER.pack(number) for number in numbers if number is not None)
 
 
 def read_trailer(data):
@@ -112,10 +115,10 @@ def read_sailings(data):
 
 
 def query_in(data, name):
-    if len(data) not in (QUERY.size, QUERY.size + MARGIN.size):
-        raise Refused(6, f"it has {len(data)} bytes, neither {QUERY.size} nor {QUERY.size + MARGIN.size}")
-    asked, margin = data[:QUERY.size], data[QUERY.size:]
-    return Query(*QUERY.unpack(asked), MARGIN.unpack(margin)[0] if margin else None, name)
+    if len(data) not in QUERY_BYTES:
+        raise Refused(6, "it has {} bytes, not {}, {} or {}".format(len(data), *QUERY_BYTES))
+    numbers = (number for (number,) in NUMBER.iter_unpack(data))
+    return Query(**dict(zip(ASKED, numbers)), name=name)
 
 
 def read_query(data, stops, name):
@@ -130,4 +133,6 @@ def read_query(data, stops, name):
         raise Refused(6, f"bound code {query.bound} is not 0 or 4 to 16")
     if query.margin is not None and query.margin not in MARGINS:
         raise Refused(6, f"margin {query.margin} is not {LEAST_MARGIN} to {MOST_MARGIN} ticks")
+    if query.gate is not None and query.gate not in GATES:
+        raise Refused(6, f"gate time {query.gate} is not 0 to {MOST_GATE} minutes")
     return query

@@ -7,6 +7,7 @@ import re
 from collections import Counter
 from dataclasses import dataclass
 
+from gate import closing
 from messages import Trouble
 from timetable import DAY, time_text
 
@@ -41,11 +42,13 @@ class Sheet:
 
 @dataclass(frozen=True)
 class Ride:
-    """A line of the sheet with the last minute of its landing, and its trip."""
+    """A line of the sheet with the last minute of its landing, its trip, and the minute in which its gate closes: whoever is there by
+    then gets it."""
 
     line: Line
     last: int
     trip: int
+    closes: int
 
     @property
     def board(self):
@@ -99,7 +102,7 @@ def joined(sheet, words, timetable, query):
             raise Trouble(f"explain tells of trip {trip} at {time_text(departure)}, which is not in the timetable")
         told[row.board, departure, land, arrival] = trip
     leaves = {(row.trip, row.arrival, row.land): row for row in timetable.rows}
-    rides = [ride_of(line, told, leaves, timetable) for line in sheet.lines]
+    rides = [ride_of(line, told, leaves, timetable, query) for line in sheet.lines]
     check(sheet, rides, query)
     return rides
 
@@ -111,25 +114,25 @@ def trips_told(words):
     )
 
 
-def ride_of(line, told, leaves, timetable):
+def ride_of(line, told, leaves, timetable, query):
     """A line of the sheet, its last landing found by the trip that is told of it."""
     trip = told.get((line.board, line.departure, line.land, line.arrival))
     leave = leaves.get((trip, line.arrival, line.land))
     if trip is None or leave is None or line.arrival <= line.departure:
         raise Trouble(f"the ride from stop {line.board} at {time_text(line.departure)} is on the sheet, but explain tells no trip for it")
-    return Ride(line, line.arrival + len(timetable.tables[leave.kind]) - 1, trip)
+    return Ride(line, line.arrival + len(timetable.tables[leave.kind]) - 1, trip, closing(line.departure, query))
 
 
 def check(sheet, rides, query):
-    """That rides, windows, first line and query fit together as document 01 has it of every plan."""
+    """That rides, windows, first line and query fit together as documents 01 and 02 have it of every plan."""
     first = rides[0]
-    if first.board != query.source or first.departure < query.minute or first.line.expected != sheet.expected:
+    if first.board != query.source or first.closes < query.minute or first.line.expected != sheet.expected:
         raise Trouble("the sheet's first ride is not that of its first line and of the query")
     if max(ride.last for ride in rides) != sheet.latest:
         raise Trouble(f"the last landing of the rides is not {time_text(sheet.latest)}, the sheet's latest arrival")
     if len({(ride.board, ride.departure) for ride in rides}) != len(rides):
         raise Trouble("two rides of the sheet board at one stop in one minute")
-    leaves = {ride.board: ride.departure for ride in rides}  # the last from each stop, for departures never fall
+    closes = {ride.board: ride.closes for ride in rides}  # of the last from each stop, for departures never fall
     for ride in rides:
-        if ride.land != query.target and leaves.get(ride.land, -1) < ride.last:
-            raise Trouble(f"no ride of the sheet leaves stop {ride.land} at or after {time_text(ride.last)}, when a ride may land there")
+        if ride.land != query.target and closes.get(ride.land, -1) < ride.last:
+            raise Trouble(f"no ride of the sheet is to be had at stop {ride.land} at {time_text(ride.last)}, when a ride may land there")

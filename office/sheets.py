@@ -5,6 +5,7 @@ from answers import add_arguments, answers
 from asked import named
 from columns import columns
 from counted import counted
+from gate import early
 from margin import left_out
 from messages import Trouble, reason
 from pack import put
@@ -42,7 +43,7 @@ def printed(timetable, answer):
     else:
         rides = counted(len(answer.rides), "ride")
         lines.append(f"expected {time_text(answer.sheet.expected)}, latest {time_text(answer.sheet.latest)}, {rides}")
-        lines += left_out(answer.query)
+        lines += [*early(answer.query), *left_out(answer.query)]
         lines += columns(rows(timetable, answer.rides))
     return "".join(f"{line}\n" for line in lines)
 

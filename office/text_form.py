@@ -39,7 +39,7 @@ def all_queries(text, stops):
         if one.name is None and several:
             text.tell(line, "a query without a name", "name and a word, since there are several queries")
         try:
-            queries.append(Query(*stops.two((one.source, one.target)), one.minute, one.bound, one.margin, one.name))
+            queries.append(Query(*stops.two((one.source, one.target)), one.minute, one.bound, one.margin, one.gate, one.name))
         except WrongLine as wrong:
             text.tell_wrong(line, wrong)
     return queries

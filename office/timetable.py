@@ -15,6 +15,8 @@ BOUND_CODES = (0, *range(4, 17))
 TICKS = 256  # of a minute
 LEAST_MARGIN, MOST_MARGIN = 1, 10 * TICKS
 MARGINS = range(LEAST_MARGIN, MOST_MARGIN + 1)
+MOST_GATE = 30  # minutes
+GATES = range(MOST_GATE + 1)
 
 
 @dataclass(frozen=True)
@@ -31,13 +33,15 @@ class Row:
 
 @dataclass(frozen=True)
 class Query:
-    """From source to target, standing at the source from a minute on, with a bound code; a margin in ticks and a name if it has them."""
+    """From source to target, standing at the source from a minute on, with a bound code; a margin in ticks, a gate time in minutes and a
+    name if it has them."""
 
     source: int
     target: int
     minute: int
     bound: int = 0
     margin: Optional[int] = None
+    gate: Optional[int] = None
     name: Optional[str] = None
 
 

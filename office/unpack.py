@@ -38,7 +38,8 @@ def class_text(table, name):
 def query_text(query, stops):
     name = "" if query.name is None else f" name {query.name}"
     margin = "" if query.margin is None else f" margin {query.margin}"
-    return f"query{name} {stops[query.source]} {stops[query.target]} {time_text(query.minute)} bound {query.bound}{margin}"
+    gate = "" if query.gate is None else f" gate {query.gate}"
+    return f"query{name} {stops[query.source]} {stops[query.target]} {time_text(query.minute)} bound {query.bound}{margin}{gate}"
 
 
 def text(timetable):

@@ -4,8 +4,8 @@ import re
 from timetable import MOST_STOPS, MOST_TRIPS
 from words import Word, WrongLine
 
-OWN_WORDS = ("stop", "stops", "class", "shares", "house", "sail", "trip", "days", "query", "name", "bound", "margin", "tables",
-             "first")
+OWN_WORDS = ("stop", "stops", "class", "shares", "house", "sail", "trip", "days", "query", "name", "bound", "margin", "gate",
+             "tables", "first")
 FILE_NAMES = ("sailings", "query", "names", "sheet")  # of what stands in a packed folder
 LONGEST_NAME = 60
 DIGITS = re.compile("[0-9]+")

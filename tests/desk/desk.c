@@ -17,6 +17,8 @@ _Static_assert(SAYURIMPAK_DAY_MINUTES == 1440, "every day has 1,440 minutes");
 _Static_assert(SAYURIMPAK_LAST_MINUTE == 10079, "seven days");
 _Static_assert(SAYURIMPAK_TICKS_A_MINUTE == 256, "a tick is 1/256 minute");
 _Static_assert(SAYURIMPAK_LEAST_MARGIN == 1 && SAYURIMPAK_MOST_MARGIN == 2560, "a margin of 1 to 2,560 ticks");
+_Static_assert(SAYURIMPAK_MOST_GATE == 30, "a gate time of 0 to 30 minutes");
+_Static_assert(SAYURIMPAK_VERSION == 3, "three calls");
 _Static_assert(SAYURIMPAK_BAD_SIZES == 1 && SAYURIMPAK_BAD_SECTIONS == 2 && SAYURIMPAK_BAD_CLASS == 3 && SAYURIMPAK_BAD_ROW == 4 &&
                    SAYURIMPAK_BAD_ORDER == 5 && SAYURIMPAK_BAD_QUERY == 6 && SAYURIMPAK_NO_ROOM == 7 && SAYURIMPAK_NO_JOURNEY == 8,
                "the refusals' numbers");
@@ -51,15 +53,25 @@ static void compare(const char *what, uint32_t answer, uint32_t wanted, const ui
          memcmp(out, left, sizeof out) == 0 ? "" : ", and other bytes than must be");
 }
 
+static void expect_gate(const char *what, size_t length, struct asked asked, uint32_t margin, uint32_t gate, size_t room,
+                        uint32_t wanted, const uint8_t *plan) {
+  memset(out, DIRT, sizeof out);
+  const uint32_t answer =
+      sayurimpak_plan_gate(file, length, asked.source, asked.target, asked.minute, asked.code, margin, gate, out, room);
+  compare(what, answer, wanted, plan);
+}
+
+/* A call with a margin, and the call with gate time 0, which must do the same. */
 static void expect_margin(const char *what, size_t length, struct asked asked, uint32_t margin, size_t room, uint32_t wanted,
                           const uint8_t *plan) {
   memset(out, DIRT, sizeof out);
   const uint32_t answer =
       sayurimpak_plan_margin(file, length, asked.source, asked.target, asked.minute, asked.code, margin, out, room);
   compare(what, answer, wanted, plan);
+  expect_gate(what, length, asked, margin, 0, room, wanted, plan);
 }
 
-/* A call with this much room, and the call with margin 1, which must do the same. */
+/* A call with this much room, and the calls with margin 1 and with gate time 0, which must do the same. */
 static void expect(const char *what, size_t length, struct asked asked, size_t room, uint32_t wanted) {
   memset(out, DIRT, sizeof out);
   const uint32_t answer = sayurimpak_plan(file, length, asked.source, asked.target, asked.minute, asked.code, out, room);
@@ -180,6 +192,63 @@ static void gains(void) {
   expect_margin("a gain of 256, margin 2,560", W_BYTES, W_ASKED, 2560, W_ROOM, 2, LEFT_OUT);
 }
 
+/* W without its second row, which departs at 632: its first is then worth what the last is, 176,640. */
+static const uint8_t MISSED_PLAN[24] = {0, 0, 0, 0, 0, 0, 0, 0, 0x00, 0xb2, 0x02, 0,
+                                        3, 0, 0, 0, 3, 0, 0, 0, 0x00, 0xb2, 0x02, 0};
+
+/* A gate time above 30 is 6, in all its 32 bits and before 7 and 8, behind a file's own fault. */
+static void wrong_gates(void) {
+  static const uint32_t WRONG[] = {31, 32, 255, 256, 65535, 65536, 65537, 65566, 4294967295u};
+  const struct asked late = {0, 2, 601, 0};
+  char what[80];
+  put_w();
+  for (size_t k = 0; k < sizeof WRONG / sizeof WRONG[0]; k++) {
+    snprintf(what, sizeof what, "gate %u", (unsigned)WRONG[k]);
+    expect_gate(what, W_BYTES, W_ASKED, 1, WRONG[k], W_ROOM, 10006, NULL);
+    expect_gate(what, W_BYTES, W_ASKED, 1, WRONG[k], 47, 10006, NULL);
+    expect_gate(what, W_BYTES, late, 1, WRONG[k], W_ROOM, 10006, NULL);
+    expect_gate(what, W_BYTES, W_ASKED, 0, WRONG[k], W_ROOM, 10006, NULL);
+  }
+  expect_gate("margin 0 and a gate", W_BYTES, W_ASKED, 0, 5, W_ROOM, 10006, NULL);
+  expect_gate("a gate and 12n - 1 bytes", W_BYTES, W_ASKED, 1, 2, 47, 10007, NULL);
+  put_number(40, 635);
+  expect_gate("5 before a gate's 6", W_BYTES, W_ASKED, 1, 31, W_ROOM, 10005, NULL);
+}
+
+/* W's first ride departs at 600 and lands from 630 to 640; the next depart at 632 and 650. Each is caught with a gate time that ends in
+   its very minute, and missed with one more. */
+static void gates(void) {
+  static const struct {
+    uint32_t minute, gate, wanted;
+  } ASKED[] = {
+      {590, 0, 3},  {590, 1, 3},      {590, 2, 3},     {590, 3, 2},  {590, 10, 2},     {590, 11, 10008}, {590, 30, 10008},
+      {598, 2, 3},  {599, 2, 10008},  {597, 3, 2},     {598, 3, 10008}, {570, 10, 2},  {570, 11, 10008},
+  };
+  char what[80];
+  put_w();
+  for (size_t k = 0; k < sizeof ASKED / sizeof ASKED[0]; k++) {
+    const struct asked asked = {0, 2, ASKED[k].minute, 0}, tight = {0, 2, ASKED[k].minute, 4};
+    const uint8_t *plan = ASKED[k].wanted == 3 ? W_PLAN : MISSED_PLAN;
+    snprintf(what, sizeof what, "minute %u, gate %u", (unsigned)ASKED[k].minute, (unsigned)ASKED[k].gate);
+    expect_gate(what, W_BYTES, asked, 1, ASKED[k].gate, W_ROOM, ASKED[k].wanted, plan);
+    expect_gate(what, W_BYTES, asked, 2560, ASKED[k].gate, W_ROOM, ASKED[k].wanted, plan);
+    expect_gate(what, W_BYTES, tight, 1, ASKED[k].gate, W_ROOM, ASKED[k].wanted, plan);
+  }
+}
+
+/* The last row departs just late enough for a landing at 640, and a minute earlier. */
+static void last_gates(void) {
+  const struct asked early = {0, 2, 570, 0};
+  put_number(40, 642);
+  expect_gate("a departure at 642, gate 2", W_BYTES, W_ASKED, 1, 2, W_ROOM, 3, W_PLAN);
+  put_number(40, 641);
+  expect_gate("a departure at 641, gate 2", W_BYTES, W_ASKED, 1, 2, W_ROOM, 10008, NULL);
+  put_number(40, 670);
+  expect_gate("a departure at 670, gate 30", W_BYTES, early, 1, 30, W_ROOM, 2, MISSED_PLAN);
+  put_number(40, 669);
+  expect_gate("a departure at 669, gate 30", W_BYTES, early, 1, 30, W_ROOM, 10008, NULL);
+}
+
 /* 6 before 7 before 8, and a file's own fault before all. */
 static void order(void) {
   const struct asked wrong = {0, 2, 590, 3}, none = {0, 2, 601, 0};
@@ -209,6 +278,9 @@ int main(int count, char **words) {
   queries();
   margins();
   gains();
+  wrong_gates();
+  gates();
+  last_gates();
   order();
   printf("desk: %d calls, %d differences\n", calls, failed);
   return failed > 0;

@@ -35,7 +35,7 @@ def stored():
     sheets = re.split(r"case \d+\n", (STORED / "stdout").read_text())[1:]
     assert len(parts) == 2 * len(sheets)
     for file, query, sheet in zip(parts[::2], parts[1::2], sheets):
-        if len(query) in (8, 10):
+        if len(query) in (8, 10, 12):
             yield file, query, sheet
 
 
@@ -49,7 +49,7 @@ def drawn_table(draw):
 
 def drawn(seed):
     """Boats between five stops, each a trip of its own, in either order of the sections: now and then between any two, or often from each
-    stop to the next, where a margin leaves out rides."""
+    stop to the next, where a margin leaves out rides and a gate time loses some."""
     draw = random.Random(seed)
     tables = [drawn_table(draw) for _ in range(draw.randint(1, 5))]
     ways, last, longest = draw.choice([(ANY_TWO, 3000, 200), (ALONG, 400, 20)])
@@ -57,9 +57,9 @@ def drawn(seed):
     for trip, departure in enumerate(sorted(draw.randint(0, last) for _ in range(draw.randint(1, 300)))):
         rows.append((*draw.choice(ways), departure, departure + draw.randint(1, longest), trip, draw.randrange(len(tables))))
     source, target = draw.choice(ANY_TWO) if ways is ANY_TWO else (0, 4)
-    margin = draw.choice([None, 1, 100, 2560, 2561])
+    margin, gate = draw.choice([None, 1, 100, 2560, 2561]), draw.choice([None, None, 0, 1, 7, 30, 31])
     file = sailing_file(rows, tables, 5, rows_first=draw.random() < 0.5)
-    return file, query_bytes(source, target, draw.randint(0, last // 3), draw.choice([0, 4, 5, 9, 16]), margin)
+    return file, query_bytes(source, target, draw.randint(0, last // 3), draw.choice([0, 4, 5, 9, 16]), margin, gate)
 
 
 def printed_sheet(runner, sheet, folder):

@@ -54,8 +54,23 @@ def text(seed):
         name = f" name q{number}" if queries > 1 or chance.random() < 0.5 else ""
         begin = chance.choice((max(start - 30, 0), chance.randrange(start, end)))
         margin = chance.choice(("", "", " margin 1", " margin 100", " margin 256", " margin 2560"))
-        lines.append(f"query{name} {called[source]} {called[target]} {clock(begin)} bound {chance.choice((0, 0, 4, 6, 16))}{margin}")
+        gate = chance.choice(("", "", "", " gate 0", " gate 1", " gate 5", " gate 30"))
+        lines.append(f"query{name} {called[source]} {called[target]} {clock(begin)} bound {chance.choice((0, 0, 4, 6, 16))}{margin}{gate}")
     return "\n".join(lines) + "\n"
+
+
+def gate_between_text():
+    """Two landings at one pier, at 10:00 and 10:07, and a boat at 10:10 that only the first gets: its gate closes at 10:05."""
+    return """stops 4
+class 2048 0 0 0 0 2048
+class 4096
+sail 0 1 d1 09:00 09:30 trip a class 0
+sail 1 2 d1 09:35 10:00 trip b class 1
+sail 1 2 d1 09:42 10:07 trip c class 1
+sail 2 3 d1 10:10 10:30 trip d class 1
+sail 2 3 d1 10:40 11:00 trip e class 1
+query 0 3 d1 08:55 gate 5
+"""
 
 
 def long_text():

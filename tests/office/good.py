@@ -115,6 +115,17 @@ def margin_cases():
     yield "margin on one of two", text.replace("bound 16", "margin 256 bound 16"), {**wanted, "Two_2/query": short}
 
 
+def gate_cases():
+    """W with a gate time: none and the most there is, with a margin and without one, which is then 1, anywhere on the line."""
+    for words, gate, margin in (("gate 0", 0, 1), ("bound 0 gate 30", 30, 1), ("gate 05 margin 256", 5, 256), ("margin 1 gate 1", 1, 1)):
+        yield words, W_TEXT.replace("bound 0", words), {**W, "query": writer.query_bytes(margin=margin, gate=gate)}
+    yield "gate first", W_TEXT.replace("query", "query gate 7"), {**W, "query": writer.query_bytes(gate=7)}
+    text, wanted = several_case()
+    yield "gate on one of two", text.replace("bound 16", "gate 29 bound 16"), {**wanted, "Two_2/query": writer.query_bytes(2, 0, 1445, 16, gate=29)}
+    named = W_TEXT.replace("stops 3", 'stop "gate"\nstop gates\nstop 2').replace("query 0", 'query "gate" gate 3')
+    yield "stops called gate", named, {**W, "query": writer.query_bytes(gate=3), "names": b'stop "gate"\nstop "gates"\nstop 2\n'}
+
+
 def quoted_case():
     """Names that are numbers, times or the form's own words, in quotes; stops that go by their numbers among others."""
     text = """stops 4
@@ -199,7 +210,7 @@ def cases():
                                  "quoted": quoted_case(), "trips": trips_case(),
                                  "widest": widest_case()}.items():
         yield what, text.encode(), wanted
-    for what, text, wanted in margin_cases():
+    for what, text, wanted in (*margin_cases(), *gate_cases()):
         yield what, text.encode(), wanted
     for pair in PAIRS:
         text = f"stops 2\nclass h house {pair[0]} {pair[1]}\nquery 0 1 d1 00:00"

@@ -1,7 +1,7 @@
 """The pages of `office page`, read back: rides, times, choices after every landing minute, and the drawing's places.
 
-What must be there is worked out from the packed bytes and the sheet alone, by document 01's rule: take the plan's first ride that leaves the
-landing stop no earlier.
+What must be there is worked out from the packed bytes and the sheet alone, by the rule of documents 01 and 02: take the plan's first ride
+that leaves the landing stop no earlier than the gate time behind the landing.
 """
 import pathlib
 import re
@@ -21,7 +21,11 @@ BOAT = rf"(?P<departure>{TIME})(?: \((?P<trip>.+?)\))?"
 TAKE = rf"take the {BOAT} to (?P<land>.+)"
 DUE = rf"due (?P<arrival>{TIME})(?:, at the latest (?P<latest>{TIME}))?\."
 CHOICE = re.compile(rf"{WHEN} {TAKE}, {DUE} (?:Go on at (?P<go>\d+)|There you are\.) (?P<target>.+) expected (?P<expected>{TIME})")
-FIRST = re.compile(rf"Board first: the {BOAT} from (?P<board>.+) to (?P<land>.+), {DUE} (?:Go on at (?P<go>\d+)|There you are\.)")
+GATE = rf"(?:Be at the gate by (?P<gate>{TIME})\. )?"
+FIRST = re.compile(rf"Board first: the {BOAT} from (?P<board>.+) to (?P<land>.+), {DUE} {GATE}(?:Go on at (?P<go>\d+)|There you are\.)")
+EARLY = re.compile(r"Gates close (\d+ minutes?) before departure\.")
+YOURS = re.compile(r"A boat that leaves (?:in that very minute|(\d+ minutes?) later) is still yours")
+KEY = re.compile(r"it is cut where a boat(?: leaves,|'s gate closes,.*? its gate, which closes (\d+ minutes?) before\.)")
 LEFT_OUT = re.compile(
     r"Rides that gain less than (?:(?P<ticks>\d+) ticks \(under )?(?:(?P<minutes>\d+) minutes? ?)?(?:(?P<seconds>\d+) seconds?)?\)? on the next from "
     r"their stop are left out\.")
@@ -66,6 +70,14 @@ def sheet_rides(sheet, rows, delays):
         yield Ride(board, departs, land, arrives, minute(expected), arrives + delays[kinds[0]], trips[0])
 
 
+def gate_in(folder):
+    return int.from_bytes((folder / "query").read_bytes()[10:], "little")
+
+
+def minutes(gate):
+    return f"{gate} minute{'' if gate == 1 else 's'}"
+
+
 def words_of(element):
     return " ".join("".join(element.itertext()).split())
 
@@ -81,7 +93,8 @@ class Plan:
         rows, delays = file_rows((folder / "sailings").read_bytes())
         asked = (folder / "query").read_bytes()
         self.source, self.target, self.asked, _ = struct.unpack("<4H", asked[:8])
-        self.margin = int.from_bytes(asked[8:], "little") or 1
+        self.margin = int.from_bytes(asked[8:10], "little") or 1
+        self.gate = gate_in(folder)
         self.head = (folder / "sheet").read_text().splitlines()[0]
         self.rides = list(sheet_rides((folder / "sheet").read_text(), rows, delays))
         self.rides_from = {stop: sorted(ride for ride in self.rides if ride.board == stop) for stop in {ride.board for ride in self.rides}}
@@ -100,8 +113,8 @@ class Plan:
         return minute(text, self.day)
 
     def taken(self, stop, landed):
-        """Document 01: the first ride that leaves the stop no earlier."""
-        return next(ride for ride in self.rides_from[stop] if ride.departure >= landed)
+        """The first ride that leaves the stop no earlier than the gate time behind the landing."""
+        return next(ride for ride in self.rides_from[stop] if landed + self.gate <= ride.departure)
 
 
 class Landing:
@@ -144,7 +157,8 @@ def check_landings(plan):
             choice, next_ride = here[0].choice(plan, landed), plan.taken(ride.land, landed)
             demand(here[0].first <= landed <= here[0].last, f"minute {landed} in {here[0].stop}")
             check_ride(plan, choice, next_ride)
-            demand(choice["limit"] in (None, choice["departure"]) and choice["target"] == plan.name(plan.target), choice[0])
+            demand(choice["limit"] is None or plan.minute(choice["limit"]) + plan.gate == next_ride.departure, f"the limit of {choice[0]}")
+            demand(choice["target"] == plan.name(plan.target), choice[0])
             demand(plan.minute(choice["expected"]) == next_ride.expected, f"the expected arrival of {next_ride}")
             told.setdefault(next_ride, set()).add(choice["go"])
             made.add(choice)
@@ -159,6 +173,7 @@ def check_landings(plan):
 def check_times(plan):
     """Every time outside the drawing is one of the sheet, of a window or of the query."""
     known = {plan.asked, *(value for ride in plan.rides for value in (ride.departure, ride.arrival, ride.last, ride.expected))}
+    known |= {ride.departure - plan.gate for ride in plan.rides}
     expected, latest = (minute(text) for text in re.findall(r"d\d \d\d:\d\d", plan.head))
     boxes = [plan.minute(words_of(time)) for time in with_class(with_class(plan.page, "arrivals")[0], "time")]
     demand(boxes == [expected, latest] and latest == max(ride.last for ride in plan.rides), "expected and latest arrival")
@@ -181,6 +196,19 @@ def check_margin(plan):
     for rides in plan.rides_from.values():
         for ride, later in zip(rides, rides[1:]):
             demand(later.expected - ride.expected >= plan.margin // 256, f"a gain of {ride} on {later}")
+
+
+def check_gate(plan):
+    """How early gates close, wherever the page says it, and by when one is at the first."""
+    text = words_of(plan.page)
+    told = [*EARLY.findall(text), *YOURS.findall(text), *KEY.findall(text)]
+    drawn = sum(element.tag.endswith("}svg") for element in plan.page.iter())
+    landings = bool(with_class(plan.page, "landing", "section"))
+    demand(len(told) == bool(plan.gate) + landings + drawn, f"words on gates, not {told}")
+    demand(set(told) <= {minutes(plan.gate) if plan.gate else ""}, f"a gate time of {plan.gate} in {told}")
+    first = FIRST.fullmatch(words_of(with_class(plan.page, "first")[0]))
+    demand((first["gate"] is not None) == (plan.gate > 0), "when to be at the first gate")
+    demand(not plan.gate or plan.asked <= plan.minute(first["gate"]) == plan.rides[0].departure - plan.gate, f"the gate in {first[0]}")
 
 
 def without_drawings(element):
@@ -215,6 +243,7 @@ def check_drawings(plan):
         for end, y in ("from", "y1"), ("to", "y2"):
             demand(len({(line.get(f"data-{end}"), line.get(y)) for line in lines}) == len({line.get(f"data-{end}") for line in lines}), "a row a stop")
         covered |= check_bars(plan, scale, drawing, here)
+        check_gates(plan, scale, drawing, here)
         inside(drawing)
         check_names(drawing)
         drawn += here
@@ -253,6 +282,17 @@ def check_bars(plan, scale, drawing, here):
     return set(minutes)
 
 
+def check_gates(plan, scale, drawing, here):
+    """Each ride of a drawing has its gate, the gate time ahead of the departure by the hours drawn; no ride has one without a gate time."""
+    gates = with_class(drawing, "gate")
+    for gate in gates:
+        stop, departure, closes = numbers(gate, "from", "departure", "closes")
+        demand(closes + plan.gate == departure and gate.get("x1") == gate.get("x2"), f"the gate of {departure} from {stop}")
+        demand(scale.holds(closes, gate.get("x1")), f"the place of the gate of {departure} from {stop}")
+    wanted = [(ride.board, ride.departure) for ride in here] if plan.gate else []
+    demand(sorted(numbers(gate, "from", "departure") for gate in gates) == sorted(wanted), "a gate for each ride")
+
+
 def check_names(drawing):
     """No ride's time of departure stands at another ride's dot."""
     dots = [(float(dot.get("cx")), float(dot.get("cy"))) for dot in drawing.iter() if dot.tag.endswith("circle")]
@@ -289,7 +329,8 @@ def check_index(folder, queries):
     links = [link.get("href") for link in page.iter("a")]
     demand(sorted(links) == sorted((query / "page.html").relative_to(folder).as_posix() for query in queries), "a link for each query")
     for link, entry in zip(links, page.iter("li")):
-        sheet = (folder / link).with_name("sheet").read_text()
+        sheet, gate = (folder / link).with_name("sheet").read_text(), gate_in((folder / link).parent)
+        demand(words_of(entry.find("h2")).endswith(f", gate {gate}") if gate else ", gate " not in words_of(entry), f"the gate time of {link}")
         times = re.findall(r"d\d \d\d:\d\d", words_of(entry.find("p")))
         demand(times == re.findall(r"d\d \d\d:\d\d", sheet.splitlines()[0]), f"the arrivals of {link}")
 
@@ -299,6 +340,8 @@ def check_refused(query):
     check_self_contained(text)
     words = words_of(ElementTree.fromstring(text.split("\n", 1)[1]))
     demand("There is no safe journey." in words and "refusal 8" in words and "Board first" not in words, "a refusal's page")
+    gate, told = gate_in(query), re.findall(r"with gates that close (.+?) before departure", words)
+    demand(told == ([minutes(gate)] if gate else []), f"a gate time of {gate} in a refusal's page")
 
 
 def check_text(path, folder):
@@ -315,6 +358,7 @@ def check_text(path, folder):
         check_landings(plan)
         check_times(plan)
         check_margin(plan)
+        check_gate(plan)
         check_drawings(plan)
         check_self_contained((query / "page.html").read_text())
         plans += 1
@@ -338,6 +382,7 @@ def check_long(path, folder):
 def texts():
     for example in ("w", "islands", "week"):
         yield example, (ROOT / "examples" / f"{example}.txt").read_text()
+    yield "a gate between two landings", generated.gate_between_text()
     for seed in range(TEXTS):
         yield f"text {seed}", generated.text(seed)
 
@@ -357,7 +402,7 @@ def main():
     if plans < 200 or refusals < 10:
         failures.append(f"only {plans} plans and {refusals} refusals were tried")
     print(f"pages of {plans} plans and {refusals} refusals")
-    finish("pages", TEXTS + 4, failures)
+    finish("pages", TEXTS + 5, failures)
 
 
 main()

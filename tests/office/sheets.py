@@ -58,6 +58,55 @@ Board at  departs   Land at  due       expected
 stop 0    d1 10:00  stop 1   d1 10:30  d1 11:01
 stop 1    d1 10:50  stop 2   d1 11:01  d1 11:01
 """
+# whoever lands at 10:30 gets the 10:32 until its gate closes three minutes before; all who land by 10:40 get the 10:50 until ten
+GATES = W.replace("stops 3", "stop Harbour\nstop Isle\nstop Lighthouse").replace(
+    "query 0 2 d1 09:50 bound 0",
+    "\n".join(f"query name {name} 0 2 d1 09:50 gate {words}" for name, words in (
+        ("open", "0"), ("one", "1"), ("caught", "2"), ("missed", "3 margin 256"), ("last", "10 bound 4"), ("late", "11"))))
+GATES_PRINTED = """open: Harbour to Lighthouse, from d1 09:50
+expected d1 11:15, latest d1 11:30, 3 rides
+Board at  departs   Land at     due       expected
+Harbour   d1 10:00  Isle        d1 10:30  d1 11:15
+Isle      d1 10:32  Lighthouse  d1 11:00  d1 11:00
+Isle      d1 10:50  Lighthouse  d1 11:30  d1 11:30
+
+one: Harbour to Lighthouse, from d1 09:50, gate 1
+expected d1 11:15, latest d1 11:30, 3 rides
+Gates close 1 minute before departure.
+Board at  departs   Land at     due       expected
+Harbour   d1 10:00  Isle        d1 10:30  d1 11:15
+Isle      d1 10:32  Lighthouse  d1 11:00  d1 11:00
+Isle      d1 10:50  Lighthouse  d1 11:30  d1 11:30
+
+caught: Harbour to Lighthouse, from d1 09:50, gate 2
+expected d1 11:15, latest d1 11:30, 3 rides
+Gates close 2 minutes before departure.
+Board at  departs   Land at     due       expected
+Harbour   d1 10:00  Isle        d1 10:30  d1 11:15
+Isle      d1 10:32  Lighthouse  d1 11:00  d1 11:00
+Isle      d1 10:50  Lighthouse  d1 11:30  d1 11:30
+
+missed: Harbour to Lighthouse, from d1 09:50, margin 256, gate 3
+expected d1 11:30, latest d1 11:30, 2 rides
+Gates close 3 minutes before departure.
+Rides that gain less than 1 minute on the next from their stop are left out.
+Board at  departs   Land at     due       expected
+Harbour   d1 10:00  Isle        d1 10:30  d1 11:30
+Isle      d1 10:50  Lighthouse  d1 11:30  d1 11:30
+
+last: Harbour to Lighthouse, from d1 09:50, bound 4, gate 10
+expected d1 11:30, latest d1 11:30, 2 rides
+Gates close 10 minutes before departure.
+Board at  departs   Land at     due       expected
+Harbour   d1 10:00  Isle        d1 10:30  d1 11:30
+Isle      d1 10:50  Lighthouse  d1 11:30  d1 11:30
+
+late: Harbour to Lighthouse, from d1 09:50, gate 11
+refused 8
+{reason}stop 0 is Harbour
+stop 1 is Isle
+stop 2 is Lighthouse
+"""
 # the partner's ids: a stop and a trip that go by their numbers, and a trip that no boat makes
 IDS = W.replace("stops 3", 'stop "4101"\nstop 1\nstop "LH"\ntrip "12-0630"\ntrip 1\ntrip "none"\ntrip "N 1"')
 IDS_PRINTED = """4101 to LH, from d1 09:50
@@ -145,10 +194,26 @@ def wrong_programs():
     yield "words for a refusal", SHEET, "refused 8\n", "", "explain tells of 0"
 
 
-def refusing_failure(command, what, place, word):
+def gate_failures():
+    """W's sheet, whatever is asked: it is taken where one still gets the first boat, and the last one onward, in the minute in which its
+    gate closes, and not a minute later."""
+    with room() as place, unittest.mock.patch("platform.machine", lambda: "x86_64"):
+        program(pathlib.Path(place, "sheet"), SHEET)
+        program(pathlib.Path(place, "explain"), program_words("explain", ROOT / "examples" / "w").decode())
+        for start, gate, word in (("09:58", 2, ""), ("09:59", 2, "first line"), ("09:40", 10, ""), ("09:40", 11, "to be had at stop 1 at d1 10:40")):
+            text = W.replace("d1 09:50 bound 0", f"d1 {start} gate {gate}")
+            if word:
+                yield from (refusing_failure(command, f"gate {gate} at {start}", place, word, text) for command in ("sheets", "page"))
+                continue
+            with room() as folder:
+                found = called("page", lay(folder, text), f"{folder}/made", "--programs", place)
+            yield None if found == (0, "", "") else f"gate {gate} at {start}: {found}"
+
+
+def refusing_failure(command, what, place, word, text=W):
     """With these programs a command ends with one message, and leaves nothing."""
     with room() as folder, unittest.mock.patch("platform.machine", lambda: "x86_64"):  # stand-ins run everywhere
-        status, out, err = called(command, lay(folder, W), f"{folder}/made", "--programs", place)
+        status, out, err = called(command, lay(folder, text), f"{folder}/made", "--programs", place)
         left = sorted(path.name for path in pathlib.Path(folder).iterdir())
     if (status, out, left) == (1, "", ["text"]) and err.count("\n") == 1 and word in err:
         return None
@@ -214,10 +279,11 @@ def stale_failures():
 def main():
     failures = [printed_failure("W", W, W_PRINTED, 0), printed_failure("two queries", TWO, TWO_PRINTED, 1)]
     failures.append(printed_failure("margins", MARGINS, MARGINS_PRINTED, 0))
+    failures.append(printed_failure("gates", GATES, GATES_PRINTED, 1))
     failures.append(printed_failure("ids", IDS, IDS_PRINTED, 0))
     failures += [written_failure(name, (ROOT / "examples" / f"{name}.txt").read_text()) for name in ("w", "islands", "week", "partner")]
     failures += [written_failure(f"text {seed}", generated.text(seed)) for seed in range(40)]
-    failures += [*programs_failures(), *placed_failures(), *stale_failures()]
+    failures += [*programs_failures(), *gate_failures(), *placed_failures(), *stale_failures()]
     finish("sheets", len(failures), [failure for failure in failures if failure])
 
 

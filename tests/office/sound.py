@@ -62,12 +62,13 @@ def of_sailings(data):
 
 
 def of_query(query, stops):
-    if len(query) != 8 and len(query) != 10:
+    if len(query) != 8 and len(query) != 10 and len(query) != 12:
         return 6
     source, target, minute, code = (u16(query, PAIR * place) for place in range(4))
-    margin = u16(query, 8) if len(query) == 10 else 1
-    known = source < stops and target < stops and source != target
-    return 0 if known and minute <= 10079 and (code == 0 or 4 <= code <= 16) and 1 <= margin <= 2560 else 6
+    margin = u16(query, 8) if len(query) > 8 else 1
+    gate = u16(query, 10) if len(query) > 10 else 0
+    known = source < stops and target < stops and source != target and minute <= 10079
+    return 0 if known and (code == 0 or 4 <= code <= 16) and 1 <= margin <= 2560 and gate <= 30 else 6
 
 
 def refusal(sailings, query):

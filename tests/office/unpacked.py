@@ -61,8 +61,8 @@ def chance_files(chance):
     tables = [chance_table(chance) for _ in range(classes)]
     rows = chance_rows(chance, stops, classes, chance.choice((0, 1, 5, 40)))
     source, target = chance.sample(range(stops), 2)
-    margin = chance.choice((None, None, 1, 256, 2560))
-    query = writer.query_bytes(source, target, chance.choice((0, 590, 10079)), chance.choice((0, 4, 9, 16)), margin)
+    margin, gate = chance.choice((None, None, 1, 256, 2560)), chance.choice((None, None, 0, 1, 30))
+    query = writer.query_bytes(source, target, chance.choice((0, 590, 10079)), chance.choice((0, 4, 9, 16)), margin, gate)
     names = ""
     if chance.random() < 0.7:
         names += name_lines(chance, "stop", chance.choice((0, 1, stops)))
@@ -106,7 +106,7 @@ def hurt(chance, data):
     if kind == 2:
         return data[:at] + bytes([data[at] ^ 1 << chance.randrange(8)]) + data[at + 1:]
     if kind == 3:
-        return data[:at // 2 * 2] + chance.choice((0, 1, 121, 200, 2000, 2561, 10080)).to_bytes(2, "little") + data[at // 2 * 2 + 2:]
+        return data[:at // 2 * 2] + chance.choice((0, 1, 31, 121, 200, 2000, 2561, 10080)).to_bytes(2, "little") + data[at // 2 * 2 + 2:]
     if kind == 4:
         return data[:at] + data[at + chance.choice((1, 2, 12)):]
     if kind == 5:
@@ -142,13 +142,16 @@ QUERY = writer.query_bytes()
 QUERIES = (
     (QUERY, " bound 0\n"), (QUERY + b"\1\0", " bound 0 margin 1\n"), (QUERY + b"\0\x0a", " bound 0 margin 2560\n"),
     (QUERY + b"\0\0", "margin 0 is not 1 to 2560 ticks"), (QUERY + b"\1\x0a", "margin 2561 is not"), (QUERY + b"\xff\xff", "margin 65535 is not"),
-    (writer.query_bytes(code=3, margin=0), "bound code 3 is not"), (b"", "it has 0 bytes, neither 8 nor 10"), (QUERY[:7], "it has 7 bytes"),
-    (QUERY + b"\1", "it has 9 bytes"), (QUERY + b"\1\0\0", "it has 11 bytes"), (QUERY + b"\1\0\0\0", "it has 12 bytes"),
+    (QUERY + b"\1\0\0\0", " bound 0 margin 1 gate 0\n"), (QUERY + b"\2\0\x1e\0", " bound 0 margin 2 gate 30\n"),
+    (QUERY + b"\1\0\x1f\0", "gate time 31 is not 0 to 30 minutes"), (QUERY + b"\1\0\xff\xff", "gate time 65535 is not"),
+    (QUERY + b"\0\0\x1f\0", "margin 0 is not"), (writer.query_bytes(code=3, margin=0), "bound code 3 is not"),
+    (b"", "it has 0 bytes, not 8, 10 or 12"), (QUERY[:7], "it has 7 bytes"), (QUERY + b"\1", "it has 9 bytes"),
+    (QUERY + b"\1\0\0", "it has 11 bytes"), (QUERY + b"\1\0\0\0\0", "it has 13 bytes"), (QUERY + b"\1\0\0\0\0\0", "it has 14 bytes"),
 )
 
 
 def query_failure(folder, query, piece):
-    """W's query with a margin or another length: how its line ends in the text, or why it is refused."""
+    """W's query with a margin, a gate time or another length: how its line ends in the text, or why it is refused."""
     lay(f"{folder}/old", {"sailings": writer.sailing_file(), "query": query})
     status, out, err = called("unpack", f"{folder}/old")
     fine = out.endswith(piece) and not err if status == 0 else not out and f"refused 6: {piece}" in err
