@@ -125,23 +125,23 @@ pub fn check(file: &[u8], trips: Trips) -> Result<Sailings, Refusal> {
 }
 
 fn earliest_arrival(s: &Sailings, rows: &[Row], q: Query) -> Option<u32> {
-    let mut ready = vec![u32::MAX; s.stops];
+    let mut there = vec![u32::MAX; s.stops];
     let mut aboard = vec![false; 2000];
-    let target = q.target as usize;
-    ready[q.source as usize] = q.minute;
+    let (target, gate) = (q.target as usize, q.gate_time());
+    there[q.source as usize] = q.minute;
     for row in rows {
-        if ready[target] <= row.departure as u32 {
+        if there[target] <= row.departure as u32 {
             break;
         }
         let trip = &mut aboard[row.trip as usize];
-        if *trip || ready[row.board as usize] <= row.departure as u32 {
+        if *trip || there[row.board as usize].saturating_add(gate) <= row.departure as u32 {
             *trip = true;
             let landing = row.arrival as u32 + s.tables[row.class as usize].longest;
-            let land = &mut ready[row.land as usize];
+            let land = &mut there[row.land as usize];
             *land = landing.min(*land);
         }
     }
-    (ready[target] != u32::MAX).then_some(ready[target])
+    (there[target] != u32::MAX).then_some(there[target])
 }
 
 #[derive(Clone, Copy)]
@@ -156,18 +156,18 @@ fn first_caught(stack: &[Chosen], minute: u32) -> usize {
     stack.partition_point(|c| minute <= c.departure)
 }
 
-fn change_worth(stack: &[Chosen], arrival: u32, table: &Table) -> Option<u32> {
-    let landing = arrival + table.longest;
-    if stack.first()?.departure < landing {
+fn change_worth(stack: &[Chosen], soon: u32, table: &Table) -> Option<u32> {
+    let last = soon + table.longest;
+    if stack.first()?.departure < last {
         return None;
     }
     let (mut sum, mut done) = (0u64, 0u32);
-    for c in stack[..first_caught(stack, arrival)].iter().rev() {
-        if c.departure >= landing {
+    for c in stack[..first_caught(stack, soon)].iter().rev() {
+        if c.departure >= last {
             sum += (4096 - done) as u64 * c.worth as u64;
             break;
         }
-        let share = table.cumulative[(c.departure - arrival) as usize];
+        let share = table.cumulative[(c.departure - soon) as usize];
         sum += (share - done) as u64 * c.worth as u64;
         done = share;
     }
@@ -186,11 +186,11 @@ pub fn plan(file: &[u8], q: Query) -> Result<Planned, Refusal> {
     let (source, target) = (q.source as usize, q.target as usize);
     let code_fits = q.code == 0 || (4..=16).contains(&q.code);
     let margin = q.ticks_to_gain();
-    let margin_fits = (1..=2_560).contains(&margin);
-    if source >= s.stops || target >= s.stops || source == target || q.minute > 10_079 || !code_fits || !margin_fits {
+    let behind_fits = (1..=2_560).contains(&margin) && q.gate_time() <= 30;
+    if source >= s.stops || target >= s.stops || source == target || q.minute > 10_079 || !code_fits || !behind_fits {
         return Err((6, 0));
     }
-    let first = s.rows.partition_point(|r| (r.departure as u32) < q.minute);
+    let first = s.rows.partition_point(|r| (r.departure as u32) < q.ready(q.minute));
     let e = earliest_arrival(&s, &s.rows[first..], q).ok_or((8, 0))?;
     let bound = if q.code == 0 { 0 } else { q.minute + q.code * (e - q.minute) / 4 };
     let end = match bound {
@@ -207,7 +207,7 @@ pub fn plan(file: &[u8], q: Query) -> Result<Planned, Refusal> {
         let off = if row.land as usize == target {
             (bound == 0 || arrival + table.longest <= bound).then(|| 256 * arrival + table.expected)
         } else {
-            change_worth(&stacks[row.land as usize], arrival, table)
+            change_worth(&stacks[row.land as usize], q.ready(arrival), table)
         };
         let on = worths.get(next[row.trip as usize] as usize).copied().unwrap_or((u32::MAX, 0));
         let best = match off {
@@ -244,9 +244,9 @@ pub fn plan(file: &[u8], q: Query) -> Result<Planned, Refusal> {
         latest = latest.max(landing);
         if row.land as usize != target {
             let stack = &stacks[row.land as usize];
-            for c in stack[..first_caught(stack, arrival)].iter().rev() {
+            for c in stack[..first_caught(stack, q.ready(arrival))].iter().rev() {
                 wanted[c.row as usize] = true;
-                if c.departure >= landing {
+                if c.departure >= q.ready(landing) {
                     break;
                 }
             }

@@ -7,6 +7,8 @@ use crate::{baseline, definitions};
 const DIRT: u32 = 0xdead_beef;
 
 // None, and both sides of the range.
+const GATES: [Option<u32>; 9] = [None, None, None, Some(0), Some(1), Some(3), Some(8), Some(30), Some(31)];
+
 const MARGINS: [Option<u32>; 9] = [None, None, Some(0), Some(1), Some(2), Some(40), Some(256), Some(2_560), Some(2_561)];
 
 // Few trips most of the time; now and then many, so that lists of chosen rows grow long.
@@ -53,7 +55,8 @@ fn judged(t: &Timetable, q: Query) -> Answer {
         && q.source != q.target
         && q.minute <= 10_079
         && (q.code == 0 || (4..=16).contains(&q.code))
-        && (1..=2_560).contains(&q.ticks_to_gain());
+        && (1..=2_560).contains(&q.ticks_to_gain())
+        && q.gate_time() <= 30;
     if !in_range {
         return Answer::Refused { number: 6, place: 0 };
     }
@@ -90,6 +93,7 @@ pub fn compare(files: u64, seed: u64) -> (u64, u64) {
                 minute: dice.from(0, 60) as u32,
                 code: [0, 0, 4, 5, 7, 16, 3, 17][dice.from(0, 8) as usize],
                 margin: MARGINS[dice.from(0, 9) as usize],
+                gate: GATES[dice.from(0, 9) as usize],
             };
             let n = t.rows.len();
             let room = 4 * n + 2500;

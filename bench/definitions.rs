@@ -32,28 +32,32 @@ fn first_open(rides: &[Valued], stop: u16, minute: u64) -> Option<&Valued> {
     rides.iter().find(|v| v.ride.boards(stop, minute))
 }
 
+fn ready(q: Query, minute: u64) -> u64 {
+    minute + q.gate_time() as u64
+}
+
 fn up(d: u64, n: u64) -> u64 {
     (n + d - 1) / d
 }
 
-fn in_ticks(target: u16, bound: u64, r: &Ride, behind: &[Valued]) -> Option<u64> {
+fn in_ticks(q: Query, bound: u64, r: &Ride, behind: &[Valued]) -> Option<u64> {
     let shares = || r.shares.iter().enumerate().map(|(v, p)| (v as u64, *p as u64));
-    if r.to == target {
+    if r.to == q.target as u16 {
         if bound != 0 && r.latest() > bound {
             return None;
         }
         return Some(256 * r.arrives + up(16, shares().map(|(v, p)| v * p).sum()));
     }
-    first_open(behind, r.to, r.latest())?;
-    let caught = |m| first_open(behind, r.to, m).map_or(0, |v| v.worth);
+    first_open(behind, r.to, ready(q, r.latest()))?;
+    let caught = |m| first_open(behind, r.to, ready(q, m)).map_or(0, |v| v.worth);
     Some(up(4096, shares().map(|(v, p)| p * caught(r.arrives + v)).sum()))
 }
 
-fn in_minutes(target: u16, r: &Ride, behind: &[Valued]) -> Option<u64> {
-    if r.to == target {
+fn in_minutes(q: Query, r: &Ride, behind: &[Valued]) -> Option<u64> {
+    if r.to == q.target as u16 {
         return Some(r.latest());
     }
-    first_open(behind, r.to, r.latest()).map(|v| v.worth)
+    first_open(behind, r.to, ready(q, r.latest())).map(|v| v.worth)
 }
 
 fn chosen(t: &Timetable, target: u16, margin: u64, off: &dyn Fn(&Ride, &[Valued]) -> Option<u64>) -> Vec<Valued> {
@@ -94,8 +98,8 @@ fn chosen(t: &Timetable, target: u16, margin: u64, off: &dyn Fn(&Ride, &[Valued]
 
 pub fn earliest(t: &Timetable, q: Query) -> Option<u32> {
     let target = q.target as u16;
-    let rides = chosen(t, target, 1, &|r, behind| in_minutes(target, r, behind));
-    first_open(&rides, q.source as u16, q.minute as u64).map(|v| v.worth as u32)
+    let rides = chosen(t, target, 1, &|r, behind| in_minutes(q, r, behind));
+    first_open(&rides, q.source as u16, ready(q, q.minute as u64)).map(|v| v.worth as u32)
 }
 
 pub fn planned(t: &Timetable, q: Query) -> Answer {
@@ -103,9 +107,10 @@ pub fn planned(t: &Timetable, q: Query) -> Answer {
     let target = q.target as u16;
     let Some(end) = earliest(t, q) else { return refused };
     let bound = if q.code == 0 { 0 } else { q.minute + q.code * (end - q.minute) / 4 };
-    let all = chosen(t, target, q.ticks_to_gain() as u64, &|r, behind| in_ticks(target, bound as u64, r, behind));
-    let Some(first) = first_open(&all, q.source as u16, q.minute as u64) else { return refused };
-    let mut windows = vec![(q.source as u16, q.minute as u64, first.ride.departs)];
+    let all = chosen(t, target, q.ticks_to_gain() as u64, &|r, behind| in_ticks(q, bound as u64, r, behind));
+    let start = ready(q, q.minute as u64);
+    let Some(first) = first_open(&all, q.source as u16, start) else { return refused };
+    let mut windows = vec![(q.source as u16, start, first.ride.departs)];
     let mut rides = Vec::new();
     let mut latest = 0;
     for (i, v) in all.iter().enumerate() {
@@ -116,8 +121,8 @@ pub fn planned(t: &Timetable, q: Query) -> Answer {
         rides.push([r.board as u32, r.leave as u32, v.worth as u32]);
         latest = latest.max(r.latest() as u32);
         if r.to != target {
-            if let Some(safe) = first_open(&all[i + 1..], r.to, r.latest()) {
-                windows.push((r.to, r.arrives, safe.ride.departs));
+            if let Some(safe) = first_open(&all[i + 1..], r.to, ready(q, r.latest())) {
+                windows.push((r.to, ready(q, r.arrives), safe.ride.departs));
             }
         }
     }

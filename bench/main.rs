@@ -135,6 +135,8 @@ fn main() {
     plan_shapes("plan, microseconds a query", &shapes);
     let with_margin: Vec<_> = shapes.into_iter().map(|s| s.with_margin(256)).collect();
     plan_shapes("with margin 256", &with_margin);
+    let with_gate: Vec<_> = chosen(shapes::all()).into_iter().map(|s| s.with_gate(5)).collect();
+    plan_shapes("with gate time 5", &with_gate);
     let earlier = earlier(verified::before());
     println!("{:32} {:>8} {:>8} {:>6} {:>8} {:>6}{earlier}", "check, microseconds", "ours", "looks", "ratio", "table", "ratio");
     chosen(shapes::checks()).iter().for_each(check_shape);

@@ -25,11 +25,22 @@ pub struct Query {
     pub code: u32,
     // none for the call that has no margin, which means 1
     pub margin: Option<u32>,
+    // none for the calls that have no gate time, which means 0
+    pub gate: Option<u32>,
 }
 
 impl Query {
     pub fn ticks_to_gain(&self) -> u32 {
         self.margin.unwrap_or(1)
+    }
+
+    pub fn gate_time(&self) -> u32 {
+        self.gate.unwrap_or(0)
+    }
+
+    // When one who is at a stop from a minute on is ready to board there.
+    pub fn ready(&self, minute: u32) -> u32 {
+        minute + self.gate_time()
     }
 }
 

@@ -8,7 +8,7 @@ pub struct Shape {
 }
 
 fn ask(source: u32, target: u32, minute: u32, code: u32) -> Query {
-    Query { source, target, minute, code, margin: None }
+    Query { source, target, minute, code, margin: None, gate: None }
 }
 
 fn shape(name: &'static str, stops: u16, mut rows: Vec<Row>, tables: Vec<Vec<u16>>, queries: Vec<Query>) -> Shape {
@@ -177,6 +177,14 @@ fn no_journey() -> Shape {
 }
 
 impl Shape {
+    // The same file and queries, with a gate time.
+    pub fn with_gate(mut self, gate: u32) -> Shape {
+        for q in &mut self.queries {
+            q.gate = Some(gate);
+        }
+        self
+    }
+
     // The same file and queries, with a margin.
     pub fn with_margin(mut self, margin: u32) -> Shape {
         for q in &mut self.queries {

@@ -4,6 +4,8 @@ use crate::sailing::{Answer, Query};
 type Check = unsafe extern "C" fn(*const u8, usize, *mut u32, usize);
 type Plan = unsafe extern "C" fn(*const u8, usize, u32, u32, u32, u32, *mut u32, usize, *mut u32, usize, *mut u32, usize);
 type PlanMargin = unsafe extern "C" fn(*const u8, usize, u32, u32, u32, u32, u32, *mut u32, usize, *mut u32, usize, *mut u32, usize);
+type PlanGate = unsafe extern "C" fn(*const u8, usize, u32, u32, u32, u32, u32, u32, *mut u32, usize, *mut u32, usize, *mut u32, usize);
+type EarliestGate = unsafe extern "C" fn(*const u8, usize, u32, u32, u32, u32, *mut u32, usize, *mut u32, usize);
 type Earliest = unsafe extern "C" fn(*const u8, usize, u32, u32, u32, *mut u32, usize, *mut u32, usize);
 
 // The planner of one commit.
@@ -13,10 +15,18 @@ pub struct Planner {
     // none in commits before the margin
     plan_margin: Option<PlanMargin>,
     earliest: Earliest,
+    // none in commits before the gate time
+    gated: Option<Gated>,
+}
+
+// The calls that take a gate time.
+struct Gated {
+    plan: PlanGate,
+    earliest: EarliestGate,
 }
 
 macro_rules! planner {
-    ($name:ident, $check:ident, $plan:ident, $plan_margin:expr, $earliest:ident) => {
+    ($name:ident, $check:ident, $plan:ident, $plan_margin:expr, $earliest:ident, $gated:expr) => {
         extern "C" {
             fn $check(file: *const u8, file_len: usize, answer: *mut u32, answer_len: usize);
             fn $plan(
@@ -45,7 +55,7 @@ macro_rules! planner {
                 answer_len: usize,
             );
         }
-        pub static $name: Planner = Planner { check: $check, plan: $plan, plan_margin: $plan_margin, earliest: $earliest };
+        pub static $name: Planner = Planner { check: $check, plan: $plan, plan_margin: $plan_margin, earliest: $earliest, gated: $gated };
     };
 }
 
@@ -73,13 +83,60 @@ macro_rules! with_margin {
     }};
 }
 
-planner!(NOW, trial_check, trial_plan, with_margin!(trial_plan_margin), trial_earliest);
+// The calls with a gate time, of a commit that has them.
+macro_rules! with_gate {
+    ($plan_gate:ident, $earliest_gate:ident) => {{
+        extern "C" {
+            fn $plan_gate(
+                file: *const u8,
+                file_len: usize,
+                source: u32,
+                target: u32,
+                minute: u32,
+                code: u32,
+                margin: u32,
+                gate: u32,
+                work: *mut u32,
+                work_len: usize,
+                rides: *mut u32,
+                rides_len: usize,
+                answer: *mut u32,
+                answer_len: usize,
+            );
+            fn $earliest_gate(
+                file: *const u8,
+                file_len: usize,
+                source: u32,
+                target: u32,
+                minute: u32,
+                gate: u32,
+                work: *mut u32,
+                work_len: usize,
+                answer: *mut u32,
+                answer_len: usize,
+            );
+        }
+        Some(Gated { plan: $plan_gate, earliest: $earliest_gate })
+    }};
+}
+
+planner!(NOW, trial_check, trial_plan, with_margin!(trial_plan_margin), trial_earliest, with_gate!(trial_plan_gate, trial_earliest_gate));
 
 #[cfg(all(against, not(against_margin)))]
-planner!(BEFORE, before_check, before_plan, None, before_earliest);
+planner!(BEFORE, before_check, before_plan, None, before_earliest, None);
 
-#[cfg(against_margin)]
-planner!(BEFORE, before_check, before_plan, with_margin!(before_plan_margin), before_earliest);
+#[cfg(all(against_margin, not(against_gate)))]
+planner!(BEFORE, before_check, before_plan, with_margin!(before_plan_margin), before_earliest, None);
+
+#[cfg(against_gate)]
+planner!(
+    BEFORE,
+    before_check,
+    before_plan,
+    with_margin!(before_plan_margin),
+    before_earliest,
+    with_gate!(before_plan_gate, before_earliest_gate)
+);
 
 // The planner of the other commit, if one was given.
 pub fn before() -> Option<&'static Planner> {
@@ -98,15 +155,21 @@ impl Planner {
     }
 
     pub fn takes(&self, q: &Query) -> bool {
-        q.margin.is_none() || self.plan_margin.is_some()
+        (q.margin.is_none() || self.plan_margin.is_some()) && (q.gate.is_none() || self.gated.is_some())
     }
 
     // Number and place of the refusal, rides, expected ticks, latest minute and bound.
     pub fn plan(&self, file: &[u8], q: Query, work: &mut [u32], rides: &mut [u32]) -> [u32; 6] {
         let mut answer = [0u32; 6];
-        let Query { source, target, minute, code, margin } = q;
+        let Query { source, target, minute, code, margin, gate } = q;
         let (f, f_len, a) = (file.as_ptr(), file.len(), answer.as_mut_ptr());
         let (w, w_len, r, r_len) = (work.as_mut_ptr(), work.len(), rides.as_mut_ptr(), rides.len());
+        if let Some(gate) = gate {
+            let plan = self.gated.as_ref().expect("that commit has no gate time").plan;
+            let margin = q.ticks_to_gain();
+            unsafe { plan(f, f_len, source, target, minute, code, margin, gate, w, w_len, r, r_len, a, 6) };
+            return answer;
+        }
         match (margin, self.plan_margin) {
             (None, _) => unsafe { (self.plan)(f, f_len, source, target, minute, code, w, w_len, r, r_len, a, 6) },
             (Some(margin), Some(plan)) => unsafe { plan(f, f_len, source, target, minute, code, margin, w, w_len, r, r_len, a, 6) },
@@ -118,19 +181,15 @@ impl Planner {
     // Number and place of the refusal, and E.
     pub fn earliest(&self, file: &[u8], q: Query, work: &mut [u32]) -> [u32; 3] {
         let mut answer = [0u32; 6];
-        unsafe {
-            (self.earliest)(
-                file.as_ptr(),
-                file.len(),
-                q.source,
-                q.target,
-                q.minute,
-                work.as_mut_ptr(),
-                work.len(),
-                answer.as_mut_ptr(),
-                6,
-            )
-        };
+        let Query { source, target, minute, gate, .. } = q;
+        let (f, f_len, w, w_len, a) = (file.as_ptr(), file.len(), work.as_mut_ptr(), work.len(), answer.as_mut_ptr());
+        match gate {
+            None => unsafe { (self.earliest)(f, f_len, source, target, minute, w, w_len, a, 6) },
+            Some(gate) => {
+                let earliest = self.gated.as_ref().expect("that commit has no gate time").earliest;
+                unsafe { earliest(f, f_len, source, target, minute, gate, w, w_len, a, 6) }
+            }
+        }
         [answer[0], answer[1], answer[2]]
     }
 
