@@ -20,7 +20,7 @@ use Rattle.demands.specs.SmallPlan.{small, asked, laterBoat, expectedIn,
 
 pub small-counted : Hold smallCases
 unfolding smallCases expectedIn sum landWorth valued insert sorted expectedOf firstSailed landed step steps walked withDelays choices weight weightedArrivals largest longestWay toldRides told planned planBefore earliest weigh firstOpen worthOr caught arrivalWorth changeWorth whenSafe offInTicks worthOf offInMinutes nextOf getOff stayOn leastOf firstAt leads others choose bestOf scan scanned chosenFor inWindow wanted upTo windowsOf extract ridesFrom latestOf planWithin
-small-counted = (refl, (refl, (refl, (refl, (refl, (refl, (refl, (refl, (refl, (refl, tt))))))))))
+small-counted = (refl, (refl, (refl, (refl, (refl, (refl, (refl, (refl, (refl, (refl, (refl, (refl, (refl, (refl, tt))))))))))))))
 
 -- the boat is a ride of its one row, and so is the later of the two
 is-ride : (i : ℕ) → i < 3 → IsRide small (rideOf small i i)

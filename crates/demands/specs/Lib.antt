@@ -6,5 +6,6 @@ pub mod Words
 pub mod RowWords
 pub mod MarginWords
 pub mod SmallPlan
+pub mod NoGate
 pub mod Demanded
 pub mod Unnumbered

@@ -1,5 +1,5 @@
--- Demand 3's numbers of a small plan: a boat that lands at 630, seldom a minute later, and the two boats that it catches then. And what a
--- margin costs on another.
+-- Demand 3's numbers of a small plan: a boat that lands at 630, seldom a minute later, and the two boats that it catches then; the same with
+-- gates. And what a margin costs on another.
 use Prim.Native.Nat.{ℕ, _*_, _^_}
 use mathlib.Core.List.{List, [], _∷_, map}
 use mathlib.Core.Option.{Option, none, some}
@@ -7,7 +7,7 @@ use lib.ListN.{length}
 use Rattle.timetable.specs.Timetable.{Timetable}
 use Rattle.timetable.specs.Classes.{shareTotal}
 use Rattle.query.specs.declared.Query.{Query}
-use Rattle.query.specs.Query.{plainQuery, withMargin}
+use Rattle.query.specs.Query.{plainQuery, withMargin, withGate}
 use Rattle.plans.specs.Rides.{Ride, rideOf}
 use Rattle.plans.specs.Examples.{Case, query, planTold, row, onTime, timetable}
 use Rattle.plans.specs.Margins.{ticksLate}
@@ -25,6 +25,16 @@ smallRides = rideOf small 0 0 ∷ rideOf small 1 1 ∷ rideOf small 2 2 ∷ []
 
 abbrev pub turnedRound : List Ride
 turnedRound = rideOf small 2 2 ∷ rideOf small 1 1 ∷ rideOf small 0 0 ∷ []
+
+-- the same where gates close a minute early and both boats leave a minute later, for the same arrivals
+abbrev pub gated : Timetable
+gated = timetable (row 0 1 600 630 0 1 ∷ row 1 2 631 660 1 0 ∷ row 1 2 632 690 2 0 ∷ []) (onTime ∷ (4095 ∷ 1 ∷ []) ∷ [])
+
+abbrev pub gatedAsked : Query
+gatedAsked = withGate 1 (plainQuery 0 2 590)
+
+abbrev pub gatedRides : List Ride
+gatedRides = rideOf gated 0 0 ∷ rideOf gated 1 1 ∷ rideOf gated 2 2 ∷ []
 
 -- a safe plan too, listed backwards: the boat and the later of the two
 abbrev pub laterBoat : List Ride
@@ -59,6 +69,11 @@ smallCases =
     }
     -- L: two of the three rides are boarded, in time or late
     ∷ record { answered = longestWay asked smallRides ∷ []; expected = 2 ∷ [] }
+    -- with the gates X, A and L are the same; with a gate time of 2 the late boat has nothing to go on with
+    ∷ record { answered = planTold gated gatedAsked; expected = 3 ∷ 168962 ∷ 690 ∷ 0 ∷ 0 ∷ 0 ∷ 168962 ∷ 1 ∷ 1 ∷ 168960 ∷ 2 ∷ 2 ∷ 176640 ∷ [] }
+    ∷ record { answered = expectedIn (expectedOf gatedAsked gatedRides); expected = 168962 ∷ [] }
+    ∷ record { answered = weightedArrivals gatedAsked gatedRides ∷ longestWay gatedAsked gatedRides ∷ []; expected = 11610971638333440 ∷ 2 ∷ [] }
+    ∷ record { answered = planTold gated (withGate 2 (plainQuery 0 2 590)); expected = [] }
     -- with margin 1 two rides; with margin 10 the direct boat, later by (10 − 1) × 2 ticks: as much as two rides along a way can lose
     ∷ record { answered = planTold seconds (plainQuery 0 2 0); expected = 2 ∷ 25600 ∷ 100 ∷ 0 ∷ 0 ∷ 0 ∷ 25600 ∷ 2 ∷ 2 ∷ 25600 ∷ [] }
     ∷ record { answered = planTold seconds (withMargin 10 (plainQuery 0 2 0)); expected = 1 ∷ 25618 ∷ 101 ∷ 0 ∷ 1 ∷ 1 ∷ 25618 ∷ [] }

@@ -1,80 +1,52 @@
--- With gate time 0 each definition that reads the gate is document 01's line, letter for letter: who is there at a minute is ready then.
--- Assumes nothing.
+-- With gate time 0 who is there at a minute is ready then, so that each definition which reads the gate is document 01's line. Assumes nothing.
 use Prim.Native.Nat.{ℕ}
 use native.Mathlib.Nat.{add-zero}
 use mathlib.Core.Bool.{cond}
 use mathlib.Core.List.{List, []}
-use mathlib.Core.Option.{Option, none, some}
-use mathlib.Core.Path.{_≡_, ap, ap₂, fun-ext, _∙_}
+use mathlib.Core.Option.{none, some}
+use mathlib.Core.Path.{_≡_, refl, ap, ap₂, fun-ext, _∙_}
 use lib.Dec.{eqb}
-use Rattle.timetable.specs.Timetable.{Timetable}
 use Rattle.timetable.specs.Classes.{shareTotal}
 use Rattle.timetable.specs.Ticks.{quotientUp}
-use Rattle.query.specs.declared.Query.{Query}
-use Rattle.plans.specs.declared.Goal.{Goal}
+use Rattle.query.specs.Query.{withGate}
 use Rattle.plans.specs.Rides.{Ride, landsBy, ready}
-use Rattle.plans.specs.Journeys.{within, boundOf, goalOf, readyAt}
+use Rattle.plans.specs.Journeys.{within, boundOf, goalOf}
 use Rattle.plans.specs.Worth.{Valued, weigh, firstOpen, caught, arrivalWorth, changeWorth}
 use Rattle.plans.specs.Chosen.{whenSafe, offInTicks, worthOf, offInMinutes, inMinutes, scanned}
-use Rattle.plans.specs.Plan.{Plan, earliest, chosenFor, Window, upTo, windowsOf, extract, ridesFrom, planWithin, planBefore}
+use Rattle.plans.specs.Plan.{earliest, chosenFor, upTo, windowsOf, extract, ridesFrom, planWithin, planBefore}
+use Rattle.plans.specs.NoGate.{changeUngated, PlansAsBefore}
 
-pub ready-none : {gate : ℕ} → gate ≡ 0 → (minute : ℕ) → ready gate minute ≡ minute
-ready-none none-asked minute = ap (λ g. ready g minute) none-asked ∙ add-zero minute
+pub ready-none : (minute : ℕ) → ready 0 minute ≡ minute
+ready-none = add-zero
 
--- getting off, and the window that a ride opens
-module _ {gate : ℕ} (none-asked : gate ≡ 0) (target : ℕ) (r : Ride) (behind : List Valued) where
-  pub change-none :
-      changeWorth gate r behind ≡ quotientUp shareTotal (weigh (r .shares) (r .arrives) (λ minute. caught behind (r .to) minute))
-  unfolding changeWorth
-  change-none =
-      ap (λ (f : ℕ → ℕ). quotientUp shareTotal (weigh (r .shares) (r .arrives) f))
-      (fun-ext (λ minute. ap (caught behind (r .to)) (ready-none none-asked minute)))
+change-none : (gate : ℕ) → gate ≡ 0 → (r : Ride) (behind : List Valued) → changeWorth gate r behind ≡ changeUngated r behind
+unfolding changeWorth
+change-none gate none-asked r behind =
+    ap (λ (f : ℕ → ℕ). quotientUp shareTotal (weigh (r .shares) (r .arrives) f))
+    (fun-ext (λ minute. ap (caught behind (r .to)) (ap (λ g. ready g minute) none-asked ∙ ready-none minute)))
 
-  pub minutes-none :
-      offInMinutes gate target r behind ≡ cond (eqb (r .to) target) (some (landsBy r)) (worthOf (firstOpen behind (r .to) (landsBy r)))
-  unfolding offInMinutes
-  minutes-none =
-      ap (λ m. cond (eqb (r .to) target) (some (landsBy r)) (worthOf (firstOpen behind (r .to) m))) (ready-none none-asked (landsBy r))
-
-  pub windows-none :
-      windowsOf gate target r behind ≡ cond (eqb (r .to) target) [] (upTo (r .to) (r .arrives) (firstOpen behind (r .to) (landsBy r)))
-  unfolding windowsOf
-  windows-none =
-      ap₂ (λ from by. cond (eqb (r .to) target) [] (upTo (r .to) from (firstOpen behind (r .to) by)))
-      (ready-none none-asked (r .arrives)) (ready-none none-asked (landsBy r))
-
-pub ticks-none :
-    (goal : Goal) → goal .gate ≡ 0 → (r : Ride) (behind : List Valued)
-    → offInTicks goal r behind
-    ≡ cond (eqb (r .to) (goal .target)) (cond (within (goal .bound) (landsBy r)) (some (arrivalWorth r)) none)
-    (whenSafe (firstOpen behind (r .to) (landsBy r))
-    (quotientUp shareTotal (weigh (r .shares) (r .arrives) (λ minute. caught behind (r .to) minute))))
-unfolding offInTicks
-ticks-none goal none-asked r behind =
-    ap₂
-    (λ m worth. cond (eqb (r .to) (goal .target)) (cond (within (goal .bound) (landsBy r)) (some (arrivalWorth r)) none)
-    (whenSafe (firstOpen behind (r .to) m) worth))
-    (ready-none none-asked (landsBy r)) (change-none none-asked (goal .target) r behind)
-
--- E, the first chosen row at the source, and what it leads to
-module _ (q : Query) (none-asked : q .gate ≡ 0) where
-  pub earliest-none :
-      (t : Timetable) → earliest t q ≡ worthOf (firstOpen (scanned (inMinutes (q .gate) (q .target)) t .chosen) (q .source) (q .minute))
-  unfolding earliest
-  earliest-none t =
-      ap (λ m. worthOf (firstOpen (scanned (inMinutes (q .gate) (q .target)) t .chosen) (q .source) m)) (ready-none none-asked (q .minute))
-
-  pub rides-none :
-      (chosen : List Valued)
-      → ridesFrom q chosen ≡ extract (q .gate) (q .target) (upTo (q .source) (q .minute) (firstOpen chosen (q .source) (q .minute))) chosen
-  unfolding ridesFrom
-  rides-none chosen =
-      ap (λ m. extract (q .gate) (q .target) (upTo (q .source) m (firstOpen chosen (q .source) m)) chosen) (ready-none none-asked (q .minute))
-
-  pub plan-none :
-      (t : Timetable) (e : ℕ)
-      → planBefore t q (some e)
-      ≡ planWithin t q (boundOf q e) (firstOpen (chosenFor t (goalOf q (boundOf q e))) (q .source) (q .minute))
-  unfolding planBefore
-  plan-none t e =
-      ap (λ m. planWithin t q (boundOf q e) (firstOpen (chosenFor t (goalOf q (boundOf q e))) (q .source) m)) (ready-none none-asked (q .minute))
+pub plans-as-before : PlansAsBefore
+unfolding offInTicks offInMinutes windowsOf earliest ridesFrom planBefore
+plans-as-before =
+    record {
+      change = λ r behind. change-none 0 refl r behind;
+      ticks =
+          λ goal none-asked r behind.
+          ap₂
+          (λ m worth. cond (eqb (r .to) (goal .target)) (cond (within (goal .bound) (landsBy r)) (some (arrivalWorth r)) none)
+          (whenSafe (firstOpen behind (r .to) m) worth))
+          (ap (λ g. ready g (landsBy r)) none-asked ∙ ready-none (landsBy r)) (change-none (goal .gate) none-asked r behind);
+      minutes =
+          λ target r behind.
+          ap (λ m. cond (eqb (r .to) target) (some (landsBy r)) (worthOf (firstOpen behind (r .to) m))) (ready-none (landsBy r));
+      windows =
+          λ target r behind.
+          ap₂ (λ from by. cond (eqb (r .to) target) [] (upTo (r .to) from (firstOpen behind (r .to) by))) (ready-none (r .arrives))
+          (ready-none (landsBy r));
+      arrival = λ t q. ap (λ m. worthOf (firstOpen (scanned (inMinutes 0 (q .target)) t .chosen) (q .source) m)) (ready-none (q .minute));
+      rides = λ q chosen. ap (λ m. extract 0 (q .target) (upTo (q .source) m (firstOpen chosen (q .source) m)) chosen) (ready-none (q .minute));
+      plan =
+          λ t q e.
+          ap (λ m. planWithin t (withGate 0 q) (boundOf q e) (firstOpen (chosenFor t (goalOf (withGate 0 q) (boundOf q e))) (q .source) m))
+          (ready-none (q .minute));
+    }

@@ -20,7 +20,7 @@ unfoldable pub whenSafe : Option Valued → ℕ → Option ℕ
 whenSafe none worth = none
 whenSafe (some v) worth = some worth
 
--- at the target only if a + M is within the bound; elsewhere only if a chosen row can be boarded by one who is ready from a + M on
+-- at the target only if a + M is within the bound; elsewhere only if a chosen row departs at or after a + M + g
 unfoldable pub offInTicks : Goal → GettingOff
 offInTicks goal r behind =
     cond (eqb (r .to) (goal .target)) (cond (within (goal .bound) (landsBy r)) (some (arrivalWorth r)) none)
@@ -30,7 +30,7 @@ unfoldable pub worthOf : Option Valued → Option ℕ
 worthOf none = none
 worthOf (some v) = some (v .worth)
 
--- the same recursion for the earliest safe arrival: a + M at the target, elsewhere that of the first ride from then on
+-- the same recursion for the earliest safe arrival: a + M at the target, elsewhere that of the first ride at or after a + M + g
 unfoldable pub offInMinutes : (gate target : ℕ) → GettingOff
 offInMinutes gate target r behind =
     cond (eqb (r .to) target) (some (landsBy r)) (worthOf (firstOpen behind (r .to) (ready gate (landsBy r))))

@@ -16,6 +16,14 @@ lastBoat = 2 ∷ 176640 ∷ 690 ∷ 0 ∷ 0 ∷ 0 ∷ 176640 ∷ 3 ∷ 3 ∷ 176
 abbrev pub bothBoats : (worth : ℕ) → List ℕ
 bothBoats worth = 3 ∷ worth ∷ 690 ∷ 0 ∷ 0 ∷ 0 ∷ worth ∷ 1 ∷ 1 ∷ 168960 ∷ 2 ∷ 2 ∷ 176640 ∷ []
 
+-- a boat to the pier, where one boat goes on at 650, and a slow direct boat a minute behind it
+abbrev pub slowBoat : Timetable
+slowBoat = timetable (row 0 1 600 630 0 1 ∷ row 0 2 601 800 1 0 ∷ row 1 2 650 690 2 0 ∷ []) (onTime ∷ upToTen ∷ [])
+
+-- by way of the pier
+abbrev pub byThePier : (bound : ℕ) → List ℕ
+byThePier bound = 2 ∷ 176640 ∷ 690 ∷ bound ∷ 0 ∷ 0 ∷ 176640 ∷ 2 ∷ 2 ∷ 176640 ∷ []
+
 -- a direct boat at minute 0, and one a minute behind it that is seldom late
 abbrev pub soonOrSure : Timetable
 soonOrSure = timetable (row 0 1 0 4 0 0 ∷ row 0 1 1 2 1 1 ∷ []) (onTime ∷ (4095 ∷ 0 ∷ 0 ∷ 1 ∷ []) ∷ [])
@@ -31,6 +39,12 @@ gateCases =
     -- at a + M, 640: the boat at 650 is safe with 10, and with 11 nothing is
     ∷ record { answered = planTold w (withGate 10 (plainQuery 0 2 590)); expected = lastBoat }
     ∷ record { answered = planTold w (withGate 11 (plainQuery 0 2 589)); expected = [] }
+    -- so with a slow boat beside it: by the pier with 10, and with 11 the slow boat alone
+    ∷ record { answered = planTold slowBoat (withGate 10 (plainQuery 0 2 590)); expected = byThePier 0 }
+    ∷ record { answered = planTold slowBoat (withGate 11 (plainQuery 0 2 589)); expected = oneRide 1 204800 800 0 }
+    -- and E is that of the safe one: 690 with 10, 800 with 11
+    ∷ record { answered = planTold slowBoat (withGate 10 (withCode 4 (plainQuery 0 2 590))); expected = byThePier 690 }
+    ∷ record { answered = planTold slowBoat (withGate 11 (withCode 4 (plainQuery 0 2 589))); expected = oneRide 1 204800 800 800 }
     -- the end of the window: a boat at 640 is the first at or after a + M + g with 0; with 1 it is the one at 650, and the first is still caught
     ∷ record {
       answered = planTold safeAndNext (withGate 0 (plainQuery 0 2 590));

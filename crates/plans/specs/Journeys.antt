@@ -11,7 +11,7 @@ use Rattle.plans.specs.declared.Goal.{Goal}
 use Rattle.plans.specs.Rides.{Ride, IsRide, landsBy, ready, boards}
 
 -- a safe journey that goes on from ride r and whose last ride has a + M = end: the last one leaves at the target;
--- each next ride boards where the last one landed, by one who is ready from a + M on
+-- each next ride boards where the last one landed, at or after a + M + g
 pub data Onward (t : Timetable) (gate target : ℕ) : Ride → ℕ → Type 0 where
   leaves : {r : Ride} → IsRide t r → r .to ≡ target → Onward t gate target r (landsBy r)
   changes :
@@ -26,7 +26,7 @@ Begins t gate target i = (r : Ride) × (end : ℕ) × (r .board ≡ i) × Onward
 abbrev pub readyAt : Query → ℕ
 readyAt q = ready (q .gate) (q .minute)
 
--- A safe journey boards first at the source, by one who is there at query minute T
+-- A safe journey boards first at the source, at or after query minute T plus g
 pub record Journey (t : Timetable) (q : Query) (end : ℕ) : Type 0 where
   pub first : Ride
   pub in-time : T (boards first (q .source) (readyAt q))

@@ -11,3 +11,4 @@ pub mod Examples
 pub mod Misreadings
 pub mod Margins
 pub mod Gates
+pub mod NoGate
