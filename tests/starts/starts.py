@@ -2,9 +2,9 @@
 
 usage: starts.py RUNNER PROGRAM
 
-The search is written from document 01 alone: for every minute at which a boat departs, every ride, and behind each every ride that is
-boarded where it lands, at or after a + M. Each file is asked a minute after the last one that the search finds, where the answer must
-be 8, and often at that minute too, where it must be a plan.
+The search is written from documents 01 and 02 alone: for every minute in which a boat's gate closes, every ride, and behind each every
+ride that is boarded where it lands, at or after a + M + g. Each file is asked a minute after the last one that the search finds, where the
+answer must be 8, and often at that minute too, where it must be a plan. Every other query has a gate time.
 """
 import concurrent.futures
 import pathlib
@@ -49,24 +49,28 @@ def rides(rows, tables):
                 yield start, departure, land, arrival + len(tables[kind]) - 1
 
 
-def safe(everything, stop, minute, target):
-    """A safe journey boards at `stop`, at or after `minute`, and ends at the target."""
+def with_gates(everything, gate):
+    """(from, the minute in which its gate closes, to, a + M) of every ride whose gate is ever open."""
+    return [(start, departure - gate, land, latest) for start, departure, land, latest in everything if departure >= gate]
+
+
+def safe(gates, stop, minute, target):
+    """A safe journey boards at `stop`, by one who is there at `minute`, and ends at the target."""
     return any(
-        land == target or safe(everything, land, latest, target)
-        for start, departure, land, latest in everything
-        if start == stop and departure >= minute
+        land == target or safe(gates, land, latest, target) for start, closes, land, latest in gates if start == stop and closes >= minute
     )
 
 
-def last_start(everything, stop, target):
-    """The last minute at which a boat departs and one who is at the stop has a safe journey; None if there is none."""
-    return max((minute for _, minute, _, _ in everything if safe(everything, stop, minute, target)), default=None)
+def last_start(gates, stop, target):
+    """The last minute at which a gate closes and one who is at the stop has a safe journey; None if there is none."""
+    return max((minute for _, minute, _, _ in gates if safe(gates, stop, minute, target)), default=None)
 
 
-def wanted(stops, everything, source, target, minute):
-    yield f"There is no safe journey from stop {source} to stop {target} from {time(minute)} on."
-    own = last_start(everything, source, target)
-    others = [(stop, last_start(everything, stop, target)) for stop in range(stops) if stop not in (source, target)]
+def wanted(stops, gates, source, target, minute, gate):
+    early = f", with gates that close {gate} minute{'s' * (gate > 1)} before departure" if gate else ""
+    yield f"There is no safe journey from stop {source} to stop {target} from {time(minute)} on{early}."
+    own = last_start(gates, source, target)
+    others = [(stop, last_start(gates, stop, target)) for stop in range(stops) if stop not in (source, target)]
     listed = [f" stop {stop} until {time(last)}" for stop, last in others if last is not None]
     if own is None:
         yield f"From stop {source} there is none in this file, at any minute."
@@ -75,7 +79,7 @@ def wanted(stops, everything, source, target, minute):
         yield f"From stop {source} there is one until {time(own)}."
         none, helps = "No other stop has one.", "A later start cannot help. An earlier one, another target,"
     yield f"From other stops:{';'.join(listed)}." if listed else none
-    yield f"{helps} next week's file or a relief sailing can."
+    yield f"{helps} next week's file or a relief sailing can{', and so can gates that close later' * bool(gate)}."
 
 
 def cases():
@@ -85,9 +89,10 @@ def cases():
         stops = draw.randint(2, 6)
         tables = [shares(draw) for _ in range(draw.randint(1, 3))]
         rows = boats(draw, stops, len(tables), draw.choice((0, 600, 1400, 2870, 10010)))
-        everything = list(rides(rows, tables))
+        gate = draw.choice((None, None, None, 0, 1, 3, 10, 30))
+        gates = with_gates(rides(rows, tables), gate or 0)
         source, target = draw.sample(range(stops), 2)
-        last = last_start(everything, source, target)
+        last = last_start(gates, source, target)
         if last is None:
             minute = draw.randrange(LAST + 1)
         elif draw.randrange(2):
@@ -97,10 +102,10 @@ def cases():
         file = sailing_file(rows, tables, stops, rows_first=bool(draw.randrange(2)))
         code = draw.choice((0, 4, 16))
         head = [f"The file is sound. Stops: {stops}. Rows: {len(rows)}. Classes: {len(tables)}.", "refused 8"]
-        lines = head + list(wanted(stops, everything, source, target, minute))
-        yield f"file {number}", file, query_bytes(source, target, minute, code), "".join(line + "\n" for line in lines)
+        lines = head + list(wanted(stops, gates, source, target, minute, gate))
+        yield f"file {number}", file, query_bytes(source, target, minute, code, gate=gate), "".join(line + "\n" for line in lines)
         if last is not None and number % 4 == 0:
-            yield f"file {number} at {time(last)}", file, query_bytes(source, target, last, code), None
+            yield f"file {number} at {time(last)}", file, query_bytes(source, target, last, code, gate=gate), None
 
 
 def printed(runner, program, sailings, query):
@@ -128,7 +133,8 @@ def main():
         failed = sum(differs(case, words, found) for (case, _, _, words), found in zip(asked, answers))
     until = sum("there is one until" in (words or "") for _, _, _, words in asked)
     others = sum("From other stops:" in (words or "") for _, _, _, words in asked)
-    print(f"starts: {len(asked)} queries, {until} with an earlier start, {others} with other stops, {failed} differences")
+    gated = sum("with gates" in (words or "") for _, _, _, words in asked)
+    print(f"starts: {len(asked)} queries, {until} with an earlier start, {others} with other stops, {gated} with gates, {failed} differences")
     sys.exit(failed > 0)
 
 
