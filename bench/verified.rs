@@ -25,36 +25,20 @@ struct Gated {
     earliest: EarliestGate,
 }
 
+// A function of `trial`: the file, the query's numbers, and what it works in and writes.
+macro_rules! exported {
+    ($name:ident: $($number:ident),*; $($slice:ident),*) => {
+        extern "C" {
+            fn $name(file: *const u8, file_len: usize, $($number: u32,)* $($slice: *mut u32, _: usize),*);
+        }
+    };
+}
+
 macro_rules! planner {
     ($name:ident, $check:ident, $plan:ident, $plan_margin:expr, $earliest:ident, $gated:expr) => {
-        extern "C" {
-            fn $check(file: *const u8, file_len: usize, answer: *mut u32, answer_len: usize);
-            fn $plan(
-                file: *const u8,
-                file_len: usize,
-                source: u32,
-                target: u32,
-                minute: u32,
-                code: u32,
-                work: *mut u32,
-                work_len: usize,
-                rides: *mut u32,
-                rides_len: usize,
-                answer: *mut u32,
-                answer_len: usize,
-            );
-            fn $earliest(
-                file: *const u8,
-                file_len: usize,
-                source: u32,
-                target: u32,
-                minute: u32,
-                work: *mut u32,
-                work_len: usize,
-                answer: *mut u32,
-                answer_len: usize,
-            );
-        }
+        exported!($check: ; answer);
+        exported!($plan: source, target, minute, code; work, rides, answer);
+        exported!($earliest: source, target, minute; work, answer);
         pub static $name: Planner = Planner { check: $check, plan: $plan, plan_margin: $plan_margin, earliest: $earliest, gated: $gated };
     };
 }
@@ -62,23 +46,7 @@ macro_rules! planner {
 // The call with a margin, of a commit that has it.
 macro_rules! with_margin {
     ($plan_margin:ident) => {{
-        extern "C" {
-            fn $plan_margin(
-                file: *const u8,
-                file_len: usize,
-                source: u32,
-                target: u32,
-                minute: u32,
-                code: u32,
-                margin: u32,
-                work: *mut u32,
-                work_len: usize,
-                rides: *mut u32,
-                rides_len: usize,
-                answer: *mut u32,
-                answer_len: usize,
-            );
-        }
+        exported!($plan_margin: source, target, minute, code, margin; work, rides, answer);
         Some($plan_margin)
     }};
 }
@@ -86,36 +54,8 @@ macro_rules! with_margin {
 // The calls with a gate time, of a commit that has them.
 macro_rules! with_gate {
     ($plan_gate:ident, $earliest_gate:ident) => {{
-        extern "C" {
-            fn $plan_gate(
-                file: *const u8,
-                file_len: usize,
-                source: u32,
-                target: u32,
-                minute: u32,
-                code: u32,
-                margin: u32,
-                gate: u32,
-                work: *mut u32,
-                work_len: usize,
-                rides: *mut u32,
-                rides_len: usize,
-                answer: *mut u32,
-                answer_len: usize,
-            );
-            fn $earliest_gate(
-                file: *const u8,
-                file_len: usize,
-                source: u32,
-                target: u32,
-                minute: u32,
-                gate: u32,
-                work: *mut u32,
-                work_len: usize,
-                answer: *mut u32,
-                answer_len: usize,
-            );
-        }
+        exported!($plan_gate: source, target, minute, code, margin, gate; work, rides, answer);
+        exported!($earliest_gate: source, target, minute, gate; work, answer);
         Some(Gated { plan: $plan_gate, earliest: $earliest_gate })
     }};
 }

@@ -12,7 +12,7 @@ use Rattle.plans.specs.Misreadings.{safeAndNext}
 abbrev pub lastBoat : List ℕ
 lastBoat = 2 ∷ 176640 ∷ 690 ∷ 0 ∷ 0 ∷ 0 ∷ 176640 ∷ 3 ∷ 3 ∷ 176640 ∷ []
 
--- two boats from the pier, of which so many in a hundred landings need the second
+-- the boat to the pier, worth so much, then both boats that go on from there
 abbrev pub bothBoats : (worth : ℕ) → List ℕ
 bothBoats worth = 3 ∷ worth ∷ 690 ∷ 0 ∷ 0 ∷ 0 ∷ worth ∷ 1 ∷ 1 ∷ 168960 ∷ 2 ∷ 2 ∷ 176640 ∷ []
 
