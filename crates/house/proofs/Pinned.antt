@@ -2,11 +2,9 @@
 use Prim.Native.Nat.{ℕ}
 use mathlib.Core.Path.{_≡_, refl}
 use mathlib.Core.List.{List, [], _∷_}
-use native.Mathlib.Omega.{arith}
 use Rattle.file_layout.specs.Check.{Answer}
 use Rattle.house.specs.House.{cumulative, between, maximum, pairOf}
 use Rattle.house.specs.HouseShare.{inHouse, houseShare, houseAnswer}
-use Rattle.house.specs.Rising.{Rising}
 
 -- case 12: pair (5,30), cumulative shares at 1, 2, 5, 6, 35
 pub case-12 : cumulative 5 30 1 ∷ cumulative 5 30 2 ∷ cumulative 5 30 5 ∷ cumulative 5 30 6 ∷ cumulative 5 30 35 ∷ []
@@ -36,16 +34,6 @@ pairs-by-number = refl
 pub latest-by-number : maximum (pairOf 0) ∷ maximum (pairOf 1) ∷ maximum (pairOf 2) ∷ maximum (pairOf 3) ∷ maximum (pairOf 4)
     ∷ maximum (pairOf 5) ∷ maximum (pairOf 6) ∷ maximum (pairOf 7) ∷ [] ≡ 12 ∷ 35 ∷ 65 ∷ 40 ∷ 70 ∷ 120 ∷ 105 ∷ 120 ∷ []
 latest-by-number = refl
-
--- a table whose last step is flat has a last share of 0, so it does not rise; nor does one that falls, or ends below 4,096
-pub flat-last-step : Rising (4096 ∷ 4096 ∷ []) → ⊥
-flat-last-step rising = omega (arith, rising .rises-last (omega arith))
-
-pub falling : Rising (5 ∷ 4 ∷ 4096 ∷ []) → ⊥
-falling rising = omega (arith, rising .never-falls 0 (omega arith))
-
-pub short-of-whole : Rising (5 ∷ 4095 ∷ []) → ⊥
-short-of-whole rising = omega (arith, rising .ends-whole)
 
 -- pair number above 7 or minute above M: refusal 6, place 0
 pub last-answered : houseAnswer (houseShare 7 120) ≡ record { number = 0; place = 0; values = 4096 ∷ [] }

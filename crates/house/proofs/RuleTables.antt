@@ -6,23 +6,15 @@ use native.Mathlib.Omega.{arith}
 use lib.ListN.{length, getD}
 use Rattle.timetable.specs.Timetable.{maximumDelay}
 use Rattle.file_layout.specs.Format.{versionOne}
+use Rattle.delay_tables.specs.Rising.{Rising, MadeOf, valuesFrom}
+use Rattle.delay_tables.proofs.RisingTables.{rising-table-accepted}
+use Rattle.delay_tables.proofs.RisingValues.{rising-values}
+use Rattle.delay_tables.proofs.Values.{length-values, value-at, values-same}
 use Rattle.house.specs.House.{maximum, pairOf, housePairs, cumulative}
-use Rattle.house.specs.Rising.{Rising, MadeOf, valuesFrom, houseCumulatives, houseTable}
+use Rattle.house.specs.HouseTable.{houseCumulatives, houseTable}
 use Rattle.house.specs.Carried.{startOf}
 use Rattle.house.proofs.Tables.{carried, carried-right, house-short}
 use Rattle.house.proofs.Rule.{at-latest, cumulative-below, cumulative-rises}
-use Rattle.house.proofs.RisingTables.{rising-table-accepted}
-
-length-values : (f : ℕ → ℕ) (x n : ℕ) → length (valuesFrom f x n) ≡ n
-unfolding valuesFrom
-length-values f x zero = refl
-length-values f x (suc n) = ap suc (length-values f (suc x) n)
-
-value-at : (f : ℕ → ℕ) (x n k : ℕ) → k < n → getD (valuesFrom f x n) k 0 ≡ f (x + k)
-unfolding valuesFrom
-value-at f x zero k h = absurd (let z : ⊥ = omega arith in z)
-value-at f x (suc n) zero h = ap f (omega arith)
-value-at f x (suc n) (suc k) h = value-at f (suc x) n k (omega arith) ∙ ap f (omega arith)
 
 -- the list of a pair's cumulative shares has M + 1 entries, each by the rule
 pub house-length : (m d : ℕ) → length (houseCumulatives m d) ≡ suc (m + d)
@@ -34,18 +26,8 @@ unfolding houseCumulatives
 house-at m d x h = value-at (cumulative m d) 0 (suc (m + d)) x (omega arith) ∙ ap (cumulative m d) (omega arith)
 
 pub house-rising : (m d : ℕ) → Rising (houseCumulatives m d)
-house-rising m d = record {
-  never-falls = λ x h.
-      let inside : x < m + d = omega (arith, house-length m d, h) in
-      rw (house-at m d x (omega (arith, inside)), house-at m d (suc x) inside) (cumulative-rises m d x inside);
-  ends-whole = rw last (house-at m d (m + d) (omega arith) ∙ at-latest m d (m + d) (omega arith));
-  rises-last = λ some.
-      let more : pred (m + d) < m + d = omega (arith, last, some) in
-      rw (last, house-at m d (pred (m + d)) (omega (arith, more))) (cumulative-below m d (pred (m + d)) more);
-}
-  where
-    last : maximumDelay (houseCumulatives m d) ≡ m + d
-    last = ap pred (house-length m d)
+unfolding houseCumulatives
+house-rising m d = rising-values (cumulative m d) (m + d) (cumulative-rises m d) (cumulative-below m d) (at-latest m d (m + d) (omega arith))
 
 -- every change time and parameter give a table that the rule of a class's shares accepts
 pub house-table-accepted : (m d : ℕ) → MadeOf (houseCumulatives m d) (houseTable m d)
@@ -57,13 +39,6 @@ pub house-pair-accepted : (k : ℕ) → k < length housePairs
     → (maximum (pairOf k) ≤ versionOne .delay)
     × MadeOf (houseCumulatives (pairOf k .change) (pairOf k .parameter)) (houseTable (pairOf k .change) (pairOf k .parameter))
 house-pair-accepted k h = (house-short k h, house-table-accepted (pairOf k .change) (pairOf k .parameter))
-
-values-same : (f g : ℕ → ℕ) (x n : ℕ) → ((k : ℕ) → k < x + n → f k ≡ g k) → valuesFrom f x n ≡ valuesFrom g x n
-unfolding valuesFrom
-values-same f g x zero same = refl
-values-same f g x (suc n) same =
-    ap (λ (v : ℕ). v ∷ valuesFrom f (suc x) n) (same x (omega arith))
-    ∙ ap (λ (vs : List ℕ). g x ∷ vs) (values-same f g (suc x) n (λ k h. same k (omega (arith, h))))
 
 -- the entries that are carried for a pair number, from delay 0 to M
 unfoldable pub carriedOf : ℕ → List ℕ

@@ -2,4 +2,4 @@
 pub mod House
 pub mod Carried
 pub mod HouseShare
-pub mod Rising
+pub mod HouseTable

@@ -1,4 +1,4 @@
--- Document 01, "House delay tables": a table of shares by its rising cumulative shares.
+-- Documents 01, "House delay tables", and 02, E4: a table of shares by its rising cumulative shares.
 use Prim.Native.Nat.{ℕ, zero, suc, _+_, _-_, _<_, _≤_, pred}
 use mathlib.Core.Path.{_≡_}
 use mathlib.Core.Bool.{true}
@@ -6,7 +6,6 @@ use mathlib.Core.List.{List, [], _∷_}
 use lib.ListN.{length, getD}
 use Rattle.timetable.specs.Timetable.{maximumDelay}
 use Rattle.timetable.specs.Classes.{shareTotal, sharesRule}
-use Rattle.house.specs.House.{cumulative}
 
 -- cumulative shares of delays 0, 1, .. M that never fall, end at 4,096, and rise with the last step
 pub record Rising (cs : List ℕ) : Type 0 where
@@ -41,11 +40,3 @@ pub record MadeOf (cs table : List ℕ) : Type 0 where
 unfoldable pub valuesFrom : (ℕ → ℕ) → (x n : ℕ) → List ℕ
 valuesFrom f x zero = []
 valuesFrom f x (suc n) = f x ∷ valuesFrom f (suc x) n
-
--- the cumulative shares by change time m and parameter d, of delays 0, 1, .. M
-unfoldable pub houseCumulatives : (m d : ℕ) → List ℕ
-houseCumulatives m d = valuesFrom (cumulative m d) 0 (suc (m + d))
-
--- the table of a house pair
-unfoldable pub houseTable : (m d : ℕ) → List ℕ
-houseTable m d = sharesOfCumulative (houseCumulatives m d)

@@ -10,7 +10,7 @@ use borrow.Author.Tests.{eq-eqb, le-leb}
 use Rattle.laws.proofs.Tests.{both}
 use Rattle.timetable.specs.Timetable.{maximumDelay}
 use Rattle.timetable.specs.Classes.{shareTotal, sum, lastShare, sharesRule}
-use Rattle.house.specs.Rising.{Rising, MadeOf, differences, sharesOfCumulative, runningSums, cumulativeOfShares}
+use Rattle.delay_tables.specs.Rising.{Rising, MadeOf, differences, sharesOfCumulative, runningSums, cumulativeOfShares}
 
 -- no entry is below the one ahead of it, nor the first below `ahead`
 data RisesFrom : ℕ → List ℕ → Type 0 where

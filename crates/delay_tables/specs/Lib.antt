@@ -1,0 +1,2 @@
+-- A delay table by its cumulative shares.
+pub mod Rising

@@ -1,0 +1,13 @@
+-- Document 01, "House delay tables": a house table by its cumulative shares.
+use Prim.Native.Nat.{ℕ, suc, _+_}
+use mathlib.Core.List.{List}
+use Rattle.delay_tables.specs.Rising.{sharesOfCumulative, valuesFrom}
+use Rattle.house.specs.House.{cumulative}
+
+-- the cumulative shares by change time m and parameter d, of delays 0, 1, .. M
+unfoldable pub houseCumulatives : (m d : ℕ) → List ℕ
+houseCumulatives m d = valuesFrom (cumulative m d) 0 (suc (m + d))
+
+-- the table of a house pair
+unfoldable pub houseTable : (m d : ℕ) → List ℕ
+houseTable m d = sharesOfCumulative (houseCumulatives m d)
