@@ -24,7 +24,7 @@ rises-from ahead (c ∷ cs) first never-falls =
     step (first (omega arith))
     (rises-from c cs (λ more. never-falls 0 (omega (arith, more))) (λ x h. never-falls (suc x) (omega (arith, h))))
 
-length-differences : (ahead : ℕ) (cs : List ℕ) → length (differences ahead cs) ≡ length cs
+pub length-differences : (ahead : ℕ) (cs : List ℕ) → length (differences ahead cs) ≡ length cs
 unfolding differences
 length-differences ahead [] = refl
 length-differences ahead (c ∷ cs) = ap suc (length-differences c cs)

@@ -29,7 +29,7 @@ use Rattle.file_encoding.proofs.Written.{BlockAt, first-block, tables-e
 use Rattle.file_encoding.proofs.Encode.{rows-end, trailer-at, trailer-encode, tables-start, decode-encode}
 
 -- a class block that ends by `end` and keeps its rules is fine
-class-fine : (f : Format) (s : List ℕ) (end k at : ℕ) (shares rest : List ℕ)
+pub class-fine : (f : Format) (s : List ℕ) (end k at : ℕ) (shares rest : List ℕ)
     → BlockAt s at shares rest → at + blockSize shares ≤ end → maximumDelay shares ≤ f .delay → sharesRule shares ≡ true
     → classVerdict f s end k at ≡ fine
 unfolding classVerdict blockSize

@@ -1,0 +1,41 @@
+-- What the call for a log returns, for every log's bytes and tally, over its contract. Assumes nothing.
+use Prim.Native.Nat.{ℕ, _≤_}
+use mathlib.Core.List.{List}
+use mathlib.Core.Logic.{_↔_}
+use mathlib.Core.Path.{_≡_, ap, sym, _∙_}
+use lib.ListN.{length}
+use contract.Lifetimes.{Lfts}
+use denote.Ref.{now}
+use denote.Triple.Clauses.{AtExit}
+use borrow.Fn.Kinds.{Dens, resT, endedOf}
+use Rattle.file_layout.specs.Format.{versionOne}
+use Rattle.tally.specs.declared.Landing.{Landing}
+use Rattle.tally.specs.declared.Logged.the-variants.{All}
+use Rattle.tally.specs.Tally.{emptyTally}
+use Rattle.tally.specs.Log.{tallyOf, InWeeks, InLimit}
+use Rattle.tally.specs.LogOutcome.{landingsIn, logOutcome}
+use Rattle.tally.proofs.Logs.{log-exactly, log-tallied}
+use Rattle.tally.proofs.tally_log.Kinds as kinds
+use Rattle.tally.proofs.tally_log.Reads as reads
+
+-- whatever answer and tally the contract permits, from an empty tally
+module _ (κs : Lfts 2) (arguments : Dens κs kinds.ps) (answer : resT kinds.r κs .Denot) (ending : AtExit (endedOf 2 kinds.ps kinds.r) κs)
+    (permitted : reads.Post κs arguments answer ending) (empty : now (arguments .1 .0) ≡ emptyTally 120) where
+  abbrev log : List Landing
+  log = landingsIn (now (arguments .0))
+
+  abbrev tally′ : List ℕ
+  tally′ = now (ending .1 .0)
+
+  answered : answer ≡ logOutcome versionOne 0 log (emptyTally 120) .answer
+  answered = permitted .0 ∙ ap (λ (t : List ℕ). logOutcome versionOne 0 log t .answer) empty
+
+  -- all of a log is counted exactly if no minute is above 10,079 and no count of its tally passes 1,000,000
+  pub all-exactly : (answer ≡ All (length log)) ↔ (InWeeks versionOne log × InLimit 120 log)
+  all-exactly = (λ told. log-exactly versionOne log .0 (sym answered ∙ told), λ clear. answered ∙ log-exactly versionOne log .1 clear)
+
+  -- and then the tally is that of its landings
+  pub tallied : (n : ℕ) → answer ≡ All n → (n ≡ length log) × (tally′ ≡ tallyOf 120 log)
+  tallied n told =
+      let found = log-tallied versionOne log n (sym answered ∙ told) in
+      (found .0, permitted .1 ∙ ap (λ (t : List ℕ). logOutcome versionOne 0 log t .tally) empty ∙ found .1)

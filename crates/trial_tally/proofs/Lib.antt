@@ -1,0 +1,3 @@
+-- Laws of what the comparison sees of tallies and tables.
+pub mod Six
+pub mod Settled
