@@ -1,14 +1,15 @@
 """What the programs answer to each query of a text."""
 import pathlib
-import tempfile
 from dataclasses import dataclass
 
 import packed
 import programs
 import sheet
 import text_form
-from folder import read_file
+from folder import passing, read_file
 from timetable import Query, Timetable
+
+PROGRAMS = SHEET, EXPLAIN = "sheet", "explain"
 
 
 @dataclass(frozen=True)
@@ -40,14 +41,14 @@ class Answers:
 def add_arguments(parser):
     parser.add_argument("text", metavar="TEXT", type=pathlib.Path, help="the text")
     parser.add_argument("folder", metavar="FOLDER", type=pathlib.Path, help="where the files go; made if it isn't there")
-    programs.add_option(parser)
+    programs.add_option(parser, PROGRAMS)
     return parser
 
 
 def answers(arguments):
     timetable = text_form.read(read_file(arguments.text), arguments.text)
     files = packed.files(timetable, arguments.folder)
-    asked = programs.Programs(arguments.programs)
+    asked = programs.Programs(PROGRAMS, arguments.programs)
     queries = [answer(timetable, query, packed.folder_of(timetable, query, arguments.folder), asked) for query in timetable.queries]
     files |= {one.folder / packed.SHEET: one.text.encode() for one in queries}
     return Answers(timetable, queries, files)
@@ -55,10 +56,8 @@ def answers(arguments):
 
 def answer(timetable, query, folder, asked):
     """The answer to a query, out of a folder that is gone afterwards."""
-    with tempfile.TemporaryDirectory() as place:
-        pathlib.Path(place, packed.SAILINGS).write_bytes(packed.sailings_bytes(timetable))
-        pathlib.Path(place, packed.QUERY).write_bytes(packed.query_bytes(query))
-        text, words = asked.sheet(place), asked.explain(place)
+    with passing({packed.SAILINGS: packed.sailings_bytes(timetable), packed.QUERY: packed.query_bytes(query)}) as place:
+        text, words = asked.words(SHEET, place), asked.words(EXPLAIN, place)
     read = sheet.read(text)
     rides = [] if read.refusal else sheet.joined(read, words, timetable, query)
     return Answer(query, folder, text, read, words, rides)

@@ -1,7 +1,8 @@
-"""Files read whole, and sets of files written all or not at all."""
+"""Files read whole, and sets of files written all or not at all, or only for a while."""
 import contextlib
 import os
 import pathlib
+import tempfile
 
 from messages import Trouble, reason
 
@@ -19,6 +20,17 @@ def named(path):
 def read_file(path):
     with named(path):
         return pathlib.Path(path).read_bytes()
+
+
+@contextlib.contextmanager
+def passing(contents):
+    """A folder with the bytes of each file name, which is gone afterwards."""
+    with tempfile.TemporaryDirectory() as folder:
+        for name, content in contents.items():
+            path = pathlib.Path(folder, name)
+            with named(path):
+                path.write_bytes(content)
+        yield folder
 
 
 def make_folders(paths, made):

@@ -91,7 +91,7 @@ class Reading:
 def read_names(data, file, timetable):
     """The names in a file's bytes, for a timetable that they fit."""
     reading, faults, written = Reading(timetable), [], lines(data)
-    for line, words in statements(data).items():
+    for line, words in statements(data):
         try:
             if isinstance(words, WrongLine):
                 raise words

@@ -1,4 +1,4 @@
-"""Finds the programs `sheet` and `explain` and runs them.
+"""Finds the programs that a command asks and runs them.
 
 They have no exit status of their own, so their words are all that can be judged.
 """
@@ -9,27 +9,24 @@ import subprocess
 from messages import Trouble
 
 ROOT = pathlib.Path(__file__).resolve().parent.parent
-NAMES = ("sheet", "explain")
 SECONDS = 60  # the longest sheet takes a few thousandths of one
 
 
 class Programs:
-    """The two programs of a folder, or of the places where they usually stand."""
+    """The programs of these names in a folder, or in the places where they usually stand."""
 
-    def __init__(self, folder=None):
+    def __init__(self, names, folder=None):
         places = [pathlib.Path(folder)] if folder is not None else [ROOT / "bin", ROOT / "target" / "bin"]
-        self.paths = {name: found(name, places) for name in NAMES}
+        self.paths = {name: found(name, places) for name in names}
 
-    def sheet(self, folder):
-        """What `sheet` prints of the files `sailings` and `query` in a folder."""
-        return words(self.paths["sheet"], folder)
-
-    def explain(self, folder):
-        return words(self.paths["explain"], folder)
+    def words(self, name, folder):
+        """What a program prints of the files in a folder."""
+        return words(self.paths[name], folder)
 
 
-def add_option(parser):
-    parser.add_argument("--programs", metavar="FOLDER", help="the folder of the programs sheet and explain (else bin, else target/bin)")
+def add_option(parser, names):
+    wanted = f"the program {names[0]}" if len(names) == 1 else f"the programs {' and '.join(names)}"
+    parser.add_argument("--programs", metavar="FOLDER", help=f"the folder of {wanted} (else bin, else target/bin)")
 
 
 def found(name, places):

@@ -14,7 +14,7 @@ class Text:
         self.faults = {}
         self.said = {kind: {} for kind in FORMS}
         self.wrong = {kind: {} for kind in (*FORMS, UNKNOWN)}  # the words of lines that are wrong by themselves
-        for line, words in statements(data).items():
+        for line, words in statements(data):
             self.add(line, words)
 
     def add(self, line, words):

@@ -1,4 +1,4 @@
-"""Days, times of day, and from when to when a sailing goes."""
+"""Days, times of day, from when to when a sailing goes, and when one landed."""
 import re
 
 from timetable import DAY, LAST_DAY, LAST_MINUTE, time_text
@@ -8,6 +8,7 @@ from words import Word, WrongLine
 CLOCK = re.compile("([0-9]{1,2}):([0-9]{2})")
 NAMED_DAY = re.compile(f"d([1-{LAST_DAY}])")
 NEXT_DAY = "+1"
+HALF_DAY = DAY // 2
 
 
 def clock(word):
@@ -43,9 +44,22 @@ def days(word):
     return sorted(named)
 
 
+def on_day(words, word, asked):
+    """A day, whose word is taken, and a time of day, as a minute."""
+    return day(word, asked) + clock(words.take("a time of day"))
+
+
 def moment(words, asked):
-    """A day and a time of day, as a minute."""
-    return day(words.take(asked), asked) + clock(words.take("a time of day"))
+    return on_day(words, words.take(asked), asked)
+
+
+def without_day(words, word, midnight, opening):
+    """A time on the day that a midnight opens, or +1 and a time on the day behind the one that `opening` opens; None for another word."""
+    if ":" in word.text:
+        return midnight + clock(word)
+    if word == Word(NEXT_DAY):
+        return opening + DAY + clock(words.take("a time of day"))
+    return None
 
 
 def departure(words, repeated):
@@ -53,24 +67,22 @@ def departure(words, repeated):
     if not repeated:
         return moment(words, "the departure's day behind two stops")
     word = words.take("the departure's time")
-    if word == Word(NEXT_DAY):
-        return DAY + clock(words.take("a time of day"))
-    if ":" not in word.text:
+    found = without_day(words, word, 0, 0)
+    if found is None:
         raise WrongLine(word, "a departure such as 07:00 or +1 00:20 behind two stops, without a day since the line has days")
-    return clock(word)
+    return found
 
 
 def arrival(words, departs, repeated):
     """The arrival, counted as the departure is; and whether its day was left to the departure's."""
     word = words.take("the arrival")
     midnight = departs - departs % DAY
-    if ":" in word.text:
-        return midnight + clock(word), True
-    if word == Word(NEXT_DAY):
-        return (0 if repeated else midnight) + DAY + clock(words.take("a time of day")), False
-    if repeated:
+    found = without_day(words, word, midnight, 0 if repeated else midnight)
+    if found is None and repeated:
         raise WrongLine(word, "an arrival such as 07:40 or +1 00:20, without a day since the line has days")
-    return day(word, "an arrival such as 07:40 or +1 00:20, or its day") + clock(words.take("a time of day")), False
+    if found is None:
+        found = on_day(words, word, "an arrival such as 07:40 or +1 00:20, or its day")
+    return found, ":" in word.text
 
 
 def spans(words, repeated):
@@ -83,6 +95,32 @@ def spans(words, repeated):
         read = f"an arrival at {time_text(arrives)[3 * bool(repeated):]}"
         raise WrongLine(read, f"one after the departure at {time_text(departs)[3 * bool(repeated):]}{hint}")
     found = [(first + departs, first + arrives) for first in ((number - 1) * DAY for number in repeated or [1])]
-    if found[-1][1] > LAST_MINUTE:
-        raise WrongLine(f"an arrival at {time_text(found[-1][1])}", f"one by {time_text(LAST_MINUTE)}, when the week ends")
+    ask_within_week("an arrival", found[-1][1])
     return found
+
+
+def ask_within_week(what, minute):
+    if minute > LAST_MINUTE:
+        raise WrongLine(f"{what} at {time_text(minute)}", f"one by {time_text(LAST_MINUTE)}, when the week ends")
+
+
+def landing(words):
+    """The planned and the actual minute of a landing, which may be early."""
+    planned = moment(words, "the planned day behind the class")
+    word = words.take("the actual landing")
+    midnight = planned - planned % DAY
+    actual = without_day(words, word, midnight, midnight)
+    if actual is None:
+        actual = on_day(words, word, "a landing such as 07:52 or +1 00:20, or its day")
+    if ":" in word.text:
+        ask_day_known(word, planned, actual)
+    ask_within_week("a landing", actual)
+    return planned, actual
+
+
+def ask_day_known(word, planned, actual):
+    """A time alone that is more than half a day off the planned one may be meant for another day: where midnight lies between them."""
+    if abs(actual - planned) > HALF_DAY:
+        nearer = actual + DAY if actual < planned else actual - DAY
+        hint = f" (is {time_text(nearer)} meant?)" if 0 <= nearer <= LAST_MINUTE else ""
+        raise WrongLine(f"{word} for {time_text(planned)}", f"the day too where it is more than 12 hours off{hint}")

@@ -28,11 +28,16 @@ def written(name, number):
 
 
 def class_text(table, name):
-    called = "" if name is None else f" {in_text(name)}"
     pair = house.pair_of(table)
-    if pair:
-        return f"class{called} house {pair[0]} {pair[1]}"
-    return f"class{called} shares {' '.join(str(share) for share in table)}"
+    return f"{named_class(name)} house {pair[0]} {pair[1]}" if pair else shares_text(table, name)
+
+
+def shares_text(table, name):
+    return f"{named_class(name)} shares {' '.join(str(share) for share in table)}"
+
+
+def named_class(name):
+    return "class" if name is None else f"class {in_text(name)}"
 
 
 def query_text(query, stops):

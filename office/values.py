@@ -1,7 +1,7 @@
 """The numbers and names that a word can be."""
 import re
 
-from timetable import MOST_STOPS, MOST_TRIPS
+from timetable import MOST_CLASSES, MOST_STOPS, MOST_TRIPS
 from words import Word, WrongLine
 
 OWN_WORDS = ("stop", "stops", "class", "shares", "house", "sail", "trip", "days", "query", "name", "bound", "margin", "gate",
@@ -70,11 +70,20 @@ def query_name(word):
     return text
 
 
-def trip(word):
-    """A trip's number, or its name."""
+def called(word, thing, most):
+    """What a word calls a thing by: its number, of at most so many, or its name."""
     if is_number(word):
-        return number(word, 0, MOST_TRIPS - 1, "a trip's number")
-    return name(word, "a trip's number or its name")
+        return number(word, 0, most - 1, f"a {thing}'s number")
+    return name(word, f"a {thing}'s number or its name")
+
+
+def trip(word):
+    return called(word, "trip", MOST_TRIPS)
+
+
+def kind(word):
+    """A class by number or name."""
+    return called(word, "class", MOST_CLASSES)
 
 
 def stop(word):

@@ -76,12 +76,11 @@ def lines(data):
 
 
 def statements(data):
-    """Each line that isn't empty, by its number from 1: its words, or why it can't be read."""
-    found = {}
+    """Each line that isn't empty, with its number from 1: its words, or why it can't be read."""
     for place, line in enumerate(lines(data), 1):
         try:
-            if words := split(decoded(line)):
-                found[place] = words
+            words = split(decoded(line))
         except WrongLine as wrong:
-            found[place] = wrong
-    return found
+            words = wrong
+        if words:
+            yield place, words

@@ -6,6 +6,7 @@ import subprocess
 from unittest import mock
 
 from good import W, W_TEXT, several_case, widest_case
+from planner import BIN
 from running import SCRIPT, called, files_in, finish, room, started
 
 FEW_BYTES = 10000
@@ -14,7 +15,9 @@ FEW_BYTES = 10000
 def laid(folder):
     """A packed folder, texts, and things that are in the way."""
     folder = pathlib.Path(folder)
-    for name, text in {"w": W_TEXT, "several": several_case()[0], "widest": widest_case()[0], "wrong": "stops"}.items():
+    texts = {"w": W_TEXT, "several": several_case()[0], "widest": widest_case()[0], "wrong": "stops"}
+    logs = {"log": "ferry d1 07:40 07:52\n", "long": "ferry d1 07:40 07:52\n" * FEW_BYTES}
+    for name, text in {**texts, **logs}.items():
         (folder / f"{name}.txt").write_text(text)
     for name in ("packed", "blocked/query"):
         (folder / name).mkdir(parents=True)
@@ -46,6 +49,10 @@ def unreadable(folder):
     yield ("unpack", folder / "empty"), "empty/sailings: No such file"
     yield ("unpack", folder / "w.txt"), "w.txt/sailings: Not a directory"
     yield ("unpack", folder / "blocked"), "refused 1"
+    yield ("tables", folder / "none.txt"), "none.txt: No such file"
+    yield ("tables", folder / "packed"), "packed: Is a directory"
+    yield ("tables", folder / "wrong.txt"), "wrong.txt:1: read stops"
+    yield ("tables", folder / "log.txt", "--programs", folder), "the program tables is not in"
 
 
 def small_files():
@@ -71,7 +78,7 @@ def nobody_reads(*words):
 def unprinted(folder):
     """Commands whose printing fails, each with how it is started."""
     commands = ["unpack", folder / "packed"], ["pack", folder / "w.txt", folder / "packed"], ["--help"], ["pack", "--help"]
-    for words in commands:
+    for words in (*commands, ["tables", folder / "log.txt", "--programs", BIN]):
         for buffered in ({}, {"PYTHONUNBUFFERED": "1"}):
             environment = {name: value for name, value in os.environ.items() if name != "PYTHONUNBUFFERED"} | buffered
             with open("/dev/full", "w") as full:
@@ -81,7 +88,8 @@ def unprinted(folder):
 
 
 def misused():
-    for words in ([], ["what"], ["pack"], ["pack", "a"], ["unpack"], ["unpack", "a", "b"], ["pack", "--loud", "a", "b"]):
+    packing = ["pack"], ["pack", "a"], ["unpack"], ["unpack", "a", "b"], ["pack", "--loud", "a", "b"]
+    for words in ([], ["what"], *packing, ["tables"], ["tables", "a", "b"]):
         yield words, called(*words), 2, "usage: office"
     yield "--help", called("--help"), 0, ""
 
@@ -122,6 +130,8 @@ def all_failures(folder):
         yield checked(folder, words, started(*words), 1, piece, before)
     for words in (["pack", folder / "widest.txt", folder / "packed"], ["pack", folder / "widest.txt", folder / "new/deep"]):
         yield checked(folder, words, started(*words, preexec_fn=small_files), 1, "File too large; nothing was written", before)
+    words = ["tables", folder / "long.txt", "--programs", BIN]
+    yield checked(folder, words, started(*words, preexec_fn=small_files), 1, "landings: File too large", before)
     for what, ended, piece in unprinted(folder):
         yield checked(folder, what, ended, 1, piece, before)
     for words, ended, status, piece in misused():

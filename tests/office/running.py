@@ -33,6 +33,13 @@ def room():
     return tempfile.TemporaryDirectory(dir="/dev/shm" if os.path.isdir("/dev/shm") else None)
 
 
+def lay(folder, text):
+    """A text, as a file in a folder."""
+    path = pathlib.Path(folder, "text")
+    path.write_bytes(text if isinstance(text, bytes) else text.encode())
+    return path
+
+
 def called(*words):
     """Exit status, standard output and standard error of a call in this process."""
     out, err = io.StringIO(), io.StringIO()

@@ -6,9 +6,9 @@ import subprocess
 import unittest.mock
 
 import generated
-from running import ROOT, called, files_in, finish, room, started
+from planner import BIN, RUNNER, program, program_words, stand_ins_run
+from running import ROOT, called, files_in, finish, lay, room, started
 
-BIN, RUNNER = ROOT / "target" / "bin", ROOT / "tools" / "x86_64"
 W = (ROOT / "examples" / "w.txt").read_text()
 W_PRINTED = """stop 0 to stop 2, from d1 09:50
 expected d1 11:15, latest d1 11:30, 3 rides
@@ -120,12 +120,6 @@ SHEET = (ROOT / "examples" / "w" / "sheet").read_text()
 LINES = SHEET.splitlines(keepends=True)
 
 
-def lay(folder, text):
-    path = pathlib.Path(folder, "text")
-    path.write_text(text, encoding="utf-8")
-    return path
-
-
 def printed_failure(what, text, wanted, status):
     """A text's sheets as printed, a reason in the words of `explain` itself."""
     with room() as folder:
@@ -133,10 +127,6 @@ def printed_failure(what, text, wanted, status):
         again = started("sheets", f"{folder}/text", f"{folder}/sheets", "--programs", BIN)
         reason = program_words("explain", f"{folder}/sheets/late").decode().replace("refused 8\n", "") if status else ""
     return None if found == again == (status, wanted.format(reason=reason), "") else f"{what}: {found}, then {again}"
-
-
-def program_words(program, folder):
-    return subprocess.run([RUNNER, "run", BIN / program], cwd=folder, capture_output=True, check=True).stdout
 
 
 def written_failure(what, text):
@@ -158,12 +148,6 @@ def written_failure(what, text):
     shown = len(re.findall(r"d\d \d\d:\d\d", "".join(part for part in out.split("\n\n") if "refused" not in part)))
     queries = text.count("\nquery")
     return None if shown == times + queries - refused else f"{what}: {shown} times are printed, not {times} and those of {queries} queries"
-
-
-def program(path, words, more=""):
-    """A stand-in that prints words."""
-    path.write_text(f"#!/bin/sh\ncat <<'END'\n{words}END\n{more}\n" if words.endswith("\n") else f"#!/bin/sh\nprintf %s '{words}'\n{more}\n")
-    path.chmod(0o755)
 
 
 def wrong_programs():
@@ -197,7 +181,7 @@ def wrong_programs():
 def gate_failures():
     """W's sheet, whatever is asked: it is taken where one still gets the first boat, and the last one onward, in the minute in which its
     gate closes, and not a minute later."""
-    with room() as place, unittest.mock.patch("platform.machine", lambda: "x86_64"):
+    with room() as place, stand_ins_run():
         program(pathlib.Path(place, "sheet"), SHEET)
         program(pathlib.Path(place, "explain"), program_words("explain", ROOT / "examples" / "w").decode())
         for start, gate, word in (("09:58", 2, ""), ("09:59", 2, "first line"), ("09:40", 10, ""), ("09:40", 11, "to be had at stop 1 at d1 10:40")):
@@ -212,7 +196,7 @@ def gate_failures():
 
 def refusing_failure(command, what, place, word, text=W):
     """With these programs a command ends with one message, and leaves nothing."""
-    with room() as folder, unittest.mock.patch("platform.machine", lambda: "x86_64"):  # stand-ins run everywhere
+    with room() as folder, stand_ins_run():
         status, out, err = called(command, lay(folder, text), f"{folder}/made", "--programs", place)
         left = sorted(path.name for path in pathlib.Path(folder).iterdir())
     if (status, out, left) == (1, "", ["text"]) and err.count("\n") == 1 and word in err:
