@@ -1,5 +1,5 @@
-"""Runs `sheet` and `explain` on files that documents 01 and 02 draw lines between, and compares all that they print; then every program where
-the standard output cannot be written, which must be told in one line on standard error.
+"""Runs `sheet`, `explain` and `tables` on files that documents 01 and 02 draw lines between, and compares all that they print; then every
+program where the standard output cannot be written, which must be told in one line on standard error.
 
 usage: programs.py RUNNER FOLDER
 
@@ -8,6 +8,7 @@ What must be printed is written beside each case, from the documents; that of th
 import fcntl
 import os
 import pathlib
+import struct
 import subprocess
 import sys
 import tempfile
@@ -233,8 +234,58 @@ def cases():
     yield "27,920 bytes, a query of 9", file, ask + b"\0", "refused 6\n", None
 
 
-def lay(folder, sailings, query):
-    for name, content in (("sailings", sailings), ("query", query)):
+def landing_bytes(*landings):
+    return b"".join(struct.pack("<2H", planned, actual) for planned, actual in landings)
+
+
+def table_words(shares, counts, apart=0):
+    lines = (f"table {len(counts) - 1} landings {sum(counts)} apart {apart}", "shares " + " ".join(map(str, shares)), "counts " + " ".join(map(str, counts)))
+    return "".join(f"{line}\n" for line in lines)
+
+
+def few_landings():
+    """Landings at both sides of each line of document 02, E4, and what `tables` says of them."""
+    yield "one landing on time", landing_bytes((600, 600)), table_words([4096], [1])
+    yield "a minute early, on time and a minute late", landing_bytes((600, 599), (600, 600), (600, 601)), table_words([2730, 1366], [2, 1])
+    yield "early across midnight", landing_bytes((1445, 1438)), table_words([4096], [1])
+    for late in (119, 120):
+        yield f"{late} minutes late", landing_bytes((600, 600 + late)), table_words([0] * late + [4096], [0] * late + [1])
+    yield "121 minutes late, and one on time", landing_bytes((600, 721), (0, 0)), table_words([4096], [1], apart=1)
+    for count, stand in ((1, "1 stands"), (2, "2 stand")):
+        nothing = f"refused 16\nNo landing is at most 120 minutes late: {stand} apart.\n"
+        yield f"{count} apart alone", landing_bytes(*[(600, 721)] * count), nothing
+    yield "minute 10,079, either way", landing_bytes((10079, 10079), (10079, 0)), table_words([4096], [2])
+    for planned, actual in ((10080, 10079), (10079, 10080), (65535, 65535)):
+        wrong = "refused 14\nLanding 1, counted from 0: its planned or its actual minute is above 10079.\n"
+        yield f"a landing planned for {planned} at {actual}", landing_bytes((0, 0), (planned, actual), (0, 0)), wrong
+
+
+def many_landings():
+    """As many landings as a count holds, and one more; as many bytes as are read, and one more."""
+    yield "1,000,000 on time", landing_bytes((0, 0)) * 1000000, table_words([4096], [1000000])
+    full_count = "refused 15\nLanding 1000000, counted from 0: 1000000 landings are counted where it belongs, and no count goes further.\n"
+    yield "1,000,001 on time", landing_bytes((0, 0)) * 1000001, full_count + "Take the landings of a shorter time.\n"
+    half = 524288
+    yield "4,194,304 bytes", landing_bytes((0, 0), (0, 1)) * half, table_words([2048, 2048], [half, half])
+    long = "The file landings has more than 4194304 bytes, the most that is read. No table was made.\nTake the landings of a shorter time.\n"
+    yield "4,194,305 bytes", landing_bytes((0, 0), (0, 1)) * half + b"\0", long
+
+
+def table_cases():
+    """What the case is, the file `landings`, and the words of `tables`."""
+    yield "landings missing", MISSING, "refused 16\nThere is no file landings in this folder.\n"
+    yield "landings empty", b"", "refused 16\nThe file landings is empty.\n"
+    for content in REASONS:
+        yield f"landings {content}", content, "refused 16\nThe file landings cannot be read.\n"
+    for length in (1, 3, 5):
+        cut = "The file landings ends inside a landing, which has 4 bytes. No table was made.\n"
+        yield f"landings of {length} bytes", bytes(length), cut
+    yield from few_landings()
+    yield from many_landings()
+
+
+def lay(folder, files):
+    for name, content in files.items():
         path = pathlib.Path(folder, name)
         if content == FOLDER:
             path.mkdir()
@@ -253,10 +304,9 @@ def run(words, folder, out):
     return (ended.stdout or b"").decode(errors="replace"), told
 
 
-def unreadable(program, sailings, query):
+def unreadable(program, files):
     """What a program must tell of files that it cannot read."""
-    files = (("sailings", sailings), ("query", query))
-    return "".join(f"{program}: {name} cannot be read: {REASONS[content]}\n" for name, content in files if content in REASONS)
+    return "".join(f"{program}: {name} cannot be read: {REASONS[content]}\n" for name, content in files.items() if content in REASONS)
 
 
 def refusal(words):
@@ -301,9 +351,9 @@ def outputs_told(runner, programs):
     """Every program with an output that is full from the start, that is closed, and, of the longest sheet and its words, full part-way."""
     file, ask, sheet, words = longest()
     with tempfile.TemporaryDirectory() as folder:
-        lay(folder, file, ask)
+        lay(folder, {"sailings": file, "query": ask, "landings": landing_bytes((600, 600))})
         stored = {name: pathlib.Path("crates", name, "data") for name in ("run_check", "run_sheets", "run_explain")}
-        for program, place in {"sheet": folder, "explain": folder, **stored}.items():
+        for program, place in {"sheet": folder, "explain": folder, "tables": folder, **stored}.items():
             for kind in (full, closed):
                 found, wanted = kind([runner, "run", programs / program], place)
                 yield differs(f"output {kind.__name__}", program, wanted, found)
@@ -315,18 +365,28 @@ def outputs_told(runner, programs):
 
 def files_told(runner, programs):
     for case, sailings, query, sheet, words in cases():
+        files = {"sailings": sailings, "query": query}
         with tempfile.TemporaryDirectory() as folder:
-            lay(folder, sailings, query)
+            lay(folder, files)
             for program, wanted in (("sheet", sheet), ("explain", words)):
                 found, told = run([runner, "run", programs / program], folder, subprocess.PIPE)
                 if wanted is None:
                     wanted, found = sheet, refusal(found)
-                yield differs(case, program, wanted, found) + differs(case, program, unreadable(program, sailings, query), told)
+                yield differs(case, program, wanted, found) + differs(case, program, unreadable(program, files), told)
+
+
+def tables_told(runner, programs):
+    for case, landings, words in table_cases():
+        files = {"landings": landings}
+        with tempfile.TemporaryDirectory() as folder:
+            lay(folder, files)
+            found, told = run([runner, "run", programs / "tables"], folder, subprocess.PIPE)
+        yield differs(case, "tables", words, found) + differs(case, "tables", unreadable("tables", files), told)
 
 
 def main():
     runner, programs = (pathlib.Path(word).resolve() for word in sys.argv[1:])
-    files = list(files_told(runner, programs))
+    files = [*files_told(runner, programs), *tables_told(runner, programs)]
     outputs = list(outputs_told(runner, programs))
     failed = sum(files) + sum(outputs)
     print(f"programs: {len(files)} runs on files, {len(outputs)} on outputs that fail, {failed} differences")
