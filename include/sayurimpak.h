@@ -61,7 +61,7 @@ extern "C" {
  * -------------------
  * Below SAYURIMPAK_REFUSED: the plan's ride count, 1 to 2,000.
  * Above it:                 SAYURIMPAK_REFUSED plus a refusal's number, 1 to 8.
- * (Higher numbers are those of other programs, as 9 and 11 to 13 of `import`.)
+ * (Higher numbers are those of other programs, as 9 and 11 to 13 of `import`, 14 to 16 of `tables`.)
  *
  * Refusals are looked for in this order, and the first is answered:
  *

@@ -1,6 +1,6 @@
 -- What the call for a log returns, for every log's bytes and tally, over its contract. Assumes nothing.
 use Prim.Native.Nat.{ℕ, _≤_}
-use mathlib.Core.List.{List}
+use mathlib.Core.List.{List, [], _∷_}
 use mathlib.Core.Logic.{_↔_}
 use mathlib.Core.Path.{_≡_, ap, sym, _∙_}
 use lib.ListN.{length}
@@ -10,10 +10,10 @@ use denote.Triple.Clauses.{AtExit}
 use borrow.Fn.Kinds.{Dens, resT, endedOf}
 use Rattle.file_layout.specs.Format.{versionOne}
 use Rattle.tally.specs.declared.Landing.{Landing}
-use Rattle.tally.specs.declared.Logged.the-variants.{All}
+use Rattle.tally.specs.declared.Logged.the-variants.{All, Refused}
 use Rattle.tally.specs.Tally.{emptyTally}
 use Rattle.tally.specs.Log.{tallyOf, InWeeks, InLimit}
-use Rattle.tally.specs.LogOutcome.{landingsIn, logOutcome}
+use Rattle.tally.specs.LogOutcome.{landingsIn, logOutcome, logAnswer}
 use Rattle.tally.proofs.Logs.{log-exactly, log-tallied}
 use Rattle.tally.proofs.tally_log.Kinds as kinds
 use Rattle.tally.proofs.tally_log.Reads as reads
@@ -39,3 +39,12 @@ module _ (κs : Lfts 2) (arguments : Dens κs kinds.ps) (answer : resT kinds.r �
   tallied n told =
       let found = log-tallied versionOne log n (sym answered ∙ told) in
       (found .0, permitted .1 ∙ ap (λ (t : List ℕ). logOutcome versionOne 0 log t .tally) empty ∙ found .1)
+
+  -- answered by number 0, place 0 and how many landings were counted; a refusal by its number, at the landing's place in the log
+  pub all-by-number : (n : ℕ) → answer ≡ All n → logAnswer answer ≡ record { number = 0; place = 0; values = n ∷ [] }
+  unfolding logAnswer
+  all-by-number n told = ap logAnswer told
+
+  pub refused-by-number : (number place : ℕ) → answer ≡ Refused number place → logAnswer answer ≡ record { number = number; place = place; values = [] }
+  unfolding logAnswer
+  refused-by-number number place told = ap logAnswer told

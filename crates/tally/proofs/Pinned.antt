@@ -4,11 +4,13 @@ use mathlib.Core.List.{List, [], _∷_}
 use mathlib.Core.Path.{_≡_, refl}
 use lib.IntN.{pos, negsuc}
 use lib.ListN.{set}
+use Rattle.numbers.specs.Numbers.{u16At}
 use Rattle.file_layout.specs.Format.{versionOne}
 use Rattle.delay_tables.specs.Rising.{valuesFrom}
 use Rattle.tally.specs.Landing.{landingAt, lateness, countedAs}
 use Rattle.tally.specs.Tally.{countAt, placeOf, emptyTally, countsRule, roomRule, minutesRule, withLanding}
 use Rattle.tally.specs.Log.{landingsAt, tallyOf}
+use Rattle.tally.specs.LogOutcome.{LogOutcome, landingsFrom, landingsIn, logOutcome, logAnswer}
 use Rattle.tally.specs.Outcome.{landingVerdict, landingOutcome, tallyAnswer}
 
 -- lateness may be below zero, and then counts as 0
@@ -50,3 +52,17 @@ minutes-line = refl
 pub small-log : tallyOf 4 (landingAt 600 598 ∷ landingAt 600 603 ∷ landingAt 600 605 ∷ landingAt 700 700 ∷ []) ≡ 2 ∷ 0 ∷ 0 ∷ 1 ∷ 0 ∷ 1 ∷ []
 unfolding tallyOf valuesFrom landingsAt placeOf
 small-log = refl
+
+-- a log's bytes: four a landing, and what is left over is none
+pub log-bytes : landingsIn (88 ∷ 2 ∷ 93 ∷ 2 ∷ 95 ∷ 39 ∷ 0 ∷ 0 ∷ 7 ∷ 7 ∷ 7 ∷ []) ≡ landingAt 600 605 ∷ landingAt 10079 0 ∷ []
+unfolding landingsIn landingsFrom u16At
+log-bytes = refl
+
+-- a log of three landings, of which the second is refused: the first is counted, and the place is the second's
+abbrev stopped : LogOutcome
+stopped = logOutcome versionOne 0 (landingAt 600 605 ∷ landingAt 600 10080 ∷ landingAt 600 606 ∷ []) (emptyTally 120)
+
+pub log-stops : logAnswer (stopped .answer) .number ∷ logAnswer (stopped .answer) .place ∷ countAt (stopped .tally) 5 ∷ countAt (stopped .tally) 6 ∷ []
+    ≡ 14 ∷ 1 ∷ 1 ∷ 0 ∷ []
+unfolding logOutcome landingOutcome landingVerdict minutesRule countsRule roomRule placeOf withLanding logAnswer
+log-stops = refl
