@@ -9,10 +9,10 @@
 #include <csignal>
 #include <cstdio>
 #include <cstdlib>
-#include <cstring>
 #include <ctime>
 #include <fstream>
 
+#include "../second/options.hpp"
 #include "generate.hpp"
 
 using namespace second;
@@ -103,23 +103,12 @@ void try_text(uint64_t seed) {
     complain(seed, made, difference_between(defined, got));
 }
 
-bool read_options(int words, char **arguments, Options &options) {
-  for (int place = 1; place < words; place += 2) {
-    const char *word = arguments[place];
-    uint64_t *value = std::strcmp(word, "--texts") == 0  ? &options.texts
-                      : std::strcmp(word, "--seed") == 0 ? &options.seed
-                                                         : nullptr;
-    if (!value || place + 1 == words) return false;
-    *value = std::strtoull(arguments[place + 1], nullptr, 10);
-  }
-  return true;
-}
-
 }  // namespace
 
 int main(int words, char **arguments) {
   Options options;
-  if (!read_options(words, arguments, options)) {
+  if (!read_options(words, arguments,
+                    {{"--texts", &options.texts}, {"--seed", &options.seed}})) {
     std::fprintf(stderr, "compare [--texts N] [--seed S]\n");
     return 2;
   }

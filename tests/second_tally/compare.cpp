@@ -9,11 +9,11 @@
 #include <csignal>
 #include <cstdio>
 #include <cstdlib>
-#include <cstring>
 #include <ctime>
 #include <fstream>
 #include <map>
 
+#include "../second/options.hpp"
 #include "generate.hpp"
 
 using namespace second;
@@ -163,23 +163,12 @@ struct Options {
   uint64_t tallies = 100000, seed = 1;
 };
 
-bool read_options(int words, char **arguments, Options &options) {
-  for (int place = 1; place < words; place += 2) {
-    const char *word = arguments[place];
-    uint64_t *value = std::strcmp(word, "--tallies") == 0 ? &options.tallies
-                      : std::strcmp(word, "--seed") == 0  ? &options.seed
-                                                          : nullptr;
-    if (!value || place + 1 == words) return false;
-    *value = std::strtoull(arguments[place + 1], nullptr, 10);
-  }
-  return true;
-}
-
 }  // namespace
 
 int main(int words, char **arguments) {
   Options options;
-  if (!read_options(words, arguments, options)) {
+  if (!read_options(words, arguments,
+                    {{"--tallies", &options.tallies}, {"--seed", &options.seed}})) {
     std::fprintf(stderr, "compare [--tallies N] [--seed S]\n");
     return 2;
   }

@@ -5,6 +5,7 @@ pub mod Places
 pub mod Answers
 pub mod Ends
 pub mod Endings
+pub mod Kept
 pub mod LogSteps
 pub mod Logs
 pub mod Small

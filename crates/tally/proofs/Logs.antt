@@ -28,6 +28,7 @@ use Rattle.tally.specs.Returned as ways
 use Rattle.tally.proofs.Places.{place-inside}
 use Rattle.tally.proofs.Ends.{minutes-broken, one-grows, landing-ends}
 use Rattle.tally.proofs.Answers.{landing-counted}
+use Rattle.tally.proofs.Kept.{limit-kept, still-kept}
 
 -- a tally's counts by place
 pub tally-at : (top : ℕ) (log : List Landing) (place : ℕ) → place < counts top → countAt (tallyOf top log) place ≡ landingsAt top log place
@@ -57,13 +58,6 @@ pub same-tally : (top : ℕ) {log other : List Landing} → Reordered log other 
 unfolding tallyOf
 same-tally top {log} {other} reordered =
     values-same (landingsAt top log) (landingsAt top other) 0 (counts top) (λ place inside. same-landings top reordered place)
-
--- counts that are each within the limit keep the rule
-limit-kept : (tally : List ℕ) → ((place : ℕ) → place < length tally → countAt tally place ≤ mostCount) → countsRule tally ≡ true
-unfolding countsRule
-limit-kept [] within = refl
-limit-kept (c ∷ tally) within =
-    both (le-leb c mostCount (within 0 (omega arith))) (limit-kept tally (λ place inside. within (suc place) (omega (arith, inside))))
 
 -- one landing counted, at its place and at the others
 landing-adds : (top : ℕ) (l : Landing) (tally : List ℕ) → length tally ≡ counts top → (place : ℕ)
@@ -141,28 +135,6 @@ minutes-true : (f : Format) (l : Landing) → (MinuteAbove f l → ⊥) → minu
 minutes-true f l timely =
     ifb (λ t. minutesRule f l ≡ t → minutesRule f l ≡ true) (minutesRule f l) (λ yes same. same)
     (λ no same. absurd (timely (minutes-broken f l same))) refl
-
--- a landing for a count below its limit leaves all counts within it
-still-kept : (top : ℕ) (l : Landing) (tally : List ℕ) → length tally ≡ counts top → ((place : ℕ) → countAt tally place ≤ mostCount)
-    → (countAt tally (placeOf top l) ≡ mostCount → ⊥) → (place : ℕ) → countAt (withLanding top l tally) place ≤ mostCount
-still-kept top l tally sized kept room place =
-    let grown = one-grows top l tally sized in
-    ifb (λ t. eqb place (placeOf top l) ≡ t → countAt (withLanding top l tally) place ≤ mostCount) (eqb place (placeOf top l))
-    (λ yes same.
-    subst (λ (p : ℕ). countAt (withLanding top l tally) p ≤ mostCount) (sym (eqb-true place (placeOf top l) same))
-    (ifb (λ t. eqb (countAt tally (placeOf top l)) mostCount ≡ t → countAt (withLanding top l tally) (placeOf top l) ≤ mostCount)
-    (eqb (countAt tally (placeOf top l)) mostCount) (λ at again. absurd (room (eqb-true (countAt tally (placeOf top l)) mostCount again)))
-    (λ below again.
-    let less : countAt tally (placeOf top l) < mostCount =
-    below-of (countAt tally (placeOf top l)) (kept (placeOf top l)) (eqb-false (countAt tally (placeOf top l)) mostCount again)
-    in
-    omega (arith, grown .one-more, less)) refl))
-    (λ no same. omega (arith, grown .others place (eqb-false place (placeOf top l) same), kept place)) refl
-  where
-    below-of : (c : ℕ) → c ≤ mostCount → (c ≡ mostCount → ⊥) → c < mostCount
-    below-of c within apart-from =
-        ifb (λ t. ltb c mostCount ≡ t → c < mostCount) (ltb c mostCount) (λ yes same. ltb-true c mostCount same)
-        (λ no same. absurd (apart-from (omega (arith, ltb-false c mostCount same)))) refl
 
 -- a log of which all is counted: its minutes are within the version's last, and no count passes its limit
 told-clear : (f : Format) (i : ℕ) (log : List Landing) (tally : List ℕ) (n : ℕ) → length tally ≡ counts (f .delay)

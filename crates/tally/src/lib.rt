@@ -63,46 +63,57 @@ fn tally_as(f: Format, landing: Landing, tally: &mut [u32]) -> Tallied
     ensures { λ r. ⌜ (r ≡ landingOutcome f landing (now (tally .entry)) .answer)
         × (now (tally .exit) ≡ landingOutcome f landing (now (tally .entry)) .tally) ⌝ }
 {
-    if !minutes_rule(landing, f) {
-        return Tallied::Refused {
-            number: 14,
-            place: 0,
-        };
-    }
-    if !counts_rule(tally) {
-        return Tallied::Refused {
-            number: 15,
-            place: 0,
-        };
-    }
-    let at = place_of(landing, f);
-    let count = tally[at];
-    if MOST_COUNT <= count {
-        return Tallied::Refused {
-            number: 15,
-            place: 0,
-        };
-    }
-    tally[at] = count + 1;
-    Tallied::Counted
+    let kept = counts_rule(tally);
+    count(f, landing, kept, tally)
 }
 
-// A log counted by the limits of a version of the file.
+// A log counted by the limits of a version of the file. Its given counts are looked at once: no landing takes one past its limit.
 fn log_as(f: Format, log: &[u8], tally: &mut [u32]) -> Logged
     requires { ⌜ TallyFits f (now tally) ⌝ }
     ensures { λ r. ⌜ (r ≡ logOutcome f 0 (landingsIn (now (log .entry))) (now (tally .entry)) .answer)
         × (now (tally .exit) ≡ logOutcome f 0 (landingsIn (now (log .entry))) (now (tally .entry)) .tally) ⌝ }
 {
+    let kept = counts_rule(tally);
     let landings = log.len() / LANDING;
     let mut i = 0;
     while i < landings {
-        let tallied = tally_as(f, landing_at(log, LANDING * i), tally);
+        let tallied = count(f, landing_at(log, LANDING * i), kept, tally);
         if let Tallied::Refused { number, place: _ } = tallied {
             return Logged::Refused { number, place: i };
         }
         i += 1;
     }
     Logged::All { landings }
+}
+
+// A landing counted in a tally of which `kept` says whether no given count is above its limit.
+fn count(f: Format, landing: Landing, kept: bool, tally: &mut [u32]) -> Tallied
+    requires { ⌜ TallyFits f (now tally) × (kept ≡ countsRule (now tally)) ⌝ }
+    ensures { λ r. ⌜ (r ≡ landingOutcome f landing (now (tally .entry)) .answer)
+        × (now (tally .exit) ≡ landingOutcome f landing (now (tally .entry)) .tally) ⌝ }
+{
+    if !minutes_rule(landing, f) {
+        return Tallied::Refused {
+            number: 14,
+            place: 0,
+        };
+    }
+    if !kept {
+        return Tallied::Refused {
+            number: 15,
+            place: 0,
+        };
+    }
+    let at = place_of(landing, f);
+    let so_far = tally[at];
+    if MOST_COUNT <= so_far {
+        return Tallied::Refused {
+            number: 15,
+            place: 0,
+        };
+    }
+    tally[at] = so_far + 1;
+    Tallied::Counted
 }
 
 // The landing whose bytes start at `at`.

@@ -4,23 +4,28 @@ use mathlib.Core.Path.{_≡_, refl, ap, sym, _∙_}
 use native.Mathlib.Omega.{arith}
 use borrow.Author.Needs.{needs}
 use lib.ListN.{length}
+use Rattle.tally.specs.Tally.{countsRule}
 use Rattle.tally.specs.LogOutcome.{LogOutcome, landingsIn, logOutcome}
+use Rattle.tally.proofs.Kept.{counted-keeps}
 use Rattle.tally.proofs.LogSteps.{rest, outcome-length, log-on, log-stopped, log-end, log-whole}
 use Rattle.tally.proofs.log_as.Statement.{statement}
 use Rattle.tally.proofs.log_as.Tie as tie
 
 abbrev Inv-loop : tie.InvT-loop
-Inv-loop f log tally₀ landings i₀ tally i =
-    (i ≤ landings) × (4 * landings ≤ length log) × (length tally ≡ length tally₀)
+Inv-loop f log tally₀ kept landings i₀ tally i =
+    (i ≤ landings) × (4 * landings ≤ length log) × (length tally ≡ length tally₀) × (kept ≡ countsRule tally)
     × (logOutcome f i (rest f log landings i) tally ≡ logOutcome f 0 (landingsIn log) tally₀)
 
 abbrev μ-loop : tie.MeasureT-loop
-μ-loop f log tally₀ landings i₀ tally i = landings - i
+μ-loop f log tally₀ kept landings i₀ tally i = landings - i
 
 loop-holds : tie.Need-loop-holds Inv-loop μ-loop
 loop-holds c =
-    let a = c .before .before .args in
-    (omega arith, omega arith, refl, log-whole (a .f) (a .log .now) (a .tally .now))
+    let a = c .before .before .before .before .args in
+    (omega arith, omega arith, refl, c .counts-rule .ensures, log-whole (a .f) (a .log .now) (a .tally .now))
+
+counts-rule-requires : tie.Need-counts-rule-requires Inv-loop μ-loop
+counts-rule-requires c κs = search needs
 
 mul-landing-at : tie.Need-mul-landing-at Inv-loop μ-loop
 mul-landing-at c = omega arith
@@ -28,11 +33,11 @@ mul-landing-at c = omega arith
 landing-at-requires : tie.Need-landing-at-requires Inv-loop μ-loop
 landing-at-requires c κs = omega arith
 
-tally-as-requires : tie.Need-tally-as-requires Inv-loop μ-loop
-tally-as-requires c κs =
+count-requires : tie.Need-count-requires Inv-loop μ-loop
+count-requires c κs =
     let at = c .before .before .before in
-    let start = at .before .before .before in
-    record { limits = start .pre .limits; sized = at .loop .inv .2 ∙ start .pre .sized }
+    let start = at .before .before .before .before .before in
+    (record { limits = start .pre .limits; sized = at .loop .inv .2 ∙ start .pre .sized }, at .loop .inv .3)
 
 enum-known-tallied : tie.Need-enum-known-tallied Inv-loop μ-loop
 enum-known-tallied c = search needs
@@ -41,8 +46,8 @@ same-length : tie.Need-same-length Inv-loop μ-loop
 same-length c =
     let called = c .before .before .before .before .before in
     let at = called .before .before .before .before in
-    let a = at .before .before .before .args in
-    ap length (called .tally-as .ensures .1) ∙ outcome-length (a .f) _ (at .loop .tally) ∙ at .loop .inv .2
+    let a = at .before .before .before .before .before .args in
+    ap length (called .count .ensures .1) ∙ outcome-length (a .f) _ (at .loop .tally) ∙ at .loop .inv .2
 
 returns : tie.Need-returns Inv-loop μ-loop
 returns c =
@@ -50,12 +55,12 @@ returns c =
     let called = arm .before .before .before .before in
     let read = called .before .before in
     let at = read .before .before in
-    let a = at .before .before .before .args in
+    let a = at .before .before .before .before .before .args in
     let told =
     sym
     (log-stopped (a .f) (a .log .now) _ (at .loop .i) _ (at .loop .tally) _ (read .before .loop-test .taken) (read .landing-at .ensures)
-    (called .tally-as .ensures .1) _ _ (sym (called .tally-as .ensures .0) ∙ arm .tallied .given .1))
-    ∙ at .loop .inv .3
+    (called .count .ensures .1) _ _ (sym (called .count .ensures .0) ∙ arm .tallied .given .1))
+    ∙ at .loop .inv .4
     in
     (ap (λ (o : LogOutcome). o .answer) told, ap (λ (o : LogOutcome). o .tally) told)
 
@@ -73,14 +78,19 @@ loop-again c =
     let called = c .before .before .before .before in
     let read = called .before .before in
     let at = read .before .before in
-    let a = at .before .before .before .args in (
+    let start = at .before .before .before .before .before in
+    let a = start .args in
+    let kept =
+    counted-keeps (a .f) _ (at .loop .tally) (at .loop .inv .2 ∙ start .pre .sized) (sym (called .count .ensures .0) ∙ c .enum-told .given .1)
+    in (
       omega arith,
       omega arith,
-      ap length (called .tally-as .ensures .1) ∙ outcome-length (a .f) _ (at .loop .tally) ∙ at .loop .inv .2,
+      ap length (called .count .ensures .1) ∙ outcome-length (a .f) _ (at .loop .tally) ∙ at .loop .inv .2,
+      at .loop .inv .3 ∙ kept .0 ∙ sym (kept .1) ∙ ap countsRule (sym (called .count .ensures .1)),
       sym
           (log-on (a .f) (a .log .now) _ (at .loop .i) _ (at .loop .tally) _ (read .before .loop-test .taken) (read .landing-at .ensures)
-          (called .tally-as .ensures .1) (sym (called .tally-as .ensures .0) ∙ c .enum-told .given .1))
-          ∙ at .loop .inv .3,
+          (called .count .ensures .1) (sym (called .count .ensures .0) ∙ c .enum-told .given .1))
+          ∙ at .loop .inv .4,
     )
 
 same-length-2 : tie.Need-same-length-2 Inv-loop μ-loop
@@ -89,8 +99,8 @@ same-length-2 c = c .before .loop .inv .2
 returns-2 : tie.Need-returns-2 Inv-loop μ-loop
 returns-2 c =
     let at = c .before in
-    let a = at .before .before .before .args in
-    let told = sym (log-end (a .f) (a .log .now) _ (at .loop .i) (at .loop .tally) (c .loop-test .left) (at .loop .inv .0)) ∙ at .loop .inv .3 in
+    let a = at .before .before .before .before .before .args in
+    let told = sym (log-end (a .f) (a .log .now) _ (at .loop .i) (at .loop .tally) (c .loop-test .left) (at .loop .inv .0)) ∙ at .loop .inv .4 in
     (ap (λ (o : LogOutcome). o .answer) told, ap (λ (o : LogOutcome). o .tally) told)
 
 pub log-as-spec : {M : Type 1} → statement M
@@ -99,10 +109,11 @@ log-as-spec =
     (tie.spec
     Inv-loop
     μ-loop
+    counts-rule-requires
     loop-holds
     mul-landing-at
     landing-at-requires
-    tally-as-requires
+    count-requires
     enum-known-tallied
     same-length
     returns
