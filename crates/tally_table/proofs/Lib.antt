@@ -1,5 +1,6 @@
 -- The table of a tally: its laws, how its making ends, that the check accepts it, what the call returns.
 pub mod Sums
+pub mod Reciprocals
 pub mod Shares
 pub mod Greatest
 pub mod Answers

@@ -1,5 +1,5 @@
 -- What making a table needs of a version's limits and of the numbers lent, so that no number wraps and none is out of reach.
-use Prim.Native.Nat.{ℕ, suc, _<_, _≤_}
+use Prim.Native.Nat.{ℕ, suc, _/_, _<_, _≤_}
 use mathlib.Core.List.{List}
 use mathlib.Core.Path.{_≡_}
 use lib.ListN.{length}
@@ -21,3 +21,10 @@ pub record SharesFit (tally : List ℕ) (landings delay : ℕ) (shares : List �
   pub some : 0 < landings
   pub among : landingsBy tally delay ≤ landings
   pub small : landings < 4294967296
+
+-- some of the landings, and the reciprocal of all of them in 2^44ths, rounded down
+pub record ShareFits (late landings reciprocal : ℕ) : Type 0 where
+  pub some : 0 < landings
+  pub among : late ≤ landings
+  pub small : landings < 4294967296
+  pub reciprocal-of : reciprocal ≡ 17592186044416 / landings

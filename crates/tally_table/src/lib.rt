@@ -8,9 +8,9 @@ ghost use Rattle.timetable.specs.Classes.{sum};
 ghost use Rattle.file_layout.specs.Format.{versionOne};
 ghost use Rattle.delay_tables.specs.Rising.{sharesOfCumulative};
 ghost use Rattle.tally.specs.Tally.{mostCount, countsRule};
-ghost use Rattle.tally_table.specs.Table.{greatestLate, cumulativeShares};
+ghost use Rattle.tally_table.specs.Table.{greatestLate, cumulativeShares, shareOf};
 ghost use Rattle.tally_table.specs.Outcome.{tableOutcome};
-ghost use Rattle.tally_table.specs.Fits.{TableFits, SharesFit};
+ghost use Rattle.tally_table.specs.Fits.{TableFits, SharesFit, ShareFits};
 use file_layout::Format;
 use file_layout::VERSION_ONE;
 use numbers::cell;
@@ -34,6 +34,11 @@ pub enum Made {
 
 // The most shares of a table of version 1.
 pub const SHARES: usize = 121;
+
+// A reciprocal of so many landings counts 2^44ths, so that a share of 4,096ths is counted in 2^32nds.
+const SCALE: usize = 17592186044416;
+
+const SCALE_OF_SHARES: usize = 4294967296;
 
 // Makes the table of a tally: its shares go to the first numbers of `shares`, one for each delay; a refusal leaves all of them.
 pub fn table_of(tally: &[u32; COUNTS], shares: &mut [u32; SHARES]) -> Made
@@ -108,14 +113,28 @@ fn put_shares(tally: &[u32], landings: usize, delay: usize, shares: &mut [u32])
     requires { ⌜ SharesFit (now tally) landings delay (now shares) ⌝ }
     ensures { λ r. ⌜ now (shares .exit) ≡ over (sharesOfCumulative (cumulativeShares landings (now (tally .entry)) delay)) (now (shares .entry)) ⌝ }
 {
+    let reciprocal = SCALE / landings;
     let mut late = 0;
     let mut ahead = 0;
     let mut x = 0;
     while x <= delay {
         late += number(tally[x]);
-        let share = SHARE_TOTAL * late / landings;
+        let share = share_of(late, landings, reciprocal);
         shares[x] = cell(share - ahead);
         ahead = share;
         x += 1;
     }
+}
+
+// The share of `late` landings, rounded down: by the reciprocal of all it is this or one too small, which one comparison tells. So a
+// table takes one division in all.
+fn share_of(late: usize, landings: usize, reciprocal: usize) -> usize
+    requires { ⌜ ShareFits late landings reciprocal ⌝ }
+    ensures { λ r. ⌜ r ≡ shareOf landings late ⌝ }
+{
+    let share = late * reciprocal / SCALE_OF_SHARES;
+    if (share + 1) * landings <= SHARE_TOTAL * late {
+        return share + 1;
+    }
+    share
 }

@@ -14,12 +14,15 @@ use Rattle.tally_table.proofs.put_shares.Statement.{statement}
 use Rattle.tally_table.proofs.put_shares.Tie as tie
 
 abbrev Inv-loop : tie.InvT-loop
-Inv-loop tally landings delay shares₀ late₀ ahead₀ x₀ shares late ahead x =
+Inv-loop tally landings delay shares₀ reciprocal late₀ ahead₀ x₀ shares late ahead x =
     (x ≤ delay + 1) × (late ≡ sum (take x tally)) × (ahead ≡ shareOf landings late) × (length shares ≡ length shares₀)
     × (sets shares x (rest tally landings delay x late) ≡ sets shares₀ 0 (rest tally landings delay 0 0))
 
 abbrev μ-loop : tie.MeasureT-loop
-μ-loop tally landings delay shares₀ late₀ ahead₀ x₀ shares late ahead x = delay + 1 - x
+μ-loop tally landings delay shares₀ reciprocal late₀ ahead₀ x₀ shares late ahead x = delay + 1 - x
+
+div-reciprocal : tie.Need-div-reciprocal Inv-loop μ-loop
+div-reciprocal c = omega (arith, c .before .before .pre .some)
 
 loop-holds : tie.Need-loop-holds Inv-loop μ-loop
 unfolding sum
@@ -42,34 +45,42 @@ add-late c =
     (c .before .before .loop-test .taken) (at .loop .inv .1) (start .pre .among) in
     omega (arith, within, c .number .ensures .0, start .pre .small)
 
-mul-share : tie.Need-mul-share Inv-loop μ-loop
-mul-share c =
+share-of-requires : tie.Need-share-of-requires Inv-loop μ-loop
+share-of-requires c κs =
     let at = c .before .before .before in
     let start = at .before .before .before in
-    let within = turn-within (start .args .tally .now) (start .args .landings) (start .args .delay) (at .loop .x) (at .loop .late)
-    (c .before .before .loop-test .taken) (at .loop .inv .1) (start .pre .among) in
-    omega (arith, within, c .number .ensures .0, start .pre .small)
-
-div-share : tie.Need-div-share Inv-loop μ-loop
-div-share c = omega arith
+    let within =
+    turn-within (start .args .tally .now) (start .args .landings) (start .args .delay) (at .loop .x) (at .loop .late)
+    (c .before .before .loop-test .taken) (at .loop .inv .1) (start .pre .among)
+    in
+    record { some = start .pre .some; among = omega (arith, within, c .number .ensures .0); small = start .pre .small; reciprocal-of = refl }
 
 sub-cell : tie.Need-sub-cell Inv-loop μ-loop
 sub-cell c =
-    let at = c .before .before .before in
+    let read = c .before in
+    let at = read .before .before .before in
     let start = at .before .before .before in
     omega (
       arith,
       at .loop .inv .2,
-      share-rises (start .args .landings) (at .loop .late) (at .loop .late + c .number .result) (start .pre .some) (omega arith),
+      c .share-of .ensures,
+      share-rises (start .args .landings) (at .loop .late) (at .loop .late + read .number .result) (start .pre .some) (omega arith),
     )
 
 cell-requires : tie.Need-cell-requires Inv-loop μ-loop
 cell-requires c κs =
-    let at = c .before .before .before in
+    let read = c .before in
+    let at = read .before .before .before in
     let start = at .before .before .before in
-    let within = turn-within (start .args .tally .now) (start .args .landings) (start .args .delay) (at .loop .x) (at .loop .late)
-    (c .before .before .loop-test .taken) (at .loop .inv .1) (start .pre .among) in
-    omega (arith, share-within (start .args .landings) (at .loop .late + c .number .result) (start .pre .some) (omega (arith, within, c .number .ensures .0)))
+    let within =
+    turn-within (start .args .tally .now) (start .args .landings) (start .args .delay) (at .loop .x) (at .loop .late)
+    (read .before .before .loop-test .taken) (at .loop .inv .1) (start .pre .among)
+    in
+    omega (
+      arith,
+      c .share-of .ensures,
+      share-within (start .args .landings) (at .loop .late + read .number .result) (start .pre .some) (omega (arith, within, read .number .ensures .0)),
+    )
 
 mul-shares : tie.Need-mul-shares Inv-loop μ-loop
 mul-shares c = omega arith
@@ -85,17 +96,19 @@ loop-less c = omega arith
 
 loop-again : tie.Need-loop-again Inv-loop μ-loop
 loop-again c =
-    let read = c .before in
+    let shared = c .before in
+    let read = shared .before in
     let at = read .before .before .before in
     let a = at .before .before .before .args in
     let now = at .loop in
     let within = read .before .before .loop-test .taken in (
       omega arith,
       rw (add-one (now .x)) (omega (arith, now .inv .1, read .number .ensures .0, sum-more (a .tally .now) (now .x))),
-      refl,
+      shared .share-of .ensures,
       length-set (now .shares) (now .x) (c .cell .result) ∙ now .inv .3,
       turn-keeps (a .tally .now) (a .landings) (a .delay) (now .shares) _ (now .x) (now .late) (now .ahead) (read .number .result) (c .cell .result)
-          within (now .inv .1) (now .inv .2) (read .number .ensures .0) (c .cell .ensures) (now .inv .4),
+          within (now .inv .1) (now .inv .2) (read .number .ensures .0)
+          (c .cell .ensures ∙ ap (λ s. s - now .ahead) (shared .share-of .ensures)) (now .inv .4),
     )
 
 same-length : tie.Need-same-length Inv-loop μ-loop
@@ -115,13 +128,13 @@ put-shares-spec =
     (tie.spec
     Inv-loop
     μ-loop
+    div-reciprocal
     loop-holds
     mul-number
     shared-slice-read-number
     number-requires
     add-late
-    mul-share
-    div-share
+    share-of-requires
     sub-cell
     cell-requires
     mul-shares
