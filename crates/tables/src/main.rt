@@ -8,7 +8,7 @@ use files::open_out;
 use files::read_file;
 use numbers::number;
 use tally::COUNTS;
-use tally::LANDING;
+use tally::LANDING_BYTES;
 use tally::Logged;
 use tally::tally_log;
 use tally_table::Made;
@@ -40,10 +40,10 @@ fn main() {
 
 // What a log comes to; behind it stands how its reading ended.
 fn print_table(log: &[u8], ending: Ending) {
-    if log.len() % LANDING != 0 {
+    if log.len() % LANDING_BYTES != 0 {
         say_number(
             b"The file landings ends inside a landing, which has ",
-            LANDING,
+            LANDING_BYTES,
         );
         say(b" bytes. No table was made.\n");
         return;

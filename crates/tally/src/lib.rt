@@ -36,7 +36,7 @@ pub enum Logged {
 pub const COUNTS: usize = 122;
 
 // A landing's bytes in a log.
-pub const LANDING: usize = 4;
+pub const LANDING_BYTES: usize = 4;
 
 // Each count stops here.
 const MOST_COUNT: u32 = 1000000;
@@ -74,10 +74,10 @@ fn log_as(f: Format, log: &[u8], tally: &mut [u32]) -> Logged
         × (now (tally .exit) ≡ logOutcome f 0 (landingsIn (now (log .entry))) (now (tally .entry)) .tally) ⌝ }
 {
     let kept = counts_rule(tally);
-    let landings = log.len() / LANDING;
+    let landings = log.len() / LANDING_BYTES;
     let mut i = 0;
     while i < landings {
-        let tallied = count(f, landing_at(log, LANDING * i), kept, tally);
+        let tallied = count(f, landing_at(log, LANDING_BYTES * i), kept, tally);
         if let Tallied::Refused { number, place: _ } = tallied {
             return Logged::Refused { number, place: i };
         }
