@@ -8,6 +8,7 @@ pub mod Endings
 pub mod Kept
 pub mod LogSteps
 pub mod Logs
+pub mod Stopped
 pub mod Small
 pub mod TallyCall
 pub mod LogCall

@@ -1,9 +1,9 @@
 -- What the call for a log returns, for every log's bytes and tally, over its contract. Assumes nothing.
-use Prim.Native.Nat.{ℕ, _≤_}
+use Prim.Native.Nat.{ℕ, _<_}
 use mathlib.Core.List.{List, [], _∷_}
 use mathlib.Core.Logic.{_↔_}
 use mathlib.Core.Path.{_≡_, ap, sym, _∙_}
-use lib.ListN.{length}
+use lib.ListN.{length, take}
 use contract.Lifetimes.{Lfts}
 use denote.Ref.{now}
 use denote.Triple.Clauses.{AtExit}
@@ -15,6 +15,7 @@ use Rattle.tally.specs.Tally.{emptyTally}
 use Rattle.tally.specs.Log.{tallyOf, InWeeks, InLimit}
 use Rattle.tally.specs.LogOutcome.{landingsIn, logOutcome, logAnswer}
 use Rattle.tally.proofs.Logs.{log-exactly, log-tallied}
+use Rattle.tally.proofs.Stopped.{stopped-tallied}
 use Rattle.tally.proofs.tally_log.Kinds as kinds
 use Rattle.tally.proofs.tally_log.Reads as reads
 
@@ -38,6 +39,12 @@ module _ (κs : Lfts 2) (arguments : Dens κs kinds.ps) (answer : resT kinds.r �
   pub tallied : (n : ℕ) → answer ≡ All n → (n ≡ length log) × (tally′ ≡ tallyOf 120 log)
   tallied n told =
       let found = log-tallied versionOne log n (sym answered ∙ told) in
+      (found .0, permitted .1 ∙ ap (λ (t : List ℕ). logOutcome versionOne 0 log t .tally) empty ∙ found .1)
+
+  -- where a landing is refused, the tally is that of the landings ahead of it
+  pub stopped : (number place : ℕ) → answer ≡ Refused number place → (place < length log) × (tally′ ≡ tallyOf 120 (take place log))
+  stopped number place told =
+      let found = stopped-tallied versionOne log number place (sym answered ∙ told) in
       (found .0, permitted .1 ∙ ap (λ (t : List ℕ). logOutcome versionOne 0 log t .tally) empty ∙ found .1)
 
   -- answered by number 0, place 0 and how many landings were counted; a refusal by its number, at the landing's place in the log
