@@ -450,9 +450,11 @@ void try_house_share(const Options &options, uint32_t pair, uint32_t minute) {
   std::exit(1);
 }
 
+// All 575 shares, and more than 100,000 pairs and minutes that no table has,
+// among them those that a byte would take for others.
 void try_house(const Options &options) {
-  for (uint32_t pair = 0; pair < 20; ++pair)
-    for (uint32_t minute = 0; minute < 140; ++minute)
+  for (uint32_t pair = 0; pair < 320; ++pair)
+    for (uint32_t minute = 0; minute < 320; ++minute)
       try_house_share(options, pair, minute);
   const uint32_t far[] = {255, 256, 257, 65535, 65536, 65537, 4294967295u};
   for (uint32_t number : far)

@@ -223,5 +223,11 @@ mutant "gate read from the bound code" mirror 's/code, margin, gate}/code, margi
 mutant "T and gate exchanged" mirror 's/{source, target, minute, 0, std::nullopt, gate}/{source, target, gate, 0, std::nullopt, minute}/'
 mutant "house shares rounded up" house 's|4096 \* above / below|(4096 * above + below - 1) / below|'
 mutant "house tail rising too slowly" house 's/31 \* (x - m)/30 * (x - m)/'
+mutant "house tail counted from 0" house 's/31 \* (x - m) + 2 \* d, 30 \* (x - m)/31 * x + 2 * d, 30 * x/'
+mutant "house tail with 2d for 3d" house 's/(x - m) + 3 \* d/(x - m) + 2 * d/'
+mutant "house pairs of a byte" house 's/^  if (pair > 7 /  pair \&= 255;\n&/'
+mutant "house minutes of a byte" house 's/^  if (pair > 7 /  minute \&= 255;\n&/'
+mutant "last house minute refused" house 's/minute > house_maximum/minute >= house_maximum/'
+mutant "house minutes past M answered" house 's/^  if (pair > 7 || minute > house_maximum(pair)) return/  if (pair > 7) return/; s/  if (x == m + d)/  if (x >= m + d)/'
 echo "$noticed noticed, $missed missed"
 [ "$missed" = 0 ]

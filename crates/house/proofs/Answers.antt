@@ -1,18 +1,18 @@
 -- What is answered to a pair number and a minute, outside the eight tables and inside them. Assumes nothing.
-use Prim.Native.Nat.{ℕ, _+_, _<_, _≤_}
+use Prim.Native.Nat.{ℕ, _<_, _≤_}
 use mathlib.Core.Path.{_≡_, refl, ap, sym, _∙_}
 use mathlib.Core.Bool.{Bool, true, false, _&&_}
 use mathlib.Core.Logic.{_⊎_, inl, inr}
 use mathlib.Core.List.{[], _∷_}
+use native.Mathlib.Omega.{arith}
 use lib.Dec.{ltb}
-use lib.ListN.{getD, length}
+use lib.ListN.{length}
 use borrow.Author.Tests.{lt-ltb, le-ltb, le-leb, lt-leb}
 use Rattle.laws.proofs.Tests.{both, cond-true, cond-false}
+use Rattle.house.specs.declared.Pair.{Pair}
 use Rattle.house.specs.declared.HouseShare.the-variants.{Share, Refused}
 use Rattle.house.specs.House.{maximum, pairOf, cumulative, housePairs}
-use Rattle.house.specs.Carried.{startOf}
 use Rattle.house.specs.HouseShare.{inHouse, houseShare, houseAnswer}
-use Rattle.house.proofs.Tables.{carried, carried-right}
 
 second-fails : (a : Bool) {b : Bool} → b ≡ false → (a && b) ≡ false
 second-fails true e = e
@@ -36,12 +36,12 @@ unfolding houseShare inHouse
 share-inside pair minute h inside =
     cond-true _ _ (both (lt-ltb pair (length housePairs) h) (le-leb minute (maximum (pairOf pair)) inside))
 
--- which is the share carried at the minute's place
-pub share-answered : {pair minute start share : ℕ} → start ≡ startOf pair → share ≡ getD carried (start + minute) 0
-    → pair < length housePairs → minute ≤ maximum (pairOf pair) → Share share ≡ houseShare pair minute
-share-answered {pair} {minute} starts read h inside =
-    ap Share (read ∙ ap (λ (k : ℕ). getD carried (k + minute) 0) starts ∙ carried-right pair minute h inside)
-    ∙ sym (share-inside pair minute h inside)
+-- which is worked out from the pair of that number
+pub share-answered : {pair minute share : ℕ} {house : Pair} → house ≡ pairOf pair
+    → share ≡ cumulative (house .change) (house .parameter) minute → pair < length housePairs → minute ≤ maximum house → Share share ≡ houseShare pair minute
+share-answered {pair} {minute} found worked h inside =
+    ap Share (worked ∙ ap (λ p. cumulative (p .change) (p .parameter) minute) found)
+    ∙ sym (share-inside pair minute h (omega (arith, inside, ap maximum found)))
 
 -- the answers by document 01's number, place and values
 pub house-answered : (pair minute : ℕ) → pair < length housePairs → minute ≤ maximum (pairOf pair)

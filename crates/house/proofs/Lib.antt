@@ -1,6 +1,6 @@
--- The rule is pinned, the carried tables obey it, every table by the rule is accepted, and the answer is settled.
+-- The rule is pinned, every table by the rule is accepted, and the answer is settled.
 pub mod Pinned
-pub mod Tables
+pub mod Pairs
 pub mod Answers
 pub mod Rule
 pub mod RuleTables

@@ -1,8 +1,7 @@
 -- Facts that pin the rule and the answers to document 01's own numbers. Assumes nothing.
 use Prim.Native.Nat.{ℕ}
 use mathlib.Core.Path.{_≡_, refl}
-use mathlib.Core.List.{List, [], _∷_}
-use Rattle.file_layout.specs.Check.{Answer}
+use mathlib.Core.List.{[], _∷_}
 use Rattle.house.specs.House.{cumulative, between, maximum, pairOf}
 use Rattle.house.specs.HouseShare.{inHouse, houseShare, houseAnswer}
 

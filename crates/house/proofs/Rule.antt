@@ -1,5 +1,5 @@
 -- The cumulative share by any change time and parameter: 0 at 0, 4,096 at M and less before it, and never falling. Assumes nothing.
-use Prim.Native.Nat.{ℕ, zero, suc, _+_, _*_, _-_, _/_, _<_, _≤_}
+use Prim.Native.Nat.{ℕ, zero, suc, _+_, _*_, _-_, _<_, _≤_}
 use mathlib.Core.Path.{_≡_, _∙_}
 use mathlib.Core.Bool.{Bool}
 use native.Mathlib.Omega.{arith}
@@ -48,6 +48,13 @@ between-up m d x h = cond-true _ _ (le-leb x m h)
 between-past : (m d x : ℕ) → m < x → between m d x ≡ pastChange d (x - m)
 unfolding between
 between-past m d x h = cond-false _ _ (lt-leb x m h)
+
+-- which up to the change time is the one form, and past it the other
+pub cumulative-up : (m d x : ℕ) → 0 < x → x < m + d → x ≤ m → cumulative m d x ≡ upToChange m x
+cumulative-up m d x some h up = inner m d x some h ∙ between-up m d x up
+
+pub cumulative-past : (m d x : ℕ) → x < m + d → m < x → cumulative m d x ≡ pastChange d (x - m)
+cumulative-past m d x h past = inner m d x (omega arith) h ∙ between-past m d x past
 
 between-below : (m d x : ℕ) → 0 < x → x < m + d → between m d x < shareTotal
 between-below m d x some h =

@@ -1,19 +1,18 @@
 -- A table by the rule has M + 1 shares and is one that the check accepts, for any change time and parameter and so for the eight. Assumes nothing.
-use Prim.Native.Nat.{ℕ, zero, suc, pred, _+_, _<_, _≤_}
-use mathlib.Core.Path.{_≡_, refl, ap, _∙_}
-use mathlib.Core.List.{List, _∷_}
+use Prim.Native.Nat.{ℕ, suc, _+_, _<_, _≤_}
+use mathlib.Core.Path.{_≡_, ap, _∙_}
 use native.Mathlib.Omega.{arith}
 use lib.ListN.{length, getD}
-use Rattle.timetable.specs.Timetable.{maximumDelay}
 use Rattle.file_layout.specs.Format.{versionOne}
-use Rattle.delay_tables.specs.Rising.{Rising, MadeOf, valuesFrom}
+use Rattle.delay_tables.specs.Rising.{Rising, MadeOf}
 use Rattle.delay_tables.proofs.RisingTables.{rising-table-accepted}
 use Rattle.delay_tables.proofs.RisingValues.{rising-values}
 use Rattle.delay_tables.proofs.Values.{length-values, value-at, values-same}
 use Rattle.house.specs.House.{maximum, pairOf, housePairs, cumulative}
-use Rattle.house.specs.HouseTable.{houseCumulatives, houseTable}
-use Rattle.house.specs.Carried.{startOf}
-use Rattle.house.proofs.Tables.{carried, carried-right, house-short}
+use Rattle.house.specs.HouseShare.{houseShare, houseAnswer}
+use Rattle.house.specs.HouseTable.{houseCumulatives, answeredCumulatives, houseTable}
+use Rattle.house.proofs.Pairs.{house-short}
+use Rattle.house.proofs.Answers.{house-answered}
 use Rattle.house.proofs.Rule.{at-latest, cumulative-below, cumulative-rises}
 
 -- the list of a pair's cumulative shares has M + 1 entries, each by the rule
@@ -40,16 +39,12 @@ pub house-pair-accepted : (k : ℕ) → k < length housePairs
     × MadeOf (houseCumulatives (pairOf k .change) (pairOf k .parameter)) (houseTable (pairOf k .change) (pairOf k .parameter))
 house-pair-accepted k h = (house-short k h, house-table-accepted (pairOf k .change) (pairOf k .parameter))
 
--- the entries that are carried for a pair number, from delay 0 to M
-unfoldable pub carriedOf : ℕ → List ℕ
-carriedOf k = valuesFrom (λ x. getD carried (startOf k + x) 0) 0 (suc (maximum (pairOf k)))
+-- what is answered for a pair number, minute by minute, is its list of cumulative shares; so the answers never fall, and reach 4,096 at M alone
+pub answered-by-rule : (k : ℕ) → k < length housePairs → answeredCumulatives k ≡ houseCumulatives (pairOf k .change) (pairOf k .parameter)
+unfolding answeredCumulatives houseCumulatives
+answered-by-rule k h =
+    values-same (λ x. getD (houseAnswer (houseShare k x) .values) 0 0) (cumulative (pairOf k .change) (pairOf k .parameter)) 0
+    (suc (maximum (pairOf k))) (λ x inside. ap (λ a. getD (a .values) 0 0) (house-answered k x h (omega (arith, inside))))
 
--- they are the pair's cumulative shares, and so the carried tables rise
-pub carried-by-rule : (k : ℕ) → k < length housePairs → carriedOf k ≡ houseCumulatives (pairOf k .change) (pairOf k .parameter)
-unfolding carriedOf houseCumulatives
-carried-by-rule k h =
-    values-same (λ x. getD carried (startOf k + x) 0) (cumulative (pairOf k .change) (pairOf k .parameter)) 0 (suc (maximum (pairOf k)))
-    (λ x inside. carried-right k x h (omega (arith, inside)))
-
-pub carried-rising : (k : ℕ) → k < length housePairs → Rising (carriedOf k)
-carried-rising k h = rw (carried-by-rule k h) (house-rising (pairOf k .change) (pairOf k .parameter))
+pub answered-rising : (k : ℕ) → k < length housePairs → Rising (answeredCumulatives k)
+answered-rising k h = rw (answered-by-rule k h) (house-rising (pairOf k .change) (pairOf k .parameter))

@@ -5,13 +5,9 @@ use mathlib.Core.List.{List, [], _∷_}
 use lib.Dec.{leb, eqb}
 use lib.ListN.{getD}
 use Rattle.timetable.specs.Classes.{shareTotal}
+use Rattle.house.specs.declared.Pair.{Pair}
 
--- Change time m and parameter d
-pub record Pair : Type 0 where
-  pub change : ℕ
-  pub parameter : ℕ
-
--- M = m+d
+-- Change time m and parameter d give M = m+d
 abbrev pub maximum : Pair → ℕ
 maximum p = p .change + p .parameter
 

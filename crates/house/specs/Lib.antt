@@ -1,5 +1,4 @@
 -- What the house delay tables are, and what is answered about them.
 pub mod House
-pub mod Carried
 pub mod HouseShare
 pub mod HouseTable

@@ -1,8 +1,10 @@
--- `house::house_share` meets its contract: refusal 6 outside the eight tables, and inside them the carried share, which obeys the rule.
+-- `house::house_share` meets its contract: refusal 6 outside the eight tables, and inside them the share that is worked out by the rule.
 -- Assumes nothing.
+use mathlib.Core.Path.{ap}
 use native.Mathlib.Omega.{arith}
 use borrow.Author.Needs.{needs}
-use Rattle.house.proofs.Tables.{carried, house-short, house-inside}
+use Rattle.house.specs.House.{maximum}
+use Rattle.house.proofs.Pairs.{pair-short, steps-fit}
 use Rattle.house.proofs.Answers.{pair-refused, minute-refused, share-answered}
 use Rattle.house.proofs.house_share.Statement.{statement}
 use Rattle.house.proofs.house_share.Tie as tie
@@ -10,41 +12,29 @@ use Rattle.house.proofs.house_share.Tie as tie
 returns : tie.Need-returns
 returns c = pair-refused _ _ (omega arith)
 
-house-of-requires : tie.Need-house-of-requires
-house-of-requires c κs = search needs
+pair-of-requires : tie.Need-pair-of-requires
+pair-of-requires c κs = search needs
 
 add-if2 : tie.Need-add-if2
-add-if2 c = omega (arith, house-short (c .before .before .before .args .pair) (omega arith))
+add-if2 c =
+    let found = c .before in
+    omega (arith, pair-short (found .before .before .args .pair) (found .pair-of .ensures) (omega arith))
 
 returns-2 : tie.Need-returns-2
-returns-2 c = minute-refused (c .before .before .before .before .args .pair) (c .before .before .before .before .args .minute) (omega arith)
+returns-2 c =
+    let found = c .before .before in
+    let asked = found .before .before .args in
+    minute-refused (asked .pair) (asked .minute) (omega (arith, ap maximum (found .pair-of .ensures)))
 
-add-place : tie.Need-add-place
-add-place c = omega (arith, house-inside (c .before .before .before .before .before .args .pair) (omega arith))
-
-mul-wide : tie.Need-mul-wide
-mul-wide c = omega (arith, house-inside (c .before .before .before .before .before .args .pair) (omega arith))
-
-array-read-wide : tie.Need-array-read-wide
-array-read-wide c = omega (arith, house-inside (c .before .before .before .before .before .args .pair) (omega arith))
-
-wide-requires : tie.Need-wide-requires
-wide-requires c κs = search needs
+cumulative-share-requires : tie.Need-cumulative-share-requires
+cumulative-share-requires c κs =
+    let found = c .before .before in
+    steps-fit _ _ (pair-short (found .before .before .args .pair) (found .pair-of .ensures) (omega arith))
 
 returns-3 : tie.Need-returns-3
-unfolding carried
-returns-3 c = share-answered (c .before .before .before .before .house-of .ensures .start) (c .wide .ensures) (omega arith) (omega arith)
+returns-3 c = share-answered (c .before .before .before .pair-of .ensures) (c .cumulative-share .ensures) (omega arith) (omega arith)
 
 pub house-share-spec : {M : Type 1} → statement M
 house-share-spec =
     tie.close
-    (tie.spec
-    returns
-    house-of-requires
-    add-if2
-    returns-2
-    add-place
-    mul-wide
-    array-read-wide
-    wide-requires
-    returns-3)
+    (tie.spec returns pair-of-requires add-if2 returns-2 cumulative-share-requires returns-3)
