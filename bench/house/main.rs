@@ -68,29 +68,32 @@ fn shapes() -> Vec<Shape> {
     let all: Vec<_> = (0..PAIRS.len()).flat_map(minutes).collect();
     let mut dice = Dice(5);
     let drawn = (0..all.len()).map(|_| all[dice.from(0, all.len() as u64) as usize]).collect();
-    let late = |after: bool| all.iter().filter(|(pair, minute)| (*minute > u32::from(PAIRS[*pair as usize].0)) == after).copied().collect();
+    let changed = |(pair, minute): &(u32, u32)| *minute > u32::from(PAIRS[*pair as usize].0);
+    let (past, up): (Vec<_>, Vec<_>) = all.iter().copied().partition(changed);
     vec![
         Shape { name: "all shares, table after table", asked: all.clone() },
         Shape { name: "drawn at random", asked: drawn },
-        Shape { name: "up to the change time", asked: late(false) },
-        Shape { name: "past the change time", asked: late(true) },
+        Shape { name: "up to the change time", asked: up },
+        Shape { name: "past the change time", asked: past },
         Shape { name: "one table, 5 30", asked: minutes(1).collect() },
         Shape { name: "minute refused", asked: (0..8).map(|pair| (pair, 121)).collect() },
         Shape { name: "pair refused", asked: (8..16).map(|pair| (pair, 0)).collect() },
     ]
 }
 
+// The number that all sides answer.
 fn agreed(pair: u32, minute: u32) -> u32 {
-    let answers: Vec<Answer> = SIDES.iter().map(|(_, call)| {
+    let answered = |(_, call): &(&str, Call)| {
         let mut answer = [u32::MAX; 6];
         ask(*call, pair, minute, &mut answer);
         answer
-    }).collect();
+    };
+    let answers: Vec<Answer> = SIDES.iter().map(answered).collect();
     assert!(answers.iter().all(|answer| *answer == answers[0]), "{pair} {minute}: {answers:?}");
     answers[0][0]
 }
 
-// How many shares and how many refusals all sides agree on: every pair and minute of a byte and some beyond.
+// How many shares and how many refusals all sides agree on: every pair and minute below 320, and some far beyond.
 fn compare() -> (usize, usize) {
     let numbers: Vec<u32> = (0..320).chain([65_535, 65_536, 65_537, 1 << 31, u32::MAX]).collect();
     let calls = numbers.iter().flat_map(|pair| numbers.iter().map(|minute| (*pair, *minute)));
