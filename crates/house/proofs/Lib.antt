@@ -4,4 +4,5 @@ pub mod Pairs
 pub mod Answers
 pub mod Rule
 pub mod RuleTables
+pub mod HouseCall
 pub mod Settled
