@@ -35,13 +35,16 @@ module _ (κs : Lfts 0) (arguments : Dens κs kinds.ps) (answer : resT kinds.r �
   shared : Inside pair minute → answer ≡ Share (cumulative (pairOf pair .change) (pairOf pair .parameter) minute)
   shared inside = permitted ∙ share-inside pair minute (inside .0) (inside .1)
 
+  not-both : {P : Type 0} {share number place : ℕ} → answer ≡ Share share → answer ≡ Refused number place → P
+  not-both share refusal = let z : _≡_ {A = ℕ} 0 1 = cc in absurd (omega (arith, z))
+
   -- refusal 6, at place 0, exactly for a pair number above 7 or a minute above M
   pub six-exactly : (answer ≡ Refused 6 0) ↔ Outside pair minute
   six-exactly = (λ told. outside told (inside-or-not pair minute), refused)
     where
       outside : answer ≡ Refused 6 0 → Outside pair minute ⊎ Inside pair minute → Outside pair minute
       outside told (inl there) = there
-      outside told (inr inside) = let share = shared inside in let z : _≡_ {A = ℕ} 0 1 = cc in absurd (omega (arith, z))
+      outside told (inr inside) = not-both (shared inside) told
 
   -- and no refusal is another
   pub refuses : (number place : ℕ) → answer ≡ Refused number place → (number ≡ 6) × (place ≡ 0)
@@ -49,7 +52,7 @@ module _ (κs : Lfts 0) (arguments : Dens κs kinds.ps) (answer : resT kinds.r �
     where
       known : Outside pair minute ⊎ Inside pair minute → (number ≡ 6) × (place ≡ 0)
       known (inl there) = let six = refused there in (cc, cc)
-      known (inr inside) = let share = shared inside in let z : _≡_ {A = ℕ} 0 1 = cc in absurd (omega (arith, z))
+      known (inr inside) = not-both (shared inside) told
 
   -- a share is answered exactly for the others, and it is the one by the rule
   pub share-exactly : (share : ℕ)
@@ -58,7 +61,7 @@ module _ (κs : Lfts 0) (arguments : Dens κs kinds.ps) (answer : resT kinds.r �
     where
       inside : answer ≡ Share share → Outside pair minute ⊎ Inside pair minute
           → Inside pair minute × (share ≡ cumulative (pairOf pair .change) (pairOf pair .parameter) minute)
-      inside told (inl there) = let six = refused there in let z : _≡_ {A = ℕ} 0 1 = cc in absurd (omega (arith, z))
+      inside told (inl there) = not-both told (refused there)
       inside told (inr there) = let same = shared there in (there, cc)
 
   -- all landings, 4,096 of them, are that late or less exactly at M

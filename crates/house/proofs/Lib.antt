@@ -1,4 +1,4 @@
--- The rule is pinned, every table by the rule is accepted, and the answer is settled.
+-- The rule is pinned, every table by the rule is accepted, and of what the call returns each case is known and settled.
 pub mod Pinned
 pub mod Pairs
 pub mod Answers
