@@ -1,4 +1,6 @@
 // Document 01, "The sheet": a clock minute, and how it prints.
+#![tactic(auto)]
+
 ghost use Rattle.std.specs.Prelude.{◌≡◌, ◌++◌, replicate};
 ghost use Rattle.clock.specs.Clock.{day_of, day_start, hour_of, minute_of_hour, rounded_up, since_midnight};
 ghost use Rattle.clock.specs.Text.{blank, face_text, Printed};
@@ -6,7 +8,7 @@ ghost use Rattle.clock.specs.Text.{blank, face_text, Printed};
 use text::digit;
 
 // Minutes from local midnight opening day 1.
-#[derive(Drop)]
+#[derive(Clone, Copy)]
 pub struct Minute {
     pub minute: u32,
 }
@@ -19,7 +21,7 @@ pub struct TimeText {
 }
 
 // A day by its number, from 1, and the minute at which it starts.
-#[derive(Drop)]
+#[derive(Clone, Copy)]
 struct Day {
     number: u32,
     start: u32,

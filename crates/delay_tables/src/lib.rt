@@ -1,1 +1,2 @@
 // No code: a delay table by its rising cumulative shares (specs/), and that the check accepts it (proofs/).
+#![tactic(auto)]

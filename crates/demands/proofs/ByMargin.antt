@@ -140,7 +140,7 @@ module _ (t : Timetable) (goal : Goal) where
       (i : ℕ) → i ≤ length t.rows → (v : Valued) → Memᴰ v (chosen i) → (u : Valued) → Gains t goal u → i ≤ u.ride.board
       → u.ride.board < v.ride.board → u.ride.from ≡ v.ride.from → u.ride.departs ≢ v.ride.departs
   unreplaced = downward Alone (length t.rows)
-      (λ v m. absurd (mathlib.Core.List.Memᴰ.not_nil (subst (λ (l : List Valued). Memᴰ v l) (chosen_end aim t) m))) back
+      (λ v m. absurd (mathlib.Core.List.Memᴰ.not-nil (subst (λ (l : List Valued). Memᴰ v l) (chosen_end aim t) m))) back
     where
       Alone : ℕ → Type 0
       Alone i =

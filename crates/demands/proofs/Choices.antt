@@ -45,7 +45,7 @@ delays_apart :
     (r : Ride) (v : ℕ) (shares : List ℕ) (ways : List (List Sailed)) (sailed : List Sailed)
     → Memᴰ sailed (with_delays r v shares ways) → Apart r v shares ways sailed
 unfolding with_delays
-delays_apart r v [] ways sailed there = absurd (Memᴰ.not_nil there)
+delays_apart r v [] ways sailed there = absurd (Memᴰ.not-nil there)
 delays_apart r v (p ∷ shares) ways sailed there =
     pick (Memᴰ.append_cases (map (λ sailed. late r v ∷ sailed) ways) there) (delays_apart r (suc v) shares ways sailed)
   where

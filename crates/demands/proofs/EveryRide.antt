@@ -43,7 +43,7 @@ pub up_to_is :
     (stop minute : ℕ) (o : Option Valued) {w : Window} → Memᴰ w (up_to stop minute o)
     → (v : Valued) × (o ≡ some v) × (w ≡ record { stop = stop; minute = minute; until = v.ride.departs })
 unfolding up_to
-up_to_is stop minute none there = absurd (Memᴰ.not_nil there)
+up_to_is stop minute none there = absurd (Memᴰ.not-nil there)
 up_to_is stop minute (some v) there = (v, refl, Memᴰ.eq_of_singleton there)
 
 -- a window that a ride opens: from a + g up to the first ride at or after a + M + g
@@ -58,7 +58,7 @@ unfolding windows_of
 window_opened gate target r behind {w} there =
     ifb (λ b. eqb r.to target ≡ b → Memᴰ w (cond b [] (up_to r.to (ready gate r.arrives) (first_open behind r.to (ready gate (lands_by r)))))
     → Opened gate target r behind w)
-    (eqb r.to target) (λ _ _ none_there. absurd (Memᴰ.not_nil none_there))
+    (eqb r.to target) (λ _ _ none_there. absurd (Memᴰ.not-nil none_there))
     (λ e _ in_it. let found = up_to_is r.to (ready gate r.arrives) (first_open behind r.to (ready gate (lands_by r))) in_it in
     record { away = eqb-false r.to target e; safe = found.0; is_first = found.1; is = found.2 }) refl there
 
@@ -250,7 +250,7 @@ pub entries :
     (gate target : ℕ) (chosen : List Valued) → Ordered chosen → SomeShare chosen → (ws : List Window) (v : Valued)
     → Memᴰ v (extract gate target ws chosen) → Entry gate ws chosen (extract gate target ws chosen) v.ride
 unfolding extract
-entries gate target [] ordered shares ws v there = absurd (Memᴰ.not_nil there)
+entries gate target [] ordered shares ws v there = absurd (Memᴰ.not-nil there)
 entries gate target (u ∷ behind) (ahead before ordered) shares ws v there =
     ifb
     (λ b. wanted ws u.ride ≡ b → Memᴰ v (cond b (u ∷ taken) passed) → Entry gate ws (u ∷ behind) (cond b (u ∷ taken) passed) v.ride)

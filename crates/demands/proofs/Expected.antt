@@ -21,14 +21,14 @@ use Rattle.demands.proofs.Sorting.{safe_sorted}
 -- each ride of a list is valued, and nothing else
 pub valued_ride : (gate target : ℕ) (rides : List Ride) {v : Valued} → Memᴰ v (valued gate target rides) → Memᴰ v.ride rides
 unfolding valued
-valued_ride gate target [] m = absurd (Memᴰ.not_nil m)
+valued_ride gate target [] m = absurd (Memᴰ.not-nil m)
 valued_ride gate target (r ∷ rides) {v} m =
     head_or_later (Memᴰ v.ride (r ∷ rides)) m (λ q. Memᴰ.head (ap (λ (x : Valued). x.ride) q))
     (λ n. Memᴰ.tail (valued_ride gate target rides n))
 
 pub ride_valued : (gate target : ℕ) (rides : List Ride) {r : Ride} → Memᴰ r rides → (v : Valued) × Memᴰ v (valued gate target rides) × (v.ride ≡ r)
 unfolding valued
-ride_valued gate target [] m = absurd (Memᴰ.not_nil m)
+ride_valued gate target [] m = absurd (Memᴰ.not-nil m)
 ride_valued gate target (x ∷ rides) {r} m =
     head_or_later ((v : Valued) × Memᴰ v (valued gate target (x ∷ rides)) × (v.ride ≡ r)) m
     (λ q. (record { ride = x; worth = land_worth gate target x (valued gate target rides) }, Memᴰ.head refl, sym q))

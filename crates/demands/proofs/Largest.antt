@@ -17,7 +17,7 @@ use Rattle.demands.specs.Walk.{largest}
 module _ {A : Type 0} (f : A → ℕ) where
   pub none_larger : (xs : List A) (x : A) → Memᴰ x xs → f x ≤ largest (map f xs)
   unfolding largest
-  none_larger [] x m = absurd (Memᴰ.not_nil m)
+  none_larger [] x m = absurd (Memᴰ.not-nil m)
   none_larger (y ∷ xs) x m =
       head_or_later (f x ≤ largest (map f (y ∷ xs))) m
       (λ e. subst (λ (z : A). f z ≤ largest (map f (y ∷ xs))) (sym e) (le-max_left (f y) (largest (map f xs))))
@@ -26,7 +26,7 @@ module _ {A : Type 0} (f : A → ℕ) where
   -- a list with a member has one of that number
   pub one_largest : (xs : List A) (x : A) → Memᴰ x xs → (most : A) × Memᴰ most xs × (f most ≡ largest (map f xs))
   unfolding largest
-  one_largest [] x m = absurd (Memᴰ.not_nil m)
+  one_largest [] x m = absurd (Memᴰ.not-nil m)
   one_largest (y ∷ []) x m = (y, Memᴰ.head refl, let z : f y ≡ max (f y) 0 = omega arith in z)
   one_largest (y ∷ z ∷ xs) x m =
       let later = one_largest (z ∷ xs) z (Memᴰ.head refl) in

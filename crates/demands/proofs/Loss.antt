@@ -153,7 +153,7 @@ module _ (t : Timetable) (timely : Timely t) (goal : Goal) where
       (most : ℕ) {rides : List Ride} → Forward goal.gate goal.target rides
       → ((r : Ride) → Memᴰ r rides → IsRide t r × (within goal.bound (lands_by r) ≡ true)) → (at : Standing)
       → Served goal.target rides at.stop (ready goal.gate at.minute) → AtMostRides goal.gate rides at most → Loses rides at most
-  rides_lose most Forward.none are at (onward next among opens) within = absurd (Memᴰ.not_nil among)
+  rides_lose most Forward.none are at (onward next among opens) within = absurd (Memᴰ.not-nil among)
   rides_lose most Forward.none are at (over there) within = ends_there at most there within
   rides_lose most (Forward.one {r = r} {behind = behind} timed goes_on rest) are at served within =
       let here = are r (Memᴰ.head refl) in

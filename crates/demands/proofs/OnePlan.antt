@@ -44,8 +44,8 @@ pub one_list :
     (vs us : List Valued) → ByBoardingRow (rides_of vs) → ByBoardingRow (rides_of us) → ((v : Valued) → Memᴰ v vs → Memᴰ v us)
     → ((v : Valued) → Memᴰ v us → Memᴰ v vs) → vs ≡ us
 one_list [] [] rising rising' to from = refl
-one_list [] (u ∷ us) rising rising' to from = absurd (Memᴰ.not_nil (from u (Memᴰ.head refl)))
-one_list (v ∷ vs) [] rising rising' to from = absurd (Memᴰ.not_nil (to v (Memᴰ.head refl)))
+one_list [] (u ∷ us) rising rising' to from = absurd (Memᴰ.not-nil (from u (Memᴰ.head refl)))
+one_list (v ∷ vs) [] rising rising' to from = absurd (Memᴰ.not-nil (to v (Memᴰ.head refl)))
 one_list (v ∷ vs) (u ∷ us) (before_all before rising) (before_all before' rising') to from =
     let same : v ≡ u = heads_same before before' (to v (Memᴰ.head refl)) (from u (Memᴰ.head refl)) in
     let rest : vs ≡ us =

@@ -38,7 +38,7 @@ ordered_rising (ahead {v} {vs} before o) =
 own_goes_on :
     (gate target : ℕ) {vs : List Valued} → OwnWorth gate target vs → (v : Valued) → Memᴰ v vs → v.ride.to ≢ target
     → (next : Valued) × Memᴰ next vs × (boards next.ride v.ride.to (ready gate (lands_by v.ride)) ≡ true)
-own_goes_on gate target own.nobody v m away = absurd (Memᴰ.not_nil m)
+own_goes_on gate target own.nobody v m away = absurd (Memᴰ.not-nil m)
 own_goes_on gate target (own.ahead {v = u} {vs = us} moves worth on rest) v m away =
     head_or_later Next m
     (λ q. let found = on (λ e. away (ap (λ (x : Valued). x.ride.to) q ∙ e)) in (

@@ -42,7 +42,7 @@ module _ (q : Query) (whole : List Valued) where
       (vs : List Valued) → Ordered vs → ((x : Valued) → Memᴰ x vs → Moves x.ride) → ((x : Valued) → Memᴰ x vs → Memᴰ x whole)
       → Ends vs → (ws : List Window) → Wants ws → (x : Valued) → Memᴰ x (extract q.gate q.target ws vs) → InPlan q whole x
   unfolding extract Ends Wants
-  extract_in_plan [] o moves sub ends ws given x m = absurd (mathlib.Core.List.Memᴰ.not_nil m)
+  extract_in_plan [] o moves sub ends ws given x m = absurd (mathlib.Core.List.Memᴰ.not-nil m)
   extract_in_plan (v ∷ vs) (ahead before o) moves sub ends ws given x m =
       let further : Ends vs = λ u n s k late.
       sym (first_further v vs s k (too_late v.ride s k (let z : v.ride.departs < k = omega (arith, (before u n).minutes) in z)))
@@ -69,7 +69,7 @@ window_taken :
     → Memᴰ u (extract gate target ws vs) → u.ride.to ≢ target → first_open vs u.ride.to (ready gate (lands_by u.ride)) ≡ some safe → Memᴰ x vs
     → boards x.ride u.ride.to (ready gate u.ride.arrives) ≡ true → x.ride.departs ≤ safe.ride.departs → Memᴰ x (extract gate target ws vs)
 unfolding extract
-window_taken gate target [] o moves ws u x safe m away e k b h = absurd (mathlib.Core.List.Memᴰ.not_nil m)
+window_taken gate target [] o moves ws u x safe m away e k b h = absurd (mathlib.Core.List.Memᴰ.not-nil m)
 window_taken gate target (v ∷ vs) (ahead before o) moves ws u x safe m away e k b h =
     let quick : u.ride.departs < u.ride.arrives = (moves u (extract_member gate target (v ∷ vs) ws m)).forward in
     let late : ready gate u.ride.arrives ≤ x.ride.departs = boards_minute x.ride u.ride.to (ready gate u.ride.arrives) b in

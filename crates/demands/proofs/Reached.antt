@@ -26,7 +26,7 @@ pub course_reaches :
     → Served target (rides_sailed sailed) at.stop (ready gate at.minute) → (course gate sailed at).stop ≡ target
 unfolding course landed
 course_reaches gate target [] forward ranged at (over there) = there
-course_reaches gate target [] forward ranged at (onward next among opens) = absurd (Memᴰ.not_nil among)
+course_reaches gate target [] forward ranged at (onward next among opens) = absurd (Memᴰ.not-nil among)
 course_reaches gate target (s ∷ sailed) (Forward.one timed goes_on rest) ranged at served =
     ifb (λ b. (cond b (course gate sailed (landed at (some s))) (course gate sailed at)).stop ≡ target)
     (boards s.ride at.stop (ready gate at.minute))
@@ -62,7 +62,7 @@ find :
     (sailed : List Sailed) (stop minute : ℕ) (next : Ride) → Memᴰ next (rides_sailed sailed) → boards next stop minute ≡ true
     → (s : Sailed) × (first_sailed sailed stop minute ≡ some s)
 unfolding first_sailed
-find [] stop minute next among opens = absurd (Memᴰ.not_nil among)
+find [] stop minute next among opens = absurd (Memᴰ.not-nil among)
 find (u ∷ sailed) stop minute next (Memᴰ.head same) opens =
     ifb (λ b. boards u.ride stop minute ≡ b → (s : Sailed) × (cond b (some u) (first_sailed sailed stop minute) ≡ some s))
     (boards u.ride stop minute) (λ here _. (u, refl))

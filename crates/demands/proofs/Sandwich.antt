@@ -122,7 +122,7 @@ pass_within gate target r behind at timed shut further =
 pub mean_within :
     (gate target : ℕ) {rides : List Ride} → Forward gate target rides → (at : Standing) → Served target rides at.stop (ready gate at.minute)
     → mean gate rides at ≤ share_total ^ length rides * worth_at gate target rides at
-mean_within gate target Forward.none at (onward next among opens) = absurd (Memᴰ.not_nil among)
+mean_within gate target Forward.none at (onward next among opens) = absurd (Memᴰ.not-nil among)
 mean_within gate target Forward.none at (over there) = omega (arith, mean_end gate at, worth_over gate target [] at there)
 mean_within gate target (Forward.one {r = r} {behind = behind} timed goes_on rest) at served =
     ifb (λ b. mean gate (r ∷ behind) at ≤ share_total ^ suc (length behind) * worth_at gate target (r ∷ behind) at)
@@ -213,7 +213,7 @@ mean_above :
     (gate target most : ℕ) {rides : List Ride} → Forward gate target rides → (at : Standing) → Served target rides at.stop (ready gate at.minute)
     → AtMostRides gate rides at most → Above gate target rides at most
 unfolding Above course
-mean_above gate target most Forward.none at (onward next among opens) within = absurd (Memᴰ.not_nil among)
+mean_above gate target most Forward.none at (onward next among opens) within = absurd (Memᴰ.not-nil among)
 mean_above gate target most Forward.none at (over there) within =
     omega (
       arith,

@@ -30,7 +30,7 @@ is_ride i inside = record { onward = le_refl i; inside = inside; one_trip = refl
 of_two : (P : Ride → Type 0) → P (ride_of small 2 2) → P (ride_of small 0 0) → (r : Ride) → Memᴰ r later_boat → P r
 of_two P later first r m =
     head_or_later (P r) m (λ e. subst P (sym e) later)
-    (λ n. head_or_later (P r) n (λ e. subst P (sym e) first) (λ none_left. absurd (Memᴰ.not_nil none_left)))
+    (λ n. head_or_later (P r) n (λ e. subst P (sym e) first) (λ none_left. absurd (Memᴰ.not-nil none_left)))
 
 -- not only the plan itself is a safe plan
 pub later_boat_safe : SafePlan small asked 0 later_boat

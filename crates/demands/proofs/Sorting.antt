@@ -43,7 +43,7 @@ insert_member r (y ∷ rides) {x} m =
 
 insert_keeps : (r : Ride) (rides : List Ride) {x : Ride} → Memᴰ x rides → Memᴰ x (insert r rides)
 unfolding insert
-insert_keeps r [] m = absurd (Memᴰ.not_nil m)
+insert_keeps r [] m = absurd (Memᴰ.not-nil m)
 insert_keeps r (y ∷ rides) {x} m =
     on_place (Memᴰ x (insert r (y ∷ rides))) r y rides (λ _ h. subst (λ (l : List Ride). Memᴰ x l) (sym h) (Memᴰ.tail m))
     (λ _ h. subst (λ (l : List Ride). Memᴰ x l) (sym h) m)
@@ -61,7 +61,7 @@ insert_holds r (y ∷ rides) alone =
 
 insert_rising : (r : Ride) {rides : List Ride} → ByBoardingRow rides → ByBoardingRow (insert r rides)
 unfolding insert
-insert_rising r no_rides = before_all (λ next m. absurd (Memᴰ.not_nil m)) no_rides
+insert_rising r no_rides = before_all (λ next m. absurd (Memᴰ.not-nil m)) no_rides
 insert_rising r (before_all {r = y} {rides} before rising) =
     on_place (ByBoardingRow (insert r (y ∷ rides))) r y rides
     (λ b h. subst (λ (l : List Ride). ByBoardingRow l) (sym h)

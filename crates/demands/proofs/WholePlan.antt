@@ -25,7 +25,7 @@ module _ (gate target : ℕ) (all : List Valued) where
       (rides : List Ride) → AllTimed target rides → Ends rides → (v : Valued) → Memᴰ v (valued gate target rides)
       → v.worth ≡ land_worth gate target v.ride all
   unfolding valued Ends
-  worths_whole [] timed ends v m = absurd (Memᴰ.not_nil m)
+  worths_whole [] timed ends v m = absurd (Memᴰ.not-nil m)
   worths_whole (r ∷ rides) (one timed rest) ends v m =
       head_or_later (v.worth ≡ land_worth gate target v.ride all) m
       (λ q. subst (λ (x : Valued). x.worth ≡ land_worth gate target x.ride all) (sym q)
@@ -77,7 +77,7 @@ pub caught_departs :
     (gate target : ℕ) (rides : List Ride) → AllTimed target rides → (s m : ℕ) (v u : Valued) → first_open (valued gate target rides) s m ≡ some v
     → Memᴰ u (valued gate target rides) → boards u.ride s m ≡ true → v.ride.departs ≤ u.ride.departs
 unfolding valued
-caught_departs gate target [] timed s m v u e among opens = absurd (Memᴰ.not_nil among)
+caught_departs gate target [] timed s m v u e among opens = absurd (Memᴰ.not-nil among)
 caught_departs gate target (r ∷ rides) (one timed rest) s m v u e among opens =
     let first : Valued = record { ride = r; worth = land_worth gate target r (valued gate target rides) } in
     on_head (v.ride.departs ≤ u.ride.departs) first (valued gate target rides) s m

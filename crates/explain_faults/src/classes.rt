@@ -10,7 +10,7 @@ use file_sections::{Blocks, class_blocks, delay_rule, rows_end};
 use timetable::SHARE_TOTAL;
 
 // A class by its number, and the byte where its block starts.
-#[derive(Drop)]
+#[derive(Clone, Copy)]
 struct Block {
     class: usize,
     at: usize,

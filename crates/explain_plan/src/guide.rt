@@ -11,7 +11,7 @@ use plan_slice::{board_of, leave_of};
 use timetable::Row;
 
 // A ride by the rows where it boards and where it leaves.
-#[derive(Drop)]
+#[derive(Clone, Copy)]
 struct Ride {
     board: Row,
     leave: Row,

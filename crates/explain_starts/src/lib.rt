@@ -12,7 +12,7 @@ use query::{LEAST_MARGIN, Query};
 pub use words::print_starts;
 
 // There is a safe journey at every minute until this one and at none behind it, or at no minute at all.
-#[derive(Drop)]
+#[derive(Clone, Copy)]
 pub enum Start {
     Until { minute: usize },
     Never,

@@ -11,7 +11,7 @@ use file_sections::Sections;
 use timetable::{MOST_TRIPS, Ranges, Row};
 
 // The nearest earlier row of a trip and its number, if there is one.
-#[derive(Drop)]
+#[derive(Clone, Copy)]
 pub enum Found {
     At { row: Row, place: usize },
     Nothing,

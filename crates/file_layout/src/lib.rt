@@ -1,4 +1,6 @@
 // Document 01, "The sailing file": where the numbers of a file stand, and what a check answers.
+#![tactic(auto)]
+
 ghost use Rattle.std.specs.Prelude.{◌≡◌, ◌+◌, ◌<◌, length};
 ghost use Rattle.file_layout.specs.Decode.{trailer_at, row_at};
 ghost use Rattle.file_layout.specs.Small.{SmallTrailer, SmallRow};
@@ -8,7 +10,7 @@ use timetable::Row;
 
 // What a version of the file fixes: its number, the bytes of a row and of the trailer, the file
 // lengths, the last minute and the longest delay.
-#[derive(Drop)]
+#[derive(Clone, Copy)]
 pub struct Format {
     pub version: usize,
     pub width: usize,
@@ -31,7 +33,7 @@ pub const VERSION_ONE: Format = Format {
 };
 
 // The trailer's numbers.
-#[derive(Drop)]
+#[derive(Clone, Copy)]
 pub struct Trailer {
     pub version: usize,
     pub stops: usize,
@@ -42,7 +44,7 @@ pub struct Trailer {
 }
 
 // What the check answers: a sound file with its trailer, or a refusal with its number and place.
-#[derive(Drop)]
+#[derive(Clone, Copy)]
 pub enum Checked {
     Sound { trailer: Trailer },
     Refused { number: usize, place: usize },

@@ -15,21 +15,21 @@ use numbers::u16_at;
 use timetable::{FEWEST_CLASSES, FEWEST_STOPS, MOST_CLASSES, MOST_ROWS, MOST_STOPS, SHARE_TOTAL};
 
 // A trailer whose sections join and keep the rules, or the refusal with its place.
-#[derive(Drop)]
+#[derive(Clone, Copy)]
 pub enum Sections {
     Joined { trailer: Trailer },
     Fault { number: usize, place: usize },
 }
 
 // Class blocks that keep their rules, with the byte where they end, or the refusal with its place.
-#[derive(Drop)]
+#[derive(Clone, Copy)]
 pub enum Blocks {
     End { at: usize },
     Fault { number: usize, place: usize },
 }
 
 // Where a section of the file starts and ends.
-#[derive(Drop)]
+#[derive(Clone, Copy)]
 struct Section {
     start: usize,
     end: usize,

@@ -6,7 +6,7 @@ ghost use Rattle.files.specs.Endings.{goes_on};
 use libc::STDOUT_FILENO;
 
 // How the reading of a file ended.
-#[derive(Drop)]
+#[derive(Clone, Copy)]
 pub enum Ending {
     // There is no file of that name.
     Missing,
@@ -19,7 +19,7 @@ pub enum Ending {
 }
 
 // How many bytes of a file were read, and how that ended.
-#[derive(Drop)]
+#[derive(Clone, Copy)]
 pub struct Reading {
     pub count: usize,
     pub ending: Ending,

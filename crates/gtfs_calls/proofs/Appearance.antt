@@ -55,7 +55,7 @@ module _ (id_of : StopTime → List ℕ) (ids : List StopTime → List (List ℕ
 
   -- every call's id is known
   pub known_id : (calls : List StopTime) (call : StopTime) → Memᴰ call calls → number_of (ids calls) (id_of call) < length (ids calls)
-  known_id [] call m = absurd (Memᴰ.not_nil m)
+  known_id [] call m = absurd (Memᴰ.not-nil m)
   known_id (next ∷ back) call m =
       subst⁻¹ (λ l. Known l (id_of call)) (all.with_call next back)
       (head_or_later (Known (with_id (ids back) (id_of next)) (id_of call)) m

@@ -47,7 +47,7 @@ last_read trip (next ∷ back) call e =
       earlier = back;
       read = ap (λ (c : StopTime). c ∷ back) same;
       own = subst (λ (c : StopTime). c.trip ≡ trip) same own;
-      none_between = λ c m _. Memᴰ.not_nil m;
+      none_between = λ c m _. Memᴰ.not-nil m;
     })
     (λ other.
     let further = last_read trip back call (sym (last_other trip next back other) ∙ e) in
@@ -82,7 +82,7 @@ neighbours_on next calls first second are =
 behind_are : (call : StopTime) (back : List StopTime) (o : Option StopTime) (pair : Pair) → last_call call.trip back ≡ o
     → Memᴰ pair (pair_behind o call) → AreNeighbours (call ∷ back) pair.first pair.second
 unfolding pair_behind
-behind_are call back none pair e m = absurd (Memᴰ.not_nil m)
+behind_are call back none pair e m = absurd (Memᴰ.not-nil m)
 behind_are call back (some previous) pair e m =
     let last = last_read call.trip back previous e in
     subst⁻¹ (λ (p : Pair). AreNeighbours (call ∷ back) p.first p.second) (Memᴰ.eq_of_singleton m)
@@ -98,7 +98,7 @@ behind_are call back (some previous) pair e m =
 -- the two calls of a pair are of one trip, and no call of it was read between them
 pub neighbours_are : (calls : List StopTime) (pair : Pair) → Memᴰ pair (neighbours calls) → AreNeighbours calls pair.first pair.second
 unfolding neighbours
-neighbours_are [] pair m = absurd (Memᴰ.not_nil m)
+neighbours_are [] pair m = absurd (Memᴰ.not-nil m)
 neighbours_are (call ∷ back) pair m =
     ⊎_elim (λ earlier. neighbours_on call back pair.first pair.second (neighbours_are back pair earlier))
     (λ own. behind_are call back (last_call call.trip back) pair refl own)

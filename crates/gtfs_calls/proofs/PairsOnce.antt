@@ -14,7 +14,7 @@ use Rattle.gtfs_calls.proofs.Neighbours.{pair_members}
 use Rattle.gtfs_calls.proofs.Rising.{text_rising}
 
 none_twice_with : (pairs : List Pair) (pair : Pair) → NoneTwice pairs → (Memᴰ pair pairs → ⊥) → NoneTwice (pairs ++ (pair ∷ []))
-none_twice_with [] pair no_pair new = one_pair_more (λ m. Memᴰ.not_nil m) no_pair
+none_twice_with [] pair no_pair new = one_pair_more (λ m. Memᴰ.not-nil m) no_pair
 none_twice_with (first ∷ pairs) pair (one_pair_more apart others) new =
     one_pair_more
     (λ m. ⊎_elim apart (λ there. new (Memᴰ.head (sym (Memᴰ.eq_of_singleton there)))) (Memᴰ.append_cases pairs m))

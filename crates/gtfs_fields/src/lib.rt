@@ -1,10 +1,12 @@
 // Document 02, E2: what a field of `stop_times.txt` says.
+#![tactic(auto)]
+
 ghost use Rattle.std.specs.Prelude.{◌≡◌, ◌≤◌, length};
 ghost use Rattle.gtfs_fields.specs.Whole.{whole_below};
 ghost use Rattle.gtfs_fields.specs.Time.{tail_bytes, tail_minutes, time_within};
 
 // A number that a field says, if it is well formed and within what is asked.
-#[derive(Drop)]
+#[derive(Clone, Copy)]
 pub enum Number {
     Is { value: usize },
     Wrong,

@@ -1,11 +1,13 @@
 // Document 02, E2: ids, numbered by first appearance and found through a table.
+#![tactic(auto)]
+
 ghost use Rattle.std.specs.Prelude.{◌≡◌, ◌+◌, ◌≤◌, ◌<◌, length};
 ghost use Rattle.gtfs_ids.specs.Ids.{longest_id};
 ghost use Rattle.gtfs_ids.specs.Keys.{packed, key_of, same_key, buckets, bucket_of};
 ghost use Rattle.gtfs_ids.specs.Book.{Chained, book_with, cell_of, key_in, key_number, keys_in, place_in};
 
 // An id's bytes as two numbers, and how many bytes it has.
-#[derive(Drop)]
+#[derive(Clone, Copy)]
 pub struct Key {
     pub front: u64,
     pub back: u64,

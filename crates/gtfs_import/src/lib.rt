@@ -20,21 +20,21 @@ use gtfs_stop_times::{Read, Wanted, stop_times};
 use text::put_text;
 
 // A file of so many bytes with this trailer was written, or a refusal with its number and place.
-#[derive(Drop)]
+#[derive(Clone, Copy)]
 pub enum Imported {
     Written { trailer: Trailer, bytes: usize },
     Refused { number: usize, place: usize },
 }
 
 // The line of the text's first fault and the column that it is in, 0 for the line as a whole; both 0 where there is none.
-#[derive(Drop)]
+#[derive(Clone, Copy)]
 pub struct Place {
     pub line: usize,
     pub column: usize,
 }
 
 // The names' text ends there, or a refusal by its number, or too little room for the longest such text.
-#[derive(Drop)]
+#[derive(Clone, Copy)]
 pub enum Named {
     Text { end: usize },
     Refused { number: usize },

@@ -37,7 +37,7 @@ each_first separator byte other [] none = ((other, tt), tt)
 each_first separator byte other (part ∷ more) none = ((other, none.0), none.1)
 
 each_member : (separator : ℕ) (ps : List (List ℕ)) → EachWithout separator ps → {part : List ℕ} → Memᴰ part ps → Without separator part
-each_member separator [] none m = absurd (Memᴰ.not_nil m)
+each_member separator [] none m = absurd (Memᴰ.not-nil m)
 each_member separator (part ∷ more) none {part = wanted} m =
     head_or_later (Without separator wanted) m (λ e. subst⁻¹ (Without separator) e none.0) (λ later. each_member separator more none.1 later)
 

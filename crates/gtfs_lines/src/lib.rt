@@ -1,4 +1,6 @@
 // Document 02, E2: the lines of `stop_times.txt`, and where their fields lie.
+#![tactic(auto)]
+
 ghost use Rattle.std.specs.Prelude.{◌≡◌, ◌+◌, ◌≤◌, length, drop};
 ghost use Rattle.std.proofs.Math.Seq.{slice};
 ghost use Rattle.text.specs.Same.{same_bytes};
@@ -15,14 +17,14 @@ const QUOTE_MARK: u8 = 34;
 const COMMA: u8 = 44;
 
 // Where a field lies: from its first byte to the one behind its last.
-#[derive(Drop)]
+#[derive(Clone, Copy)]
 pub struct Span {
     pub from: usize,
     pub to: usize,
 }
 
 // The columns that are wanted, counted from 1; 0 where the header has none of that name.
-#[derive(Drop)]
+#[derive(Clone, Copy)]
 pub struct Columns {
     pub trip: usize,
     pub arrival: usize,
@@ -32,7 +34,7 @@ pub struct Columns {
 }
 
 // The fields of these columns on a line.
-#[derive(Drop)]
+#[derive(Clone, Copy)]
 pub struct Fields {
     pub trip: Span,
     pub arrival: Span,
@@ -42,14 +44,14 @@ pub struct Fields {
 }
 
 // A line with a quote mark, or its fields and where the next line starts.
-#[derive(Drop)]
+#[derive(Clone, Copy)]
 pub enum Line {
     Quoted,
     Cut { fields: Fields, next: usize },
 }
 
 // The columns that a header names, and where the next line starts; or a header with a quote mark.
-#[derive(Drop)]
+#[derive(Clone, Copy)]
 pub enum Header {
     Quoted,
     Named { columns: Columns, next: usize },

@@ -12,7 +12,7 @@ use gtfs_ids::{Key, key_of};
 use gtfs_lines::{Fields, Span};
 
 // What a line says by itself: the keys of its ids and where they lie, its minutes and its place in the trip.
-#[derive(Drop)]
+#[derive(Clone, Copy)]
 pub struct Call {
     pub trip: Key,
     pub tripplace: usize,
@@ -24,7 +24,7 @@ pub struct Call {
 }
 
 // A call, or the fault of a line's fields by themselves.
-#[derive(Drop)]
+#[derive(Clone, Copy)]
 pub enum Said {
     Call { call: Call },
     Wrong { number: usize, column: usize },

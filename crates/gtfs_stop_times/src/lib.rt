@@ -23,7 +23,7 @@ use text::{put_byte, put_text};
 use timetable::{MOST_ROWS, MOST_STOPS, MOST_TRIPS, Row};
 
 // How many trips, stops and rows there are so far.
-#[derive(Drop)]
+#[derive(Clone, Copy)]
 pub struct Counts {
     pub trips: usize,
     pub stops: usize,
@@ -31,7 +31,7 @@ pub struct Counts {
 }
 
 // What is written of the calls: their rows in order, or the names of their ids.
-#[derive(Drop)]
+#[derive(Clone, Copy)]
 pub enum Wanted {
     Rows,
     Names,
@@ -39,7 +39,7 @@ pub enum Wanted {
 
 // All lines were read: so many trips, stops and rows, and so many bytes were written. Or the first fault, its line and the column that
 // it is in.
-#[derive(Drop)]
+#[derive(Clone, Copy)]
 pub enum Read {
     Calls {
         counts: Counts,
@@ -53,7 +53,7 @@ pub enum Read {
 }
 
 // All lines were read, or the first fault.
-#[derive(Drop)]
+#[derive(Clone, Copy)]
 enum Lines {
     Whole {
         counts: Counts,
@@ -66,21 +66,21 @@ enum Lines {
 }
 
 // The columns that are wanted, and the minute at which the service day starts.
-#[derive(Drop)]
+#[derive(Clone, Copy)]
 struct Service {
     columns: Columns,
     start: usize,
 }
 
 // The same as `Taken`, and where the next line starts.
-#[derive(Drop)]
+#[derive(Clone, Copy)]
 enum Step {
     On { next: usize, counts: Counts },
     Wrong { number: usize, column: usize },
 }
 
 // So many trips, stops and rows with a call more, or the call's fault.
-#[derive(Drop)]
+#[derive(Clone, Copy)]
 enum Taken {
     On { counts: Counts },
     Wrong { number: usize, column: usize },

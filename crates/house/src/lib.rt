@@ -5,7 +5,7 @@ ghost use Rattle.house.specs.House.{cumulative, house_pairs, pair_of};
 ghost use Rattle.house.specs.HouseShare.{house_share};
 
 // A house pair: change time and parameter.
-#[derive(Drop)]
+#[derive(Clone, Copy)]
 pub struct Pair {
     pub change: u32,
     pub parameter: u32,
@@ -15,7 +15,7 @@ pub struct Pair {
 const SHARE_TOTAL: u32 = 4096;
 
 // One cumulative share, or a refusal with its number and place.
-#[derive(Drop)]
+#[derive(Clone, Copy)]
 pub enum HouseShare {
     Share { cumulative: u32 },
     Refused { number: u32, place: u32 },

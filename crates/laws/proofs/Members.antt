@@ -12,7 +12,7 @@ mapped f (Memᴰ.head e) = Memᴰ.head (ap f e)
 mapped f (Memᴰ.tail m) = Memᴰ.tail (mapped f m)
 
 pub mapped_from : {A B : Type 0} (f : A → B) (l : List A) {b : B} → Memᴰ b (map f l) → (a : A) × Memᴰ a l × (b ≡ f a)
-mapped_from f [] m = absurd (Memᴰ.not_nil m)
+mapped_from f [] m = absurd (Memᴰ.not-nil m)
 mapped_from {A} f (x ∷ l) {b} m =
     head_or_later ((a : A) × Memᴰ a (x ∷ l) × (b ≡ f a)) m (λ e. (x, Memᴰ.head refl, e))
     (λ k. let found : (a : A) × Memᴰ a l × (b ≡ f a) = mapped_from f l k in (found.0, Memᴰ.tail found.1, found.2))

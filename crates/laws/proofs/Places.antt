@@ -13,6 +13,7 @@ member_at (x ∷ l) (suc i) d h = Memᴰ.tail (member_at l i d (omega arith))
 
 -- a member has a place
 pub place_of {ℓ} : {A : Type ℓ} (l : List A) (d : A) {a : A} → Memᴰ a l → (i : ℕ) × (i < length l) × (get_or l i d ≡ a)
+place_of {A = A} [] d {a = a} m = elim m [ ]
 place_of (x ∷ l) d (Memᴰ.head e) = (0, (let z : 0 < length (x ∷ l) = omega arith in z), sym e)
 place_of (x ∷ l) d (Memᴰ.tail m) =
     let further = place_of l d m in (suc further.0, (let z : suc further.0 < length (x ∷ l) = omega (arith, further.1) in z), further.2)

@@ -1,4 +1,6 @@
 // Numbers in and out: bytes, cells of a lent slice, and the widths between which they are cast.
+#![tactic(auto)]
+
 ghost use Rattle.std.specs.Prelude.{◌≡◌, ◌+◌, ◌*◌, ◌≤◌, ◌<◌, length, take};
 ghost use Rattle.std.proofs.lemmas.List.Edits.{sets};
 ghost use Rattle.numbers.specs.Numbers.{u16_at, u32_at, u16_bytes, u32_bytes};

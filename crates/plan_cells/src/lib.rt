@@ -9,6 +9,7 @@
 // | 2,402 + 2n + 2e | pair n + 1 + e, a stack's entry: 2,048 x departure + row, its worth | one region a stop, sized by its rows: no links to follow, and a search by quarters |
 //
 // In all 4n + 2,402 cells. Nothing is sized by a class's maximum.
+#![tactic(auto)]
 
 ghost use Rattle.std.specs.Prelude.{◌≡◌, ◌+◌, ◌≤◌, ◌<◌, length};
 ghost use Rattle.plan_cells.specs.Cells.{filled};

@@ -63,7 +63,7 @@ module _ (gate target : ℕ) (whole chosen : List Valued) where
             ordered = o;
             own_worth = w;
             among = among;
-            later = λ v m. absurd (Memᴰ.not_nil m);
+            later = λ v m. absurd (Memᴰ.not-nil m);
             left = λ v m h. left v m (omega arith);
           }
       go (v ∷ vs) e (ahead before o) (own.ahead moves worth on w) among later left =
@@ -112,7 +112,7 @@ module _ (gate target : ℕ) (whole chosen : List Valued) where
           (rest : List Valued) → whole ≡ past ++ extract gate target ws rest → Ordered rest → OwnWorth gate target rest
           → ((u : Valued) → Memᴰ u rest → Memᴰ u chosen) → ((u : Valued) → Memᴰ u rest → i ≤ u.ride.board)
           → ((u : Valued) → Memᴰ u chosen → i ≤ u.ride.board → Memᴰ u rest) → Memᴰ v rest → Taken gate target whole chosen ws past i v
-      go [] e o w among later left m = absurd (Memᴰ.not_nil m)
+      go [] e o w among later left m = absurd (Memᴰ.not-nil m)
       go (x ∷ vs) e (ahead before o) (own.ahead moves worth on w) among later left m =
           let same : v ≡ x = head_or_later (v ≡ x) m (λ q. q)
           (λ n. absurd (let z : ⊥ = omega (arith, (before v n).rows, later x (Memᴰ.head refl)) in z)) in

@@ -18,7 +18,7 @@ use plan_stacks::{departure_of, first_open, row_of, stack_of};
 use plans::Goal;
 
 // How many rides a plan has, and the largest a + M of them.
-#[derive(Drop)]
+#[derive(Clone, Copy)]
 pub struct Written {
     pub rides: usize,
     pub latest: u32,

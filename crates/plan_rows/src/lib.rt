@@ -11,7 +11,7 @@ use timetable::Row;
 
 // Where a sound file's sections stand: how many rows, the first one's byte, the bytes of a row; how
 // many classes, the first one's byte.
-#[derive(Drop)]
+#[derive(Clone, Copy)]
 pub struct SectionPlaces {
     pub rows: usize,
     pub rowstart: usize,

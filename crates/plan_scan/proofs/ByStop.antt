@@ -29,7 +29,7 @@ at_head P s v vs here elsewhere =
 -- a member of the stop's list boards there
 pub at_from : (s : ℕ) (vs : List Valued) {x : Valued} → Memᴰ x (at_stop s vs) → x.ride.from ≡ s
 unfolding at_stop
-at_from s [] m = absurd (Memᴰ.not_nil m)
+at_from s [] m = absurd (Memᴰ.not-nil m)
 at_from s (v ∷ vs) {x} m =
     at_head (x.ride.from ≡ s) s v vs
     (λ here e. head_or_later (x.ride.from ≡ s) (subst (λ (l : List Valued). Memᴰ x l) e m)

@@ -15,14 +15,14 @@ use timetable::MOST_STOPS;
 const KEY: usize = 2048;
 
 // A stop's stack: the cell of its bottom entry, and how many entries there are.
-#[derive(Drop)]
+#[derive(Clone, Copy)]
 pub struct Stack {
     pub start: usize,
     pub size: usize,
 }
 
 // A stack's top entry: its row, when it departs, and what it is worth.
-#[derive(Drop)]
+#[derive(Clone, Copy)]
 pub struct TopEntry {
     pub row: usize,
     pub departure: usize,
@@ -132,7 +132,7 @@ pub fn first_open(work: &[u32], stack: Stack, minute: usize) -> usize
 }
 
 // Entries of a stack, `left` of them from place `low` on: the highest that can be boarded is among them.
-#[derive(Drop)]
+#[derive(Clone, Copy)]
 struct Span {
     low: usize,
     left: usize,

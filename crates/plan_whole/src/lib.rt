@@ -28,7 +28,7 @@ use query::Query;
 const TABLE_CELLS: usize = 4096;
 
 // A plan's ride count, expected ticks, latest minute and bound (0 for none), or a refusal.
-#[derive(Drop)]
+#[derive(Clone, Copy)]
 pub enum Planned {
     Plan {
         rides: u32,

@@ -17,7 +17,7 @@ use plan_whole::{Planned, earliest_in_room, plan_in_room};
 use query::{LEAST_MARGIN, Query, query_rule};
 
 // What is lent, and what a call needs of it: so much a row, a stop, and beside them.
-#[derive(Drop)]
+#[derive(Clone, Copy)]
 pub struct Room {
     pub lent: usize,
     pub perrow: usize,
@@ -34,14 +34,14 @@ pub const NO_ROOM: Room = Room {
 };
 
 // The trailer of a sound file that a call goes on with, or the first of the refusals 1 to 7.
-#[derive(Drop)]
+#[derive(Clone, Copy)]
 pub enum Admission {
     Admitted { trailer: Trailer },
     Refused { number: u32, place: u32 },
 }
 
 // The earliest safe arrival E, or a refusal.
-#[derive(Drop)]
+#[derive(Clone, Copy)]
 pub enum Earliest {
     Arrival { minute: u32 },
     Refused { number: u32, place: u32 },

@@ -163,7 +163,7 @@ module _ (aim : Aim) (t : Timetable) where
   pub chosen_picked : (i : ℕ) → i ≤ length t.rows → (v : Valued) → Memᴰ v (chosen_from aim t i) → Picked i v
   chosen_picked =
       downward (λ i. (v : Valued) → Memᴰ v (chosen_from aim t i) → Picked i v) (length t.rows)
-      (λ v m. absurd (Memᴰ.not_nil (subst (λ (l : List Valued). Memᴰ v l) (chosen_end aim t) m)))
+      (λ v m. absurd (Memᴰ.not-nil (subst (λ (l : List Valued). Memᴰ v l) (chosen_end aim t) m)))
       (λ i h later v m. picked_by i h later _ _ refl (choice aim (best_at aim t i) (chosen_from aim t (suc i))) v
       (subst (λ (l : List Valued). Memᴰ v l) (chosen_row aim t i h) m))
 

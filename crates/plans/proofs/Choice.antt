@@ -56,7 +56,7 @@ others_member r (v ∷ vs) {x} m =
 
 pub others_apart : (r : Ride) (vs : List Valued) {x : Valued} → Memᴰ x (others r vs) → x.ride.from ≡ r.from → x.ride.departs ≢ r.departs
 unfolding others
-others_apart r [] m there = absurd (Memᴰ.not_nil m)
+others_apart r [] m there = absurd (Memᴰ.not-nil m)
 others_apart r (v ∷ vs) {x} m there =
     ifb (λ b. same_minute v.ride r ≡ b → Memᴰ x (cond b (others r vs) (v ∷ others r vs)) → x.ride.departs ≢ r.departs)
     (same_minute v.ride r) (λ _ _ k. others_apart r vs k there)

@@ -136,7 +136,7 @@ module _ (aim : Aim) (t : Timetable) (timely : Timely t) where
   pub chosen_gaining : (i : ℕ) → i ≤ length t.rows → Gaining aim.margin (chosen_from aim t i)
   chosen_gaining =
       downward (λ i. Gaining aim.margin (chosen_from aim t i)) (length t.rows)
-      (λ a b m. absurd (Memᴰ.not_nil (subst (λ (l : List Valued). Memᴰ a l) (chosen_end aim t) m)))
+      (λ a b m. absurd (Memᴰ.not-nil (subst (λ (l : List Valued). Memᴰ a l) (chosen_end aim t) m)))
       (λ i h gain. subst (λ (l : List Valued). Gaining aim.margin l) (sym (chosen_row aim t i h))
       (gaining_by i h gain _ _ refl (choice aim (best_at aim t i) (chosen_from aim t (suc i)))))
 

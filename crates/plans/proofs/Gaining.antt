@@ -27,7 +27,7 @@ pub leads_each :
     (margin : ℕ) (vs : List Valued) → Ordered vs → Gaining margin vs → (w s : ℕ) → leads margin w (first_at vs s) ≡ true → (x : Valued)
     → Memᴰ x vs → x.ride.from ≡ s → w + margin ≤ x.worth
 unfolding leads first_at
-leads_each margin [] o gain w s lead x m there = absurd (Memᴰ.not_nil m)
+leads_each margin [] o gain w s lead x m there = absurd (Memᴰ.not-nil m)
 leads_each margin (v ∷ vs) (ahead before o) gain w s lead x m there =
     ifb (λ b. eqb v.ride.from s ≡ b → leads margin w (cond b (some v) (first_at vs s)) ≡ true → w + margin ≤ x.worth) (eqb v.ride.from s)
     (λ e _ l. let first : w + margin ≤ v.worth = leb-true (w + margin) v.worth l in

@@ -70,7 +70,7 @@ found_boards (x ∷ vs) s m {v} e =
 
 -- where one can be boarded, a first is found
 pub finds : (vs : List Valued) (s m : ℕ) {v : Valued} → Memᴰ v vs → boards v.ride s m ≡ true → (u : Valued) × (first_open vs s m ≡ some u)
-finds [] s m k b = absurd (Memᴰ.not_nil k)
+finds [] s m k b = absurd (Memᴰ.not-nil k)
 finds (x ∷ vs) s m {v} k b =
     on_head ((u : Valued) × (first_open (x ∷ vs) s m ≡ some u)) x vs s m (λ _ h. (x, h))
     (λ c h. head_or_later ((u : Valued) × (first_open (x ∷ vs) s m ≡ some u)) k

@@ -31,7 +31,7 @@ pub data Ordered : List Valued → Type 0 where
 pub members_apart :
     {P : Type 0} (vs : List Valued) → Ordered vs → (x y : Valued) → Memᴰ x vs → Memᴰ y vs → (x ≡ y → P) → (Before x y → P)
     → (Before y x → P) → P
-members_apart [] o x y m n one' first second = absurd (Memᴰ.not_nil m)
+members_apart [] o x y m n one' first second = absurd (Memᴰ.not-nil m)
 members_apart {P} (v ∷ vs) (ahead before o) x y m n one' first second =
     head_or_later P m
     (λ p. head_or_later P n (λ q. one' (p ∙ sym q)) (λ k. first (subst (λ (u : Valued). Before u y) (sym p) (before y k))))
@@ -42,7 +42,7 @@ members_apart {P} (v ∷ vs) (ahead before o) x y m n one' first second =
 pub first_before :
     (vs : List Valued) → Ordered vs → (s m : ℕ) (x : Valued) → Memᴰ x vs → boards x.ride s m ≡ true
     → (u : Valued) × (first_open vs s m ≡ some u) × ((u ≡ x) ⊎ Before u x)
-first_before [] o s m x k b = absurd (Memᴰ.not_nil k)
+first_before [] o s m x k b = absurd (Memᴰ.not-nil k)
 first_before (v ∷ vs) (ahead before o) s m x k b =
     on_head Found v vs s m
     (λ _ h. (v, h, head_or_later ((v ≡ x) ⊎ Before v x) k (λ q. inl (sym q)) (λ n. inr (before x n))))

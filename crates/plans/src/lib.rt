@@ -1,7 +1,7 @@
 // Document 01, "Rides, safe journeys, plans", and document 02, E1 and E3: what planning aims at.
 
 // The target, the bound (0 for none), the margin between chosen rows, and the gate time.
-#[derive(Drop)]
+#[derive(Clone, Copy)]
 pub struct Goal {
     pub target: usize,
     pub bound: usize,

@@ -41,7 +41,7 @@ valued_most :
     (gate target minute : ℕ) (rides : List Ride) → ((r : Ride) → Memᴰ r rides → (sum r.shares ≡ share_total) × (lands_by r ≤ minute))
     → (v : Valued) → Memᴰ v (valued gate target rides) → v.worth ≤ ticks_a_minute * minute
 unfolding valued land_worth
-valued_most gate target minute [] each v m = absurd (Memᴰ.not_nil m)
+valued_most gate target minute [] each v m = absurd (Memᴰ.not-nil m)
 valued_most gate target minute (r ∷ rides) each v m =
     let behind = valued_most gate target minute rides (λ x k. each x (Memᴰ.tail k)) in
     let own = each r (Memᴰ.head refl) in

@@ -1,11 +1,13 @@
 // Document 01, "Rides, safe journeys, plans" and "The sheet", and document 02, E1 and E3: what is asked of a plan, its bytes and its rule.
+#![tactic(auto)]
+
 ghost use Rattle.std.specs.Prelude.{◌≡◌, ◌≤◌, length};
 ghost use Rattle.query.specs.Query.{code_rule, four_numbers, gate_rule, journey_rule, margin_rule, plain_query, query_bytes, query_in, query_rule, with_code, with_gate, with_margin};
 
 use numbers::{number, u16_at};
 
 // Source, target, minute T, bound code q, margin and gate time.
-#[derive(Drop)]
+#[derive(Clone, Copy)]
 pub struct Query {
     pub source: usize,
     pub target: usize,

@@ -29,7 +29,7 @@ use text::{put_byte, put_number, put_text};
 use timetable::Row;
 
 // What came of a sheet: where its text ends, or that the lent bytes are too few.
-#[derive(Drop)]
+#[derive(Clone, Copy)]
 pub enum Sheeted {
     Text { end: usize },
     NoRoom,

@@ -12,21 +12,21 @@ use file_layout::{Format, VERSION_ONE};
 use numbers::u16_at;
 
 // A landing of the pier log: the minute that was planned, and the actual one.
-#[derive(Drop)]
+#[derive(Clone, Copy)]
 pub struct Landing {
     pub planned: usize,
     pub actual: usize,
 }
 
 // A landing was counted, or refused with a number and place.
-#[derive(Drop)]
+#[derive(Clone, Copy)]
 pub enum Tallied {
     Counted,
     Refused { number: usize, place: usize },
 }
 
 // All landings of a log were counted, or one was refused: by its number, and as its place which landing it was, from 0.
-#[derive(Drop)]
+#[derive(Clone, Copy)]
 pub enum Logged {
     All { landings: usize },
     Refused { number: usize, place: usize },

@@ -15,7 +15,7 @@ use tally::{COUNTS, counts_rule};
 use timetable::SHARE_TOTAL;
 
 // A table was made: its maximum delay, how many landings it rests on, and how many stand apart; or a refusal.
-#[derive(Drop)]
+#[derive(Clone, Copy)]
 pub enum Made {
     Table {
         delay: usize,

@@ -1,11 +1,13 @@
 // Document 01, "The sailing file": a row, and what its numbers are held to.
+#![tactic(auto)]
+
 ghost use Rattle.std.specs.Prelude.{not, ◌≡◌, ltb, leb, eqb};
 ghost use Rattle.std.proofs.Math.Option.{some};
 ghost use Rattle.timetable.specs.Limits.{most_trips};
 ghost use Rattle.timetable.specs.Rows.{own_rule, follows as follows_row};
 
 // One sailing or bus hop: the six numbers of a row, in the file's order.
-#[derive(Drop)]
+#[derive(Clone, Copy)]
 pub struct Row {
     pub board: usize,
     pub land: usize,
@@ -16,7 +18,7 @@ pub struct Row {
 }
 
 // Stops S, classes K and the last minute that a row may name.
-#[derive(Drop)]
+#[derive(Clone, Copy)]
 pub struct Ranges {
     pub stops: usize,
     pub classes: usize,

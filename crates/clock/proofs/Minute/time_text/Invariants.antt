@@ -1,0 +1,12 @@
+use mathlib.Core.Path.{ap}
+use lib.ListN.{drop}
+use native.Mathlib.Omega.{arith}
+use borrow.Author.Rules.{rules}
+use Rattle.clock.proofs.Writing.{Written, written_start, written_on, written_end}
+use Rattle.clock.proofs.Minute.time_text.Given as goal
+
+abbrev pub invariant-loop-left : goal.invariant-loop-left
+invariant-loop-left l = Written l.initial.left (drop l.initial.at l.initial.bytes) l.bytes l.at l.left
+
+abbrev pub decreases-loop-left : goal.decreases-loop-left
+decreases-loop-left l = l.left

@@ -1,0 +1,17 @@
+use Prim.Native.Nat.{◌+◌, ◌-◌, ◌≤◌}
+use mathlib.Core.Path.{◌≡◌, refl, sym, ◌∙◌}
+use native.Mathlib.Omega.{arith}
+use borrow.Author.Rules.{rules}
+use lib.ListN.{length, drop, get_or}
+use mathlib.Core.Bool.{false}
+use mathlib.Core.Logic.{⊎_elim}
+use Rattle.gtfs_lines.specs.Marks.{marked_by, plain_ahead}
+use Rattle.gtfs_lines.proofs.Marks.{high_plain, mark_here, mark_later, mark_none}
+use Rattle.gtfs_lines.proofs.mark_from.Given as goal
+
+abbrev pub invariant-loop-at : goal.invariant-loop-at
+invariant-loop-at l =
+    (l.from + plain_ahead (drop l.from l.text) ≡ l.at + plain_ahead (drop l.at l.text)) × (l.at ≤ length l.text)
+
+abbrev pub decreases-loop-at : goal.decreases-loop-at
+decreases-loop-at l = length l.text - l.at

@@ -1,0 +1,15 @@
+-- `gtfs_lines::with_name` meets its contract. Assumes nothing.
+use borrow.Author.Rules.{rules}
+use lib.Seq.{slice}
+use Rattle.gtfs_lines.proofs.Naming.{with_name_lem}
+use Rattle.gtfs_lines.proofs.with_name.Goals as goal
+
+pub returns : goal.returns
+returns c =
+    let a = c.args in
+    with_name_lem (slice a.from a.to a.text.now) a.column a.columns
+    c.found.ensures
+    c.found-2.ensures
+    c.found-3.ensures
+    c.found-4.ensures
+    c.found-5.ensures
