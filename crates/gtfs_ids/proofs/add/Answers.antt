@@ -28,5 +28,5 @@ shape_of-book c = simp length-set
 pub returns : goal.returns
 returns c =
     let a = c.args in
-    let bucket = c.bucket_of_lem in
+    let bucket = c.bucket_of-bucket in
     six_stores a.book.now a.count a.key a.place (cell_of a.count) bucket.result refl bucket.ensures.0

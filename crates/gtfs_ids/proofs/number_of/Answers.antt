@@ -22,7 +22,7 @@ pub loop-named-init : goal.loop-named-init
 loop-named-init c =
     let a = c.args in
     let chained = c.requires.0 in
-    let bucket = c.bucket_of_lem.ensures.0 in
+    let bucket = c.bucket_of.ensures.0 in
     let bound : bucket_of a.key < buckets = omega arith in (
       chained,
       c.requires.1,
@@ -41,7 +41,7 @@ returns-then-has_key c =
     let a = c.args in
     let l = c.loop-named in
     let inside : l.named - 1 < a.count = omega (arith, l.invariant.2.within) in
-    let same : same_key (key_in a.book.now (l.named - 1)) a.key ≡ true = sym c.has_key_lem.ensures ∙ c.if-has_key.true in
+    let same : same_key (key_in a.book.now (l.named - 1)) a.key ≡ true = sym c.has_key.ensures ∙ c.if-has_key.true in
     sym (search_found a.book.now a.count a.key (l.named - 1) l.invariant.0 inside (same_key_equal _ _ same))
 
 pub overflow_mul-named : goal.overflow_mul-named
@@ -75,7 +75,7 @@ loop-named-preserved c =
     let a = c.args in
     let l = c.loop-named in
     let one : l.named ≡ suc (l.named - 1) = omega arith in
-    let other : same_key (key_in a.book.now (l.named - 1)) a.key ≡ false = sym c.has_key_lem.ensures ∙ c.if-has_key.false in (
+    let other : same_key (key_in a.book.now (l.named - 1)) a.key ≡ false = sym c.has_key.ensures ∙ c.if-has_key.false in (
       l.invariant.0,
       l.invariant.1,
       search_on a.book.now a.count a.key (l.named - 1) l.named l.invariant.0 l.invariant.2 one (other_different_key _ _ other),

@@ -47,7 +47,7 @@ returns-then-byte-eq-LINE_FEED c =
     let l = c.loop-at in
     let text = c.args.text.now in
     let last = last_as (at_feed l.invariant.1 (omega arith) c.if-byte-eq-LINE_FEED.true) c.last_end-to.ensures (add-one l.at) in
-    named_told (l.invariant.0 ∙ header_last text l.column l.columns l.from l.invariant.2 last) c.with_name_lem.ensures
+    named_told (l.invariant.0 ∙ header_last text l.column l.columns l.from l.invariant.2 last) c.with_name.ensures
 
 pub returns-then-byte-eq-QUOTE_MARK : goal.returns-then-byte-eq-QUOTE_MARK
 returns-then-byte-eq-QUOTE_MARK c =

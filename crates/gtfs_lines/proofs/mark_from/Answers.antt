@@ -9,6 +9,7 @@ use mathlib.Core.Logic.{⊎_elim}
 use Rattle.gtfs_lines.specs.Marks.{marked_by, plain_ahead}
 use Rattle.gtfs_lines.proofs.Marks.{high_plain, mark_here, mark_later, mark_none}
 use Rattle.gtfs_lines.proofs.mark_from.Goals as goal
+use Rattle.gtfs_lines.proofs.mark_from.Goals.{then-byte-le-COMMA+else-is_mark, else-byte-le-COMMA}
 
 pub loop-at-init : goal.loop-at-init
 loop-at-init c = (refl, omega arith)
@@ -33,7 +34,10 @@ loop-at-preserved c =
     let l = c.loop-at in
     let text = c.args.text.now in
     let plain : marked_by (get_or text l.at 0) ≡ false =
-    ⊎_elim (λ low. sym low.1.ensures ∙ low.2.left) (λ high. high_plain (get_or text l.at 0) high.left) c.if-byte-le-COMMA.branch
+    elim c.if-byte-le-COMMA.branch [
+      | then-byte-le-COMMA+else-is_mark w ↦ sym w.is_mark.ensures ∙ w.if-is_mark.false
+      | else-byte-le-COMMA w ↦ high_plain (get_or text l.at 0) w.if-byte-le-COMMA.false
+    ]
     in
     (l.invariant.0 ∙ mark_later text l.at (omega arith) plain, omega arith)
 

@@ -7,3 +7,7 @@ use Rattle.clock.proofs.Minute.since_midnight.Goals as goal
 
 pub overflow_sub-result : goal.overflow_sub-result
 overflow_sub-result c = omega (arith, day_started c.args.self.minute)
+
+pub returns : goal.returns
+unfolding since_midnight
+returns c = search rules
