@@ -1,4 +1,6 @@
 // Document 01, "Numbers returned on refusal": the first step of the check, the trailer and the class blocks.
+#![tactic(auto)]
+
 ghost use Rattle.std.specs.Prelude.{◌≡◌, ◌&&◌, ◌+◌, ◌-◌, ◌*◌, ◌≤◌, ◌<◌, leb, eqb, length};
 ghost use Rattle.timetable.specs.Limits.{fewest_stops, most_stops, most_rows, fewest_classes, most_classes};
 ghost use Rattle.timetable.specs.Classes.{sum, shares_rule};

@@ -1,4 +1,6 @@
 // Document 02, E2: what one line of `stop_times.txt` says by itself: a call, or the first fault of its fields.
+#![tactic(auto)]
+
 ghost use Rattle.std.specs.Prelude.{◌≡◌, ◌-◌, ◌≤◌, length};
 ghost use Rattle.gtfs_fields.specs.Time.{time_within};
 ghost use Rattle.gtfs_fields.specs.Whole.{whole_below};

@@ -1,4 +1,6 @@
 // Document 01, "House delay tables", and document 02, E5: the eight house tables, each entry worked out from its pair when wanted.
+#![tactic(auto)]
+
 ghost use Rattle.std.specs.Prelude.{◌≡◌, ◌+◌, ◌*◌, ◌<◌, length};
 ghost use Rattle.timetable.specs.Classes.{share_total};
 ghost use Rattle.house.specs.House.{cumulative, house_pairs, pair_of};

@@ -1,4 +1,5 @@
 // Document 01, "Rides, safe journeys, plans", and document 02, E1 and E3: what planning aims at.
+#![tactic(auto)]
 
 // The target, the bound (0 for none), the margin between chosen rows, and the gate time.
 #[derive(Clone, Copy)]

@@ -1,4 +1,6 @@
 // Room to lend: what the largest sound file, its query and its plan need.
+#![tactic(auto)]
+
 ghost use Rattle.std.specs.Prelude.{◌≡◌, length};
 ghost use Rattle.rooms.specs.Rooms.{plan_numbers, query_room, sailings_room, work_numbers, zeros};
 

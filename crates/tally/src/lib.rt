@@ -1,4 +1,6 @@
 // Document 02, E4: landings of the pier log, tallied by lateness.
+#![tactic(auto)]
+
 ghost use Rattle.std.specs.Prelude.{◌≡◌, ◌+◌, ◌<◌, max, pos, length};
 ghost use Rattle.numbers.specs.Numbers.{u16_at};
 ghost use Rattle.file_layout.specs.Format.{version_one};

@@ -1,4 +1,6 @@
 // Document 01, "Both sides of each line": a whole answer as six numbers, for the comparison with an independent second program.
+#![tactic(auto)]
+
 ghost use Rattle.std.specs.Prelude.{[], ◌∷◌, ◌≡◌};
 ghost use Rattle.trial_answers.specs.Seen.{in_six};
 

@@ -12,62 +12,62 @@ use Rattle.file_sections.proofs.class_block.Statement.{statement}
 use Rattle.file_sections.proofs.class_block.Tie as tie
 
 -- behind its test the maximum delay keeps its rule
-delay_small : (c : tie.Else2)
-    → c.before.before.u16_at.result ≤ c.before.before.before.before.before.before.args.f.delay
-delay_small c = leb-true _ _ (rule_keeps c.before.delay_rule.ensures c.if2.false)
+delay_small : (c : tie.Else-not-delay_rule)
+    → c.u16_at-delay.result ≤ c.args.f.delay
+delay_small c = leb-true _ _ (rule_keeps c.delay_rule.ensures c.if-not-delay_rule.false-raw)
 
 -- and where the test is taken, it breaks the rule
-delay_large : (c : tie.Then2)
-    → c.before.before.before.before.before.before.args.f.delay < c.before.before.u16_at.result
-delay_large c = leb-false _ _ (rule_breaks c.before.delay_rule.ensures c.if2.true)
+delay_large : (c : tie.Then-not-delay_rule)
+    → c.args.f.delay < c.u16_at-delay.result
+delay_large c = leb-false _ _ (rule_breaks c.delay_rule.ensures c.if-not-delay_rule.true-raw)
 
-bytes_between_requires : tie.Need-bytes-between-requires
+bytes_between_requires : tie.Need-bytes_between-room-requires
 bytes_between_requires c κs = search rules
 
-returns : tie.Need-returns
+returns : tie.Need-returns-then-room-lt2
 returns c = sym (no_room_lem _ _ _ _ _ (omega arith))
 
-u16_at_requires : tie.Need-u16-at-requires
+u16_at_requires : tie.Need-u16_at-delay-requires
 u16_at_requires c κs = search rules
 
-delay_rule_requires : tie.Need-delay-rule-requires
+delay_rule_requires : tie.Need-delay_rule-requires
 delay_rule_requires c κs = search rules
 
-returns_2 : tie.Need-returns-2
+returns_2 : tie.Need-returns-then-not-delay_rule
 returns_2 c = sym (delay_breaks _ _ _ _ _ (omega arith) (omega (arith, delay_large c)))
 
-mul_if3 : tie.Need-overflow-mul-if3
+mul_if3 : tie.Need-overflow_mul-delay
 mul_if3 c = search rules
 
-add_if3 : tie.Need-overflow-add-if3
+add_if3 : tie.Need-overflow_add-delay
 add_if3 c = search rules
 
-returns_3 : tie.Need-returns-3
+returns_3 : tie.Need-returns-then-room-delay
 unfolding block_end
 returns_3 c = sym (shares_outside _ _ _ _ _ (omega arith) (omega (arith, delay_small c.before)) (omega arith))
 
-shares_keep_requires : tie.Need-shares-keep-requires
+shares_keep_requires : tie.Need-shares_keep-requires
 shares_keep_requires c κs = search rules
 
-returns_4 : tie.Need-returns-4
+returns_4 : tie.Need-returns-then-not-shares_keep
 unfolding block_end
 returns_4 c =
-    let broken = rule_breaks c.before.shares_keep.ensures c.if4.true in
+    let broken = rule_breaks c.shares_keep.ensures c.if-not-shares_keep.true-raw in
     sym (shares_break _ _ _ _ _ (omega arith) (omega (arith, delay_small c.before.before.before)) (omega arith) broken)
 
-add_t11 : tie.Need-overflow-add-t11
+add_t11 : tie.Need-overflow_add-result
 add_t11 c = search rules
 
-mul_t10 : tie.Need-overflow-mul-t10
+mul_t10 : tie.Need-overflow_mul-result
 mul_t10 c = search rules
 
-add_t12 : tie.Need-overflow-add-t12
+add_t12 : tie.Need-overflow_add-result-2
 add_t12 c = search rules
 
-returns_5 : tie.Need-returns-5
+returns_5 : tie.Need-returns
 unfolding block_end
 returns_5 c =
-    let kept = rule_keeps c.before.shares_keep.ensures c.if4.false in
+    let kept = rule_keeps c.shares_keep.ensures c.if-not-shares_keep.false-raw in
     let small = delay_small c.before.before.before in
     sym (block_keeps _ _ _ _ _ (omega arith) (omega (arith, small)) (omega arith) kept ∙ ap End (omega arith))
 

@@ -18,178 +18,178 @@ use Rattle.gtfs_stop_time.proofs.call_of.Statement.{statement}
 use Rattle.gtfs_stop_time.proofs.call_of.Tie as tie
 
 -- the line's fields and its day's start, where they are told to be filled
-abbrev texts : tie.Else1 → FieldTexts
-texts c = texts_at c.before.before.before.args.text.now c.before.before.before.args.fields
+abbrev texts : tie.Else-column-ne0 → FieldTexts
+texts c = texts_at c.args.text.now c.args.fields
 
-abbrev day : tie.Else1 → ℕ
-day c = c.before.before.before.args.start
+abbrev day : tie.Else-column-ne0 → ℕ
+day c = c.args.start
 
-filled : (c : tie.Else1) → filled_verdict (texts c) ≡ fine
+filled : (c : tie.Else-column-ne0) → filled_verdict (texts c) ≡ fine
 filled c =
-    let a = c.before.before.before in
-    filled_fine a.args.text.now a.args.fields a.requires.0 c.before.unfilled.result c.before.unfilled.ensures c.if1.false
+    let a = c in
+    filled_fine a.args.text.now a.args.fields a.requires.0 c.unfilled-column.result c.unfilled-column.ensures c.if-column-ne0.false
 
 -- the places before: a departure is told behind the arrival, an arrival behind the fields
-abbrev ahead : tie.After-known-told → tie.Else1
-ahead c = c.before.before.before.before
+abbrev ahead : tie.In-Is → tie.Else-column-ne0
+ahead c = c.before.before.before
 
-abbrev landed : tie.After-known-told2 → tie.After-known-told
-landed c = c.before.before.before.before
+abbrev landed : tie.In-Is-departs → tie.In-Is
+landed c = c.before.before.before
 
 -- what each time told
-arrives : (c : tie.After-known-told) → TimeTold (day (ahead c)) (texts (ahead c)).arrival c.before.arrives.given.0.0
+arrives : (c : tie.In-Is) → TimeTold (day (ahead c)) (texts (ahead c)).arrival c.in-Is.arrival
 arrives c =
-    let asked = c.before.before.before in
-    let a = asked.before.before.before.before in
-    time_told a.args.start _ _ a.requires.1 (sym asked.time_at.ensures ∙ c.before.arrives.given.1)
+    let asked = c in
+    let a = c in
+    time_told a.args.start _ _ a.requires.1 (sym asked.time_at-arrives.ensures ∙ c.in-Is.is)
 
-departs : (c : tie.After-known-told2)
-    → TimeTold (day (ahead (landed c))) (texts (ahead (landed c))).departure c.before.departs.given.0.0
+departs : (c : tie.In-Is-departs)
+    → TimeTold (day (ahead (landed c))) (texts (ahead (landed c))).departure c.in-Is-departs.departure
 departs c =
-    let asked = c.before.before.before in
+    let asked = c in
     let a = (ahead (landed c)).before.before.before in
-    time_told a.args.start _ _ a.pre.1 (sym asked.time_at2.ensures ∙ c.before.departs.given.1)
+    time_told a.args.start _ _ a.pre.1 (sym asked.time_at-departs.ensures ∙ c.in-Is-departs.is)
 
 -- the times of a call that does not depart before it arrives
-timed : (c : tie.Else2) → times_verdict (day (ahead (landed c.before))) (texts (ahead (landed c.before))) ≡ fine
-timed c = times_fine _ _ (arrives (landed c.before)) (departs c.before) c.if2.false
+timed : (c : tie.Else-departure-arrival) → times_verdict (day (ahead (landed c.before))) (texts (ahead (landed c.before))) ≡ fine
+timed c = times_fine _ _ (arrives (landed c.before)) (departs c.before) c.if-departure-arrival.false
 
-unfilled_requires : tie.Need-unfilled-requires
+unfilled_requires : tie.Need-unfilled-column-requires
 unfilled_requires c κs = search rules
 
 wrong_requires : tie.Need-wrong-requires
 wrong_requires c κs = search rules
 
-returns : tie.Need-returns
+returns : tie.Need-returns-then-column-ne0
 returns c =
-    let test = c.before in
-    let a = test.before.before.before in
-    let column = test.before.unfilled in
+    let test = c in
+    let a = c in
+    let column = test.unfilled-column in
     c.wrong.ensures
     ∙ refused_said a.args.start a.args.text.now a.args.fields
     (own_unfilled a.args.start _
-    (unfilled_fault a.args.text.now a.args.fields a.requires.0 column.result column.ensures test.if1.true))
+    (unfilled_fault a.args.text.now a.args.fields a.requires.0 column.result column.ensures test.if-column-ne0.true))
 
-sub_most : tie.Need-overflow-sub-most
+sub_most : tie.Need-overflow_sub-most
 sub_most c = search rules
 
-time_at_requires : tie.Need-time-at-requires
+time_at_requires : tie.Need-time_at-arrives-requires
 time_at_requires c κs = search rules
 
-enum_known_arrives : tie.Need-enum-known-arrives
+enum_known_arrives : tie.Need-enum_known-arrives
 enum_known_arrives c = search rules
 
-enum_told : tie.Need-enum-told
+enum_told : tie.Need-enum_told-1
 enum_told c = search rules
 
-wrong_requires_2 : tie.Need-wrong-requires-2
+wrong_requires_2 : tie.Need-wrong-requires-in_default
 wrong_requires_2 c κs = search rules
 
-returns_2 : tie.Need-returns-2
+returns_2 : tie.Need-returns-in_default
 returns_2 c =
-    let told = c.before in
-    let asked = told.before.before in
-    let a = asked.before.before.before.before in
-    c.wrong2.ensures
+    let told = c in
+    let asked = c in
+    let a = c in
+    c.wrong-in_default.ensures
     ∙ refused_said a.args.start a.args.text.now a.args.fields
-    (own_untimed a.args.start _ (filled asked.before)
-    (arrival_broken a.args.start _ (time_wrong a.args.start _ a.requires.1 (sym asked.time_at.ensures ∙ told.enum_told.given.1))))
+    (own_untimed a.args.start _ (filled c.before.before.before.before)
+    (arrival_broken a.args.start _ (time_wrong a.args.start _ a.requires.1 (sym asked.time_at-arrives.ensures ∙ told.in_default.is))))
 
-time_at_requires_2 : tie.Need-time-at-requires-2
+time_at_requires_2 : tie.Need-time_at-departs-requires
 time_at_requires_2 c κs = search rules
 
-enum_known_departs : tie.Need-enum-known-departs
+enum_known_departs : tie.Need-enum_known-departs
 enum_known_departs c = search rules
 
-enum_told_2 : tie.Need-enum-told-2
+enum_told_2 : tie.Need-enum_told-in_default-departs
 enum_told_2 c = search rules
 
-wrong_requires_3 : tie.Need-wrong-requires-3
+wrong_requires_3 : tie.Need-wrong-requires-in_default-departs
 wrong_requires_3 c κs = search rules
 
-returns_3 : tie.Need-returns-3
+returns_3 : tie.Need-returns-in_default-departs
 returns_3 c =
-    let told = c.before in
-    let asked = told.before.before in
-    let there = ahead asked.before in
+    let told = c in
+    let asked = c in
+    let there = ahead c.before.before.before.before in
     let a = there.before.before.before in
-    c.wrong3.ensures
+    c.wrong-in_default-departs.ensures
     ∙ refused_said a.args.start a.args.text.now a.args.fields
     (own_untimed a.args.start _ (filled there)
-    (departure_broken a.args.start _ (arrives asked.before).holds
-    (time_wrong a.args.start _ a.pre.1 (sym asked.time_at2.ensures ∙ told.enum_told2.given.1))))
+    (departure_broken a.args.start _ (arrives c.before.before.before.before).holds
+    (time_wrong a.args.start _ a.pre.1 (sym asked.time_at-departs.ensures ∙ told.in_default-departs.is))))
 
-wrong_requires_4 : tie.Need-wrong-requires-4
+wrong_requires_4 : tie.Need-wrong-requires-then-departure-arrival
 wrong_requires_4 c κs = search rules
 
-returns_4 : tie.Need-returns-4
+returns_4 : tie.Need-returns-then-departure-arrival
 returns_4 c =
-    let test = c.before in
-    let arrival = landed test.before in
+    let test = c in
+    let arrival = landed c.before.before in
     let a = (ahead arrival).before.before.before in
-    c.wrong4.ensures
+    c.wrong-then-departure-arrival.ensures
     ∙ refused_said a.args.start a.args.text.now a.args.fields
     (own_untimed a.args.start _ (filled (ahead arrival))
-    (order_broken a.args.start _ (arrives arrival) (departs test.before) test.if2.true))
+    (order_broken a.args.start _ (arrives arrival) (departs c.before.before) test.if-departure-arrival.true))
 
-sequence_at_requires : tie.Need-sequence-at-requires
+sequence_at_requires : tie.Need-sequence_at-follows-requires
 sequence_at_requires c κs = search rules
 
-enum_known_follows : tie.Need-enum-known-follows
+enum_known_follows : tie.Need-enum_known-follows
 enum_known_follows c = search rules
 
-enum_told_3 : tie.Need-enum-told-3
+enum_told_3 : tie.Need-enum_told-in_default-follows
 enum_told_3 c = search rules
 
-wrong_requires_5 : tie.Need-wrong-requires-5
+wrong_requires_5 : tie.Need-wrong-requires-in_default-follows
 wrong_requires_5 c κs = search rules
 
-returns_5 : tie.Need-returns-5
+returns_5 : tie.Need-returns-in_default-follows
 returns_5 c =
-    let told = c.before in
-    let asked = told.before.before in
-    let there = ahead (landed asked.before.before) in
+    let told = c in
+    let asked = c in
+    let there = ahead (landed c.before.before.before.before.before) in
     let a = there.before.before.before in
-    c.wrong5.ensures
+    c.wrong-in_default-follows.ensures
     ∙ refused_said a.args.start a.args.text.now a.args.fields
-    (own_left a.args.start _ (filled there) (timed asked.before)
-    ∙ breaking_fault 13 5 (sequence_wrong _ (sym asked.sequence_at.ensures ∙ told.enum_told3.given.1)))
+    (own_left a.args.start _ (filled there) (timed c.before.before.before.before)
+    ∙ breaking_fault 13 5 (sequence_wrong _ (sym asked.sequence_at-follows.ensures ∙ told.in_default-follows.is)))
 
 -- the place where the order of the times is told, from where the sequence is
-abbrev ordered : tie.After-known-told3 → tie.Else2
-ordered c = c.before.before.before.before
+abbrev ordered : tie.In-Is-follows → tie.Else-departure-arrival
+ordered c = c.before.before.before
 
-key_at_requires : tie.Need-key-at-requires
+key_at_requires : tie.Need-key_at-requires
 key_at_requires c κs =
-    let there = ahead (landed (ordered c).before) in
+    let there = ahead (landed (ordered c.before).before) in
     let a = there.before.before.before in
     (a.pre.0.trip, short_there a.args.text.now a.args.fields.trip a.pre.0.trip (filled_ids (texts there) (filled there)).0)
 
-key_at_requires_2 : tie.Need-key-at-requires-2
+key_at_requires_2 : tie.Need-key_at-requires-2
 key_at_requires_2 c κs =
-    let there = ahead (landed (ordered c.before).before) in
+    let there = ahead (landed (ordered c.before.before.before).before) in
     let a = there.before.before.before in
     (a.pre.0.stop, short_there a.args.text.now a.args.fields.stop a.pre.0.stop (filled_ids (texts there) (filled there)).1)
 
-add_t13 : tie.Need-overflow-add-t13
-add_t13 c = omega (arith, told_in_week (arrives (landed (ordered c.before.before).before)))
+add_t13 : tie.Need-overflow_add-call
+add_t13 c = omega (arith, told_in_week (arrives (landed (ordered c.before.before.before.before).before)))
 
-add_t17 : tie.Need-overflow-add-t17
-add_t17 c = omega (arith, told_in_week (departs (ordered c.before.before).before))
-
-returns_6 : tie.Need-returns-6
+returns_6 : tie.Need-returns
 returns_6 c =
-    let told = c.before.before in
-    let asked = told.before.before.before in
-    let departure = (ordered told).before in
+    let told = c in
+    let asked = c in
+    let departure = (ordered c.before.before.before.before).before in
     let there = ahead (landed departure) in
     let a = there.before.before.before in
-    let counts = sequence_told _ _ (sym asked.sequence_at.ensures ∙ told.before.follows.given.1) in
+    let counts = sequence_told _ _ (sym asked.sequence_at-follows.ensures ∙ told.in-Is-follows.is) in
     ap SaysCall
-    (call_made a.args.start a.args.text.now a.args.fields c.before.key_at.ensures c.key_at2.ensures
+    (call_made a.args.start a.args.text.now a.args.fields c.key_at.ensures c.key_at-2.ensures
     (arrives (landed departure)).says (departs departure).says counts.1)
     ∙ fine_said a.args.start a.args.text.now a.args.fields
-    (own_left a.args.start _ (filled there) (timed (ordered told)) ∙ holding_fine _ 13 5 counts.0)
+    (own_left a.args.start _ (filled there) (timed (ordered c.before.before.before.before)) ∙ holding_fine _ 13 5 counts.0)
+
+found_25 : tie.Need-overflow_add-call-2
+found_25 c = search rules
 
 pub call_of_spec : {M : Type 1} → statement M
 call_of_spec =
@@ -219,5 +219,5 @@ call_of_spec =
     key_at_requires
     key_at_requires_2
     add_t13
-    add_t17
+    found_25
     returns_6)

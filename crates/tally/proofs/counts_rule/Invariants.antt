@@ -1,0 +1,16 @@
+use Prim.Native.Nat.{suc, ◌-◌, ◌≤◌}
+use mathlib.Core.Bool.{◌&&◌}
+use mathlib.Core.Path.{◌≡◌, refl, sym, ap, ◌∙◌}
+use native.Mathlib.Numerals.{add-one}
+use native.Mathlib.Omega.{arith}
+use lib.Dec.{leb}
+use lib.ListN.{length, drop}
+use Rattle.tally.specs.Tally.{most_count, counts_rule}
+use Rattle.tally.proofs.Counts.{rule_on, rule_end}
+use Rattle.tally.proofs.counts_rule.Given as goal
+
+abbrev pub invariant-loop-i : goal.invariant-loop-i
+invariant-loop-i l = (l.i ≤ length l.tally) × (counts_rule l.tally ≡ (leb l.largest most_count && counts_rule (drop l.i l.tally)))
+
+abbrev pub decreases-loop-i : goal.decreases-loop-i
+decreases-loop-i l = length l.tally - l.i

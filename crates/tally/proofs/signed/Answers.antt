@@ -1,0 +1,7 @@
+-- `tally::signed` meets its contract: a minute below 2^31 has no sign. Assumes nothing.
+use borrow.Author.Rules.{rules}
+use Rattle.tally.proofs.Differences.{minute_signed}
+use Rattle.tally.proofs.signed.Goals as goal
+
+pub returns : goal.returns
+returns c = minute_signed c.args.minute c.requires
