@@ -11,8 +11,8 @@ use Rattle.file_sections.proofs.stops_rule.Kinds as stops_rule_kinds
 use Rattle.file_sections.proofs.stops_rule.Reads as stops_rule_reads
 use Rattle.file_sections.proofs.rows_rule.Kinds as rows_rule_kinds
 use Rattle.file_sections.proofs.rows_rule.Reads as rows_rule_reads
-use Rattle.file_sections.proofs.rows_end_lem.Kinds as rows_end_kinds
-use Rattle.file_sections.proofs.rows_end_lem.Reads as rows_end_reads
+use Rattle.file_sections.proofs.rows_end.Kinds as rows_end_kinds
+use Rattle.file_sections.proofs.rows_end.Reads as rows_end_reads
 use Rattle.file_sections.proofs.class_blocks.Kinds as class_blocks_kinds
 use Rattle.file_sections.proofs.class_blocks.Reads as class_blocks_reads
 use Rattle.file_sections.proofs.delay_rule.Kinds as delay_rule_kinds

@@ -1,4 +1,6 @@
 // A sound file's rows by their numbers, and when one can board.
+#![tactic(auto)]
+
 ghost use Rattle.std.specs.Prelude.{◌≡◌, ◌≤◌, ◌<◌, leb};
 ghost use Rattle.timetable.specs.Timetable.{row_of};
 ghost use Rattle.file_layout.specs.Small.{SmallRow};

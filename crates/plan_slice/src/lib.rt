@@ -1,4 +1,6 @@
 // The plan in a lent slice: three numbers a ride, boarding row, leaving row and worth, by boarding row rising.
+#![tactic(auto)]
+
 ghost use Rattle.std.specs.Prelude.{◌≡◌, ◌+◌, ◌*◌, ◌<◌, length};
 ghost use Rattle.plan_slice.specs.Slice.{board_in, leave_in, worth_in, with_ride};
 

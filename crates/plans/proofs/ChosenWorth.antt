@@ -126,7 +126,7 @@ module _ (t : Timetable) (timely : Timely t) where
         (λ x m. subst (λ k. k ≤ x.ride.departs) (sym at.minute)
         (chosen_rising aim t timely i (suc i) (let z : i ≤ suc i = omega arith in z) h x m)) own)
       where
-        goes : {w : ℕ} {vs : List Valued} → Off goal v.ride vs w → v.ride.to ≢ goal.target
+        goes : {vs : List Valued} {w : ℕ} → Off goal v.ride vs w → v.ride.to ≢ goal.target
             → (safe : Valued) × (first_open vs v.ride.to (ready goal.gate (lands_by v.ride)) ≡ some safe)
         goes (arrives q b) away = absurd (away q)
         goes (goes_on {u = u} _ q) away = (u, q)

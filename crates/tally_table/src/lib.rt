@@ -1,4 +1,6 @@
 // Document 02, E4: the delay table of a class, made of its tally.
+#![tactic(auto)]
+
 ghost use Rattle.std.specs.Prelude.{true, ◌≡◌, ◌*◌, ◌<◌, length};
 ghost use Rattle.numbers.specs.Over.{over};
 ghost use Rattle.timetable.specs.Classes.{sum};
