@@ -1,4 +1,6 @@
 // Document 01, "Numbers returned on refusal": the check of a sailing file, its sections and then row by row.
+#![tactic(auto)]
+
 ghost use Rattle.std.specs.Prelude.{◌&&◌, [], ◌≡◌, ◌+◌, ◌*◌, ◌≤◌, leb, length};
 ghost use Rattle.timetable.specs.Rows.{last_of_trip, follows as follows_row, rows_verdict};
 ghost use Rattle.file_layout.specs.Format.{Readable};

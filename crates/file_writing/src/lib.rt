@@ -1,4 +1,6 @@
 // Document 01, "The sailing file": rows, a class block and the trailer written into lent bytes.
+#![tactic(auto)]
+
 ghost use Rattle.std.specs.Prelude.{[], ◌∷◌, ◌≡◌, ◌+◌, ◌≤◌, length};
 ghost use Rattle.std.proofs.lemmas.List.Edits.{sets};
 ghost use Rattle.file_encoding.specs.Encode.{row_bytes, tables_bytes, bytes_of_trailer};

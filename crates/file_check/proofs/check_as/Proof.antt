@@ -7,40 +7,40 @@ use Rattle.file_check.proofs.Steps.{refused_sections, rows_decide, rows_inside}
 use Rattle.file_check.proofs.check_as.Statement.{statement}
 use Rattle.file_check.proofs.check_as.Tie as tie
 
-read_sections_requires : tie.Need-read-sections-requires
+read_sections_requires : tie.Need-read_sections-sections-requires
 read_sections_requires c κs = search rules
 
-enum_known_sections : tie.Need-enum-known-sections
+enum_known_sections : tie.Need-enum_known-sections
 enum_known_sections c = search rules
 
-enum_known_sections_2 : tie.Need-enum-known-sections-2
+enum_known_sections_2 : tie.Need-enum_known-sections-in-Joined-1
 enum_known_sections_2 c = search rules
 
 -- where the sections join, the trailer is the one that was read
-joins : (c : tie.After-known-told2)
-    → sections_read c.before.before.before.before.before.args.f c.before.before.before.before.before.args.file.now
-    ≡ Joined c.before.sections2.given.0.0
-joins c = sym c.before.before.before.read_sections.ensures ∙ c.before.sections2.given.1
+joins : (c : tie.In-Joined)
+    → sections_read c.args.f c.args.file.now
+    ≡ Joined c.in-Joined.trailer
+joins c = sym c.read_sections-sections.ensures ∙ c.in-Joined.is
 
-check_rows_requires : tie.Need-check-rows-requires
+check_rows_requires : tie.Need-check_rows-requires
 check_rows_requires c κs =
-    let start = c.before.before.before.before.before in
-    rows_inside start.args.f start.args.file.now c.before.sections2.given.0.0 (joins c) start.requires
+    let start = c in
+    rows_inside start.args.f start.args.file.now c.in-Joined.trailer (joins c) start.requires
 
-returns : tie.Need-returns
+returns : tie.Need-returns-in-Fault
 returns c =
-    let a = c.before.before.before.before.before.args in
-    let refused = c.before.sections.given.0 in
+    let a = c.args in
+    let refused = c.sections-1.given.0 in
     let bad : sections_read a.f a.file.now ≡ Fault refused.0 refused.1.0 =
-    sym c.before.before.before.read_sections.ensures ∙ c.before.sections.given.1
+    sym c.read_sections-sections.ensures ∙ c.in-Fault.is
     in
     sym (refused_sections a.f a.file.now refused.0 refused.1.0 bad)
 
-returns_2 : tie.Need-returns-2
+returns_2 : tie.Need-returns-in-Joined
 returns_2 c =
-    let a = c.before.before.before.before.before.before.args in
+    let a = c.args in
     c.check_rows.ensures
-    ∙ sym (rows_decide a.f a.file.now c.before.before.sections2.given.0.0 (joins c.before))
+    ∙ sym (rows_decide a.f a.file.now c.in-Joined.trailer (joins c.before))
 
 pub check_as_spec : {M : Type 1} → statement M
 check_as_spec =

@@ -48,7 +48,7 @@ departs : (c : tie.In-Is-departs)
 departs c =
     let asked = c in
     let a = (ahead (landed c)).before.before.before in
-    time_told a.args.start _ _ a.pre.1 (sym asked.time_at-departs.ensures ∙ c.in-Is-departs.is)
+    time_told a.args.start _ _ a.requires.1 (sym asked.time_at-departs.ensures ∙ c.in-Is-departs.is)
 
 -- the times of a call that does not depart before it arrives
 timed : (c : tie.Else-departure-arrival) → times_verdict (day (ahead (landed c.before))) (texts (ahead (landed c.before))) ≡ fine
@@ -117,7 +117,7 @@ returns_3 c =
     ∙ refused_said a.args.start a.args.text.now a.args.fields
     (own_untimed a.args.start _ (filled there)
     (departure_broken a.args.start _ (arrives c.before.before.before.before).holds
-    (time_wrong a.args.start _ a.pre.1 (sym asked.time_at-departs.ensures ∙ told.in_default-departs.is))))
+    (time_wrong a.args.start _ a.requires.1 (sym asked.time_at-departs.ensures ∙ told.in_default-departs.is))))
 
 wrong_requires_4 : tie.Need-wrong-requires-then-departure-arrival
 wrong_requires_4 c κs = search rules
@@ -163,13 +163,13 @@ key_at_requires : tie.Need-key_at-requires
 key_at_requires c κs =
     let there = ahead (landed (ordered c.before).before) in
     let a = there.before.before.before in
-    (a.pre.0.trip, short_there a.args.text.now a.args.fields.trip a.pre.0.trip (filled_ids (texts there) (filled there)).0)
+    (a.requires.0.trip, short_there a.args.text.now a.args.fields.trip a.requires.0.trip (filled_ids (texts there) (filled there)).0)
 
 key_at_requires_2 : tie.Need-key_at-requires-2
 key_at_requires_2 c κs =
     let there = ahead (landed (ordered c.before.before.before).before) in
     let a = there.before.before.before in
-    (a.pre.0.stop, short_there a.args.text.now a.args.fields.stop a.pre.0.stop (filled_ids (texts there) (filled there)).1)
+    (a.requires.0.stop, short_there a.args.text.now a.args.fields.stop a.requires.0.stop (filled_ids (texts there) (filled there)).1)
 
 add_t13 : tie.Need-overflow_add-call
 add_t13 c = omega (arith, told_in_week (arrives (landed (ordered c.before.before.before.before).before)))
@@ -189,7 +189,7 @@ returns_6 c =
     (own_left a.args.start _ (filled there) (timed (ordered c.before.before.before.before)) ∙ holding_fine _ 13 5 counts.0)
 
 found_25 : tie.Need-overflow_add-call-2
-found_25 c = search rules
+found_25 c = omega (arith, told_in_week (departs (ordered c.before.before.before.before).before))
 
 pub call_of_spec : {M : Type 1} → statement M
 call_of_spec =

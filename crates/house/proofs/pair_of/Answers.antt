@@ -35,4 +35,8 @@ last : (k : ℕ) → k < 8 → 3 < k → (k ≡ 4 → ⊥) → (k ≡ 5 → ⊥)
 last k h past a b c = omega arith
 
 pub returns-in_default : goal.returns-in_default
-returns-in_default c = let h = c.in_default.in_default-own in ?
+returns-in_default c =
+    let none = c.in_default.in_default-own.rest in
+    let early = none.0.0.0 in
+    let past = past_three c.args.pair early.0.0.0.1 early.0.0.1 early.0.1 early.1 in
+    ap pair_of (last c.args.pair c.requires past none.0.0.1 none.0.1 none.1)

@@ -1,0 +1,25 @@
+-- `file_writing::put_trailer` meets its contract: four numbers of two bytes, and two offsets of four. Assumes nothing.
+use mathlib.Core.Path.{refl}
+use Rattle.numbers.specs.Numbers.{u16_bytes, u32_bytes}
+use Rattle.file_encoding.specs.Encode.{bytes_of_trailer}
+use Rattle.file_writing.proofs.Stores.{four_stored, six_stored}
+use borrow.Author.Rules.{rules}
+use Rattle.file_writing.proofs.put_trailer.Goals as goal
+
+pub returns : goal.returns
+unfolding bytes_of_trailer u32_bytes u16_bytes
+returns c =
+    let tables = c in
+    let start = c in
+    let classes = c in
+    let rows = c in
+    let stops = c in
+    let version = c in
+    let a = version.args in
+    let h = a.trailer in
+    let four =
+    four_stored a.out.now a.at h.version h.stops h.rows h.classes version.put_u16.ensures stops.put_u16-2.ensures
+    rows.put_u16-3.ensures classes.put_u16-4.ensures
+    in
+    six_stored a.out.now a.at h.version h.stops h.rows h.classes (u32_bytes h.rowstart) (u32_bytes h.tablestart) 12 refl
+    four start.put_u32.ensures tables.put_u32-2.ensures
