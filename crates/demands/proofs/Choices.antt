@@ -171,6 +171,7 @@ delayed_rides (delay_first same below onward) = ap₂ (λ r rides. r ∷ rides) 
 
 pub delayed_range :
     {rides : List Ride} {sailed : List Sailed} → Delayed rides sailed → (s : Sailed) → Memᴰ s sailed → s.delay < length s.ride.shares
+delayed_range undelayed s m = elim m [ ]
 delayed_range (delay_first {s = u} same below onward) s (Memᴰ.head here) =
     subst (λ (x : Sailed). x.delay < length x.ride.shares) (sym here)
     (subst (λ (r : Ride). u.delay < length r.shares) (sym same) below)

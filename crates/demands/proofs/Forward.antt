@@ -66,5 +66,6 @@ pub delay_latest : (r : Ride) (v : ℕ) → v < length r.shares → r.arrives + 
 delay_latest r v within = landing_latest r (r.arrives + v) (omega arith) (omega arith)
 
 pub rides_forward : {target : ℕ} {rides : List Ride} → AllTimed target rides → (r : Ride) → Memᴰ r rides → r.departs < r.arrives
+rides_forward {target = target} none r m = elim m [ ]
 rides_forward (one timed rest) r (Memᴰ.head same) = subst (λ (x : Ride). x.departs < x.arrives) (sym same) timed.forward
 rides_forward (one timed rest) r (Memᴰ.tail among) = rides_forward rest r among

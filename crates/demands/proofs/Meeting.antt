@@ -2,7 +2,7 @@
 use Prim.Native.Nat.{ℕ, suc, ◌+◌, ◌≤◌}
 use mathlib.Core.Bool.{true, false, false≢true}
 use mathlib.Core.List.Memᴰ
-use mathlib.Core.List.{List, ◌∷◌, Memᴰ}
+use mathlib.Core.List.{List, [], ◌∷◌, Memᴰ}
 use mathlib.Core.Logic.{◌≢◌}
 use mathlib.Core.Option.{some}
 use mathlib.Core.Path.{◌≡◌, refl, sym, ◌∙◌, ap, subst}
@@ -81,6 +81,7 @@ pub meets_boards :
     (gate target : ℕ) {r : Ride} (sailed : List Sailed) → AllTimed target (rides_sailed sailed) → (at : Standing) → Meets gate r sailed at.stop (ready gate at.minute)
     → Boards gate target sailed at r
 unfolding first_sailed steps landed
+meets_boards gate target {r = r} [] timed at m = elim m [ ]
 meets_boards gate target {r} (s ∷ sailed) (one timed rest) at (here is opens) =
     record {
       landings = 0;

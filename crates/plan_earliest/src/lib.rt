@@ -1,4 +1,6 @@
 // Document 01, "Rides, safe journeys, plans", and document 02, E3: the earliest safe arrival, by one scan forward.
+#![tactic(auto)]
+
 ghost use Rattle.std.specs.Prelude.{◌≡◌, ◌≢◌, ℕ, ◌+◌, ◌≤◌, ◌<◌, length};
 ghost use Rattle.timetable.specs.Limits.{most_stops, most_trips};
 ghost use Rattle.query.specs.Query.{most_gate};

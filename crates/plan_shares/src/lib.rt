@@ -1,4 +1,6 @@
 // A sound file's delay tables, as cumulative shares in lent cells.
+#![tactic(auto)]
+
 ghost use Rattle.std.specs.Prelude.{◌≡◌, suc, ◌+◌, ◌<◌, length};
 ghost use Rattle.timetable.specs.Limits.{most_classes};
 ghost use Rattle.file_layout.specs.Decode.{shares_from, table_at, block_end};

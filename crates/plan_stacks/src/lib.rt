@@ -1,4 +1,6 @@
 // The stack of chosen rows that a stop has in the work slice: entries of two cells, the latest departure at the bottom.
+#![tactic(auto)]
+
 ghost use Rattle.std.specs.Prelude.{◌≡◌, suc, ◌+◌, ◌-◌, ◌*◌, ◌/◌, ◌%◌, ◌≤◌, ◌<◌, length, get_or};
 ghost use Rattle.timetable.specs.Limits.{most_stops};
 ghost use Rattle.plan_cells.specs.Cells.{pair_cells, two_at};

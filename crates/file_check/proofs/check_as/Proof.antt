@@ -30,11 +30,10 @@ check_rows_requires c κs =
 returns : tie.Need-returns-in-Fault
 returns c =
     let a = c.args in
-    let refused = c.sections-1.given.0 in
-    let bad : sections_read a.f a.file.now ≡ Fault refused.0 refused.1.0 =
+    let bad : sections_read a.f a.file.now ≡ Fault c.in-Fault.number c.in-Fault.place =
     sym c.read_sections-sections.ensures ∙ c.in-Fault.is
     in
-    sym (refused_sections a.f a.file.now refused.0 refused.1.0 bad)
+    sym (refused_sections a.f a.file.now c.in-Fault.number c.in-Fault.place bad)
 
 returns_2 : tie.Need-returns-in-Joined
 returns_2 c =

@@ -61,7 +61,8 @@ mul_in_order : tie.Need-offset_bounds-seen-trip invariant_loop decreases_loop
 mul_in_order c = search rules
 
 array_read_in_order : tie.Need-bounds-seen-trip invariant_loop decreases_loop
-array_read_in_order c = trip_inside c
+array_read_in_order c =
+    (own_gives c.args.ranges c.row_at-row.result (sym c.own_rule.ensures ∙ not-false c.own_rule.result c.if-not-own_rule.false-raw)).trip
 
 cast_in_order : tie.Need-overflow_cast-seen invariant_loop decreases_loop
 cast_in_order c =

@@ -13,88 +13,88 @@ use Rattle.plan_shares.proofs.Running.{SoFar, so_far_none, so_far_more, total_wh
 use Rattle.plan_shares.proofs.read_shares.Statement.{statement}
 use Rattle.plan_shares.proofs.read_shares.Tie as tie
 
-abbrev invariant_loop : tie.invariant_loop
+abbrev invariant_loop : tie.invariant-loop-minute
 invariant_loop file at maximum into tables₀ minute₀ total₀ late₀ tables minute total late =
     SoFar file at maximum into tables₀ tables minute total late
 
-abbrev decreases_loop : tie.decreases_loop
+abbrev decreases_loop : tie.decreases-loop-minute
 decreases_loop file at maximum into tables₀ minute₀ total₀ late₀ tables minute total late = suc maximum - minute
 
-loop_holds : tie.Need-loop-init invariant_loop decreases_loop
+loop_holds : tie.Need-loop-minute-init invariant_loop decreases_loop
 loop_holds c =
-    let a = c.before.before.args in
+    let a = c.args in
     so_far_none a.file.now a.at a.maximum a.into a.tables.now
 
-mul_u16_at : tie.Need-overflow-mul-u16-at invariant_loop decreases_loop
+mul_u16_at : tie.Need-overflow_mul-minute invariant_loop decreases_loop
 mul_u16_at c = omega arith
 
-add_u16_at : tie.Need-overflow-add-u16-at invariant_loop decreases_loop
+add_u16_at : tie.Need-overflow_add-at invariant_loop decreases_loop
 add_u16_at c = omega arith
 
-u16_at_requires : tie.Need-u16-at-requires invariant_loop decreases_loop
+u16_at_requires : tie.Need-u16_at-share-requires invariant_loop decreases_loop
 u16_at_requires c κs = omega arith
 
 -- the shares so far and this one are no more than the whole
-total_small : (c : tie.After-u16-at invariant_loop decreases_loop) → c.before.before.loop.total + c.u16_at.result ≤ share_total
+total_small : (c : tie.After-u16_at-share invariant_loop decreases_loop) → c.loop-minute.total + c.u16_at-share.result ≤ share_total
 total_small c =
-    let a = c.before.before.before.before.before in
-    let l = c.before.before.loop in
+    let a = c in
+    let l = c.loop-minute in
     total_whole a.args.file.now a.args.at a.args.maximum a.args.into a.args.tables.now l.tables l.minute l.total
-    l.late c.u16_at.result l.invariant (omega arith) c.u16_at.ensures.0 a.requires.0.not_more
+    l.late c.u16_at-share.result l.invariant (omega arith) c.u16_at-share.ensures.0 a.requires.0.not_more
 
-late_small : (c : tie.After-u16-at invariant_loop decreases_loop) → c.u16_at.result * c.before.before.loop.minute ≤ 254 * c.u16_at.result
+late_small : (c : tie.After-u16_at-share invariant_loop decreases_loop) → c.u16_at-share.result * c.loop-minute.minute ≤ 254 * c.u16_at-share.result
 late_small c =
-    let a = c.before.before.before.before.before in
-    let l = c.before.before.loop in
+    let a = c in
+    let l = c.loop-minute in
     product_small a.args.file.now a.args.at a.args.maximum a.args.into a.args.tables.now l.tables l.minute l.total
-    l.late c.u16_at.result l.invariant (omega arith) c.u16_at.ensures.0 a.requires.0.few
+    l.late c.u16_at-share.result l.invariant (omega arith) c.u16_at-share.ensures.0 a.requires.0.few
 
-add_total : tie.Need-overflow-add-total invariant_loop decreases_loop
+add_total : tie.Need-overflow_add-total invariant_loop decreases_loop
 add_total c = omega (arith, total_small c)
 
-mul_late : tie.Need-overflow-mul-late invariant_loop decreases_loop
+mul_late : tie.Need-overflow_mul-late invariant_loop decreases_loop
 mul_late c = omega (arith, late_small c)
 
-add_late : tie.Need-overflow-add-late invariant_loop decreases_loop
-add_late c = omega (arith, late_small c, total_small c, c.before.before.loop.invariant.late_small)
+add_late : tie.Need-overflow_add-late invariant_loop decreases_loop
+add_late c = omega (arith, late_small c, total_small c, c.loop-minute.invariant.late_small)
 
 cell_requires : tie.Need-cell-requires invariant_loop decreases_loop
 cell_requires c κs = omega (arith, total_small c)
 
-add_tables : tie.Need-overflow-add-tables invariant_loop decreases_loop
+add_tables : tie.Need-overflow_add-tables invariant_loop decreases_loop
 add_tables c = omega arith
 
-mul_tables : tie.Need-overflow-mul-tables invariant_loop decreases_loop
-mul_tables c = omega (arith, c.before.before.before.before.before.before.well_formed)
+mul_tables : tie.Need-offset_bounds-tables-into invariant_loop decreases_loop
+mul_tables c = omega (arith, c.well_formed)
 
-slice_write_tables : tie.Need-slice-write-tables invariant_loop decreases_loop
+slice_write_tables : tie.Need-bounds-tables-into invariant_loop decreases_loop
 slice_write_tables c = omega arith
 
-add_minute : tie.Need-overflow-add-minute invariant_loop decreases_loop
+add_minute : tie.Need-overflow_add-minute invariant_loop decreases_loop
 add_minute c = omega arith
 
-loop_less : tie.Need-loop-smaller invariant_loop decreases_loop
+loop_less : tie.Need-loop-minute-smaller invariant_loop decreases_loop
 loop_less c = omega arith
 
-loop_again : tie.Need-loop-preserved invariant_loop decreases_loop
+loop_again : tie.Need-loop-minute-preserved invariant_loop decreases_loop
 loop_again c =
-    let a = c.before.before.before.before.before.before in
-    let l = c.before.before.before.loop in
+    let a = c in
+    let l = c.loop-minute in
     let more = so_far_more a.args.file.now a.args.at a.args.maximum a.args.into a.args.tables.now l.tables l.minute
     l.total l.late
-    c.before.u16_at.result l.invariant (omega arith) c.before.u16_at.ensures.0 a.requires.0.few a.requires.1 in
+    c.u16_at-share.result l.invariant (omega arith) c.u16_at-share.ensures.0 a.requires.0.few a.requires.1 in
     subst (λ x. SoFar a.args.file.now a.args.at a.args.maximum a.args.into a.args.tables.now
-    (set l.tables (a.args.into + l.minute) x) (l.minute + 1) (l.total + c.before.u16_at.result)
-    (l.late + c.before.u16_at.result * l.minute))
+    (set l.tables (a.args.into + l.minute) x) (l.minute + 1) (l.total + c.u16_at-share.result)
+    (l.late + c.u16_at-share.result * l.minute))
     (sym c.cell.ensures) more
 
-same_length : tie.Need-same-length invariant_loop decreases_loop
-same_length c = c.before.loop.invariant.summed.outside.same_length
+same_length : tie.Need-shape_of-tables invariant_loop decreases_loop
+same_length c = c.loop-minute.invariant.summed.outside.same_length
 
 returns : tie.Need-returns invariant_loop decreases_loop
 returns c =
-    let a = c.before.before.before.before.args in
-    let l = c.before.loop in
+    let a = c.args in
+    let l = c.loop-minute in
     let shares = shares_from a.file.now a.at (suc a.maximum) in
     let all : l.minute ≡ suc a.maximum = omega arith in
     let whole_list : take l.minute shares ≡ shares = take_all l.minute shares

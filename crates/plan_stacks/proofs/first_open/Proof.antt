@@ -6,29 +6,29 @@ use Rattle.plan_stacks.proofs.first_open.Statement.{statement}
 use Rattle.plan_stacks.proofs.first_open.Tie as tie
 
 -- what the steps from the top leave can be searched
-left_over : (c : tie.After-span-from-top) →
-    let a = c.before.before.args in
-    let span = c.span_from_top.result in
+left_over : (c : tie.After-span_from_top-span) →
+    let a = c.args in
+    let span = c.span_from_top-span.result in
     Searched a.work.now a.stack.start a.minute span.low span.left
-left_over c = onward c.before.before.requires c.span_from_top.ensures
+left_over c = onward c.requires c.span_from_top-span.ensures
 
-span_from_top_requires : tie.Need-span-from-top-requires
+span_from_top_requires : tie.Need-span_from_top-span-requires
 span_from_top_requires c κs = search rules
 
-quarter_requires : tie.Need-quarter-requires
+quarter_requires : tie.Need-quarter-short-requires
 quarter_requires c κs = left_over c
 
-last_open_requires : tie.Need-last-open-requires
-last_open_requires c κs = (onward (left_over c.before).falling c.quarter.ensures.0, c.quarter.ensures.1)
+last_open_requires : tie.Need-last_open-requires
+last_open_requires c κs = (onward (left_over c.before).falling c.quarter-short.ensures.0, c.quarter-short.ensures.1)
 
-mul_result : tie.Need-overflow-mul-result
+mul_result : tie.Need-overflow_mul-result
 mul_result c = search rules
 
-add_result : tie.Need-overflow-add-result
+add_result : tie.Need-overflow_add-result
 add_result c = search rules
 
 returns : tie.Need-returns
-returns c = answered (within c.before.before.span_from_top.ensures (within c.before.quarter.ensures.0 c.last_open.ensures))
+returns c = answered (within c.span_from_top-span.ensures (within c.quarter-short.ensures.0 c.last_open.ensures))
 
 pub first_open_spec : {M : Type 1} → statement M
 first_open_spec =

@@ -14,38 +14,38 @@ use Rattle.plan_stacks.proofs.Parting.{Parting, parting_begins, parting_on}
 use Rattle.plan_stacks.proofs.part_stacks.Statement.{statement}
 use Rattle.plan_stacks.proofs.part_stacks.Tie as tie
 
-abbrev invariant_loop : tie.invariant_loop
+abbrev invariant_loop : tie.invariant-loop-stop
 invariant_loop from work₀ stop₀ start₀ work stop start = (stop ≤ most_stops) × (start ≡ from + below (stack_size work₀) stop) × Parting from stop work₀ work
 
-abbrev decreases_loop : tie.decreases_loop
+abbrev decreases_loop : tie.decreases-loop-stop
 decreases_loop from work₀ stop₀ start₀ work stop start = most_stops - stop
 
-cell_requires : tie.Need-cell-requires invariant_loop decreases_loop
+cell_requires : tie.Need-cell-start-requires invariant_loop decreases_loop
 cell_requires c κs = omega arith
 
 nothing : (w : List ℕ) (from start : ℕ) → start ≡ from → start ≡ from + below (stack_size w) 0
 unfolding below
 nothing w from start e = omega arith
 
-loop_holds : tie.Need-loop-init invariant_loop decreases_loop
-loop_holds c = (omega arith, nothing c.before.before.args.work.now c.before.before.args.from c.cell.result c.cell.ensures, parting_begins c.before.before.args.from c.before.before.args.work.now)
+loop_holds : tie.Need-loop-stop-init invariant_loop decreases_loop
+loop_holds c = (omega arith, nothing c.args.work.now c.args.from c.cell-start.result c.cell-start.ensures, parting_begins c.args.from c.args.work.now)
 
-add_work : tie.Need-overflow-add-work invariant_loop decreases_loop
+add_work : tie.Need-overflow_add-work invariant_loop decreases_loop
 add_work c = omega arith
 
-mul_work : tie.Need-overflow-mul-work invariant_loop decreases_loop
+mul_work : tie.Need-offset_bounds-work-stop invariant_loop decreases_loop
 mul_work c = omega arith
 
-slice_write_work : tie.Need-slice-write-work invariant_loop decreases_loop
-slice_write_work c = omega (arith, c.before.loop.invariant.2.outside.same_length)
+slice_write_work : tie.Need-bounds-work-stop invariant_loop decreases_loop
+slice_write_work c = omega (arith, c.loop-stop.invariant.2.outside.same_length)
 
 -- the stop's size is as it was
 size_left :
-    (c : tie.After-slice-known2 invariant_loop decreases_loop)
-    → let l = c.before.before.loop in
-    get_or (set l.work (stop_cells + l.stop) l.start) (size_cells + l.stop) 0 ≡ stack_size c.before.before.before.before.before.args.work.now l.stop
+    (c : tie.After-slice_known-in-loop-stop-1 invariant_loop decreases_loop)
+    → let l = c.loop-stop in
+    get_or (set l.work (stop_cells + l.stop) l.start) (size_cells + l.stop) 0 ≡ stack_size c.args.work.now l.stop
 size_left c =
-    let l = c.before.before.loop in
+    let l = c.loop-stop in
     get_or-set_other l.work (stop_cells + l.stop) (size_cells + l.stop) l.start 0 (λ e. omega arith)
     ∙ l.invariant.2.left l.stop (let z : l.stop ≤ l.stop = omega arith in z) (omega arith)
 
@@ -53,50 +53,50 @@ further :
     (w : List ℕ) (from start stop size : ℕ) → start ≡ from + below (stack_size w) stop → size ≡ stack_size w stop → start + size ≡ from + below (stack_size w) (stop + 1)
 further w from start stop size e f = omega (arith, below_next (stack_size w) stop)
 
-add_start : tie.Need-overflow-add-start invariant_loop decreases_loop
+add_start : tie.Need-overflow_add-start invariant_loop decreases_loop
 add_start c = omega arith
 
-mul_start : tie.Need-overflow-mul-start invariant_loop decreases_loop
+mul_start : tie.Need-offset_bounds-work-stop-in-loop-stop invariant_loop decreases_loop
 mul_start c = omega arith
 
-slice_read_start : tie.Need-slice-read-start invariant_loop decreases_loop
-slice_read_start c = simp length-set (omega (arith, c.before.before.loop.invariant.2.outside.same_length))
+slice_read_start : tie.Need-bounds-work-stop-in-loop-stop invariant_loop decreases_loop
+slice_read_start c = simp length-set (omega (arith, c.loop-stop.invariant.2.outside.same_length))
 
-add_start_2 : tie.Need-overflow-add-start-2 invariant_loop decreases_loop
+add_start_2 : tie.Need-overflow_add-start-in-loop-stop invariant_loop decreases_loop
 add_start_2 c =
-    let a = c.before.before.before.before.before.args in
-    omega (arith, size_left c, below_later (stack_size a.work.now) c.before.before.loop.stop most_stops (omega arith))
+    let a = c.args in
+    omega (arith, size_left c, below_later (stack_size a.work.now) c.loop-stop.stop most_stops (omega arith))
 
-add_work_2 : tie.Need-overflow-add-work-2 invariant_loop decreases_loop
+add_work_2 : tie.Need-overflow_add-work-in-loop-stop invariant_loop decreases_loop
 add_work_2 c = omega arith
 
-mul_work_2 : tie.Need-overflow-mul-work-2 invariant_loop decreases_loop
+mul_work_2 : tie.Need-offset_bounds-work-stop-in-loop-stop-2 invariant_loop decreases_loop
 mul_work_2 c = omega arith
 
-slice_write_work_2 : tie.Need-slice-write-work-2 invariant_loop decreases_loop
-slice_write_work_2 c = simp length-set (omega (arith, c.before.before.loop.invariant.2.outside.same_length))
+slice_write_work_2 : tie.Need-bounds-work-stop-in-loop-stop-2 invariant_loop decreases_loop
+slice_write_work_2 c = simp length-set (omega (arith, c.loop-stop.invariant.2.outside.same_length))
 
-add_stop : tie.Need-overflow-add-stop invariant_loop decreases_loop
+add_stop : tie.Need-overflow_add-stop invariant_loop decreases_loop
 add_stop c = omega arith
 
-loop_less : tie.Need-loop-smaller invariant_loop decreases_loop
+loop_less : tie.Need-loop-stop-smaller invariant_loop decreases_loop
 loop_less c = omega arith
 
-loop_again : tie.Need-loop-preserved invariant_loop decreases_loop
+loop_again : tie.Need-loop-stop-preserved invariant_loop decreases_loop
 loop_again c =
-    let a = c.before.before.before.before.before in
-    let l = c.before.before.loop in (
+    let a = c in
+    let l = c.loop-stop in (
       omega arith,
       further a.args.work.now a.args.from l.start l.stop (get_or (set l.work (stop_cells + l.stop) l.start) (size_cells + l.stop) 0) l.invariant.1 (size_left c),
       parting_on a.args.from l.stop l.start a.args.work.now l.work (omega (arith, l.invariant.2.outside.same_length)) (omega arith) l.invariant.1 l.invariant.2,
     )
 
-same_length : tie.Need-same-length invariant_loop decreases_loop
-same_length c = c.before.loop.invariant.2.outside.same_length
+same_length : tie.Need-shape_of-work invariant_loop decreases_loop
+same_length c = c.loop-stop.invariant.2.outside.same_length
 
 returns : tie.Need-returns invariant_loop decreases_loop
 returns c =
-    let p = c.before.loop.invariant.2 in
+    let p = c.loop-stop.invariant.2 in
     record {
       outside = p.outside;
       starts = λ stop h. p.starts stop (omega arith);

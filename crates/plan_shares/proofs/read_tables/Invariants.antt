@@ -1,0 +1,12 @@
+use Prim.Native.Nat.{◌-◌, ◌<◌}
+use mathlib.Core.Path.{sym, subst, ◌∙◌}
+use native.Mathlib.Omega.{arith}
+use Rattle.plan_shares.specs.Summed.{BlockStands}
+use Rattle.plan_shares.proofs.Held.{ReadSoFar, block_stands, read_none, read_more}
+use Rattle.plan_shares.proofs.read_tables.Given as goal
+
+abbrev pub invariant-loop-k : goal.invariant-loop-k
+invariant-loop-k l = ReadSoFar l.file l.s l.tables l.k l.block
+
+abbrev pub decreases-loop-k : goal.decreases-loop-k
+decreases-loop-k l = l.s.classes - l.k
