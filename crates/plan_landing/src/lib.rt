@@ -1,4 +1,6 @@
 // Document 01, "Expected arrival in ticks", and document 02, E3: what getting off a row is worth, by its stop's stack of chosen rows.
+#![tactic(auto)]
+
 ghost use Rattle.std.specs.Prelude.{◌≡◌, List, ℕ, ◌+◌, ◌*◌, ◌/◌, ◌≤◌, ◌<◌};
 ghost use Rattle.timetable.specs.Classes.{share_total};
 ghost use Rattle.query.specs.Query.{most_gate};

@@ -75,7 +75,7 @@ pub late_bound : (shares : List ℕ) (minute top : ℕ) → minute + length shar
 unfolding weigh sum
 late_bound mathlib.Core.List.[] minute top h = omega arith
 late_bound (mathlib.Core.List.◌∷◌ p shares) minute top h =
-    omega (arith, late_bound shares (suc minute) top (omega arith), native.Mathlib.Nat.mul_le_mul_left {m = minute} {n = top} p (omega arith))
+    omega (arith, late_bound shares (suc minute) top (omega arith), native.Mathlib.Nat.mul-le-mul_left {m = minute} {n = top} p (omega arith))
 
 -- what is read of a standing block, as the code leaves it
 module _

@@ -1,4 +1,6 @@
 // Document 01, "Both sides of each line": tallying and tables with their whole answers, for the comparison with an independent second program.
+#![tactic(auto)]
+
 ghost use Rattle.std.specs.Prelude.{◌≡◌};
 ghost use Rattle.file_layout.specs.Format.{version_one};
 ghost use Rattle.tally.specs.Landing.{landing_at};

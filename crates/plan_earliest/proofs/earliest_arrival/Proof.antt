@@ -15,70 +15,72 @@ fill_requires c κs = search rules
 fill_requires_2 : tie.Need-fill-requires-2
 fill_requires_2 c κs = search rules
 
-add_here : tie.Need-overflow-add-here
+add_here : tie.Need-overflow_add-here
 add_here c = search rules
 
-add_there : tie.Need-overflow-add-there
+add_there : tie.Need-overflow_add-there
 add_there c = search rules
 
 cell_requires : tie.Need-cell-requires
 cell_requires c κs = search rules
 
-mul_work : tie.Need-overflow-mul-work
+mul_work : tie.Need-offset_bounds-work-here
 mul_work c = search rules
 
-slice_write_work : tie.Need-slice-write-work
+slice_write_work : tie.Need-bounds-work-here
 slice_write_work c = search rules
 
 -- the places on the way: the entry, and where the sweep starts
-abbrev entry : tie.After-sail-until-arg → tie.Start
+abbrev entry : tie.After-sail_until-arg-1 → tie.Start
 entry c = c.before.before.before.before.before.before.before.before.before.before.before.before.before.before.before
 
-abbrev sweep : tie.After-slice-known5 → tie.After-sail-until-arg
+abbrev sweep : tie.After-slice_known-5-1 → tie.After-sail_until-arg-1
 sweep c = c.before.before.before.before
 
-blank : (c : tie.After-sail-until-arg) → Blank (entry c).args.work.now c.before.before.before.before.before.before.fill2.new.0
+blank : (c : tie.After-sail_until-arg-1) → Blank (entry c).args.work.now c.fill-2.new.work
 blank c =
-    let stops_filled = c.before.before.before.before.before.before in
-    blanked (entry c).requires.7 stops_filled.before.before.before.before.fill.ensures stops_filled.fill2.ensures
+    let stops_filled = c in
+    blanked (entry c).requires.7 stops_filled.fill.ensures stops_filled.fill-2.ensures
 
-sail_until_requires : tie.Need-sail-until-requires
+sail_until_requires : tie.Need-sail_until-requires
 sail_until_requires c κs =
     let a = entry c in
-    let start = start_behind (blank c) a.args.q.source a.pre.2 c.before.cell.ensures in (
-      a.pre.0,
-      a.pre.1,
-      a.pre.3,
-      omega (arith, a.pre.6.inside, a.pre.0.rows_count),
-      omega (arith, a.pre.7, start.same_length),
-      a.pre.8,
+    let start = start_behind (blank c) a.args.q.source a.requires.2 c.cell.ensures in (
+      a.requires.0,
+      a.requires.1,
+      a.requires.3,
+      omega (arith, a.requires.6.inside, a.requires.0.rows_count),
+      omega (arith, a.requires.7, start.same_length),
+      a.requires.8,
     )
 
-mul_result : tie.Need-overflow-mul-result
+mul_result : tie.Need-offset_bounds-work-there
 mul_result c = search rules
 
 -- only the cells of trips and stops were touched
 behind :
-    (c : tie.After-slice-known5) → SameOutside trip_cells pair_cells (entry (sweep c)).args.work.now c.before.before.before.sail_until.new.1.1.1.1.1.1.0
+    (c : tie.After-slice_known-5-1) → SameOutside trip_cells pair_cells (entry (sweep c)).args.work.now c.sail_until.new.work
 behind c =
     let a = entry (sweep c) in
-    outside_then (start_behind (blank (sweep c)) a.args.q.source a.pre.2 (sweep c).before.cell.ensures)
-    c.before.before.before.sail_until.ensures.0
+    outside_then (start_behind (blank (sweep c)) a.args.q.source a.requires.2 (sweep c).before.cell.ensures)
+    c.sail_until.ensures.0
 
-slice_read_result : tie.Need-slice-read-result
+slice_read_result : tie.Need-bounds-work-there
 slice_read_result c =
-    let a = entry (sweep c) in
-    omega (arith, a.pre.3, a.pre.7, (behind c).same_length)
+    let s = c.before.before.before.before in
+    let a = entry s in
+    let left = outside_then (start_behind (blank s) a.args.q.source a.requires.2 c.cell.ensures) c.sail_until.ensures.0 in
+    omega (arith, a.requires.3, a.requires.7, left.same_length)
 
-same_length : tie.Need-same-length
+same_length : tie.Need-shape_of-work
 same_length c = (behind c).same_length
 
 returns : tie.Need-returns
 returns c =
     let a = entry (sweep c) in
-    let out = set_out (blank (sweep c)) a.args.q.source a.pre.2 (sweep c).before.cell.ensures in
-    let found = c.before.before.before.sail_until.ensures.1 a.args.q.source a.args.q.minute in (
-      answer_earliest a.args.file.now a.args.s a.pre.0 a.args.q a.args.first a.pre.4 a.pre.5 a.pre.6 out found,
+    let out = set_out (blank (sweep c)) a.args.q.source a.requires.2 (sweep c).before.cell.ensures in
+    let found = c.sail_until.ensures.1 a.args.q.source a.args.q.minute in (
+      answer_earliest a.args.file.now a.args.s a.requires.0 a.args.q a.args.first a.requires.4 a.requires.5 a.requires.6 out found,
       behind c,
     )
 

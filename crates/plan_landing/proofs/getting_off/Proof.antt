@@ -27,16 +27,16 @@ moved P {s} {t} {y} {z} e f p = subst (λ x. P x y) (sym e) (subst (λ x. P t x)
 abbrev begun : tie.After-number → tie.Start
 begun c = c.before.before.before.before.before
 
-abbrev timed_there : tie.Then1 → tie.After-number
+abbrev timed_there : tie.Then-row-goal → tie.After-number
 timed_there c = c.before.before.before.before
 
-abbrev elsewhere : tie.After-stack-of → tie.Else1
+abbrev elsewhere : tie.After-stack_of-stack → tie.Else-row-goal
 elsewhere c = c.before
 
-abbrev timed : tie.After-stack-of → tie.After-number
+abbrev timed : tie.After-stack_of-stack → tie.After-number
 timed c = (elsewhere c).before.before.before.before
 
-abbrev stacked : tie.After-can-board → tie.After-stack-of
+abbrev stacked : tie.After-can_board → tie.After-stack_of-stack
 stacked c = c.before.before.before.before.before.before
 
 -- a + M, as the class's block has it
@@ -52,151 +52,151 @@ lands c shares chosen given =
     (c.number.ensures.0 ∙ ap (λ k. get_or a.tables.now k 0) (add-zero (256 * a.row.class)) ∙ given.block.longest_held)
 
 -- when one who lands at a + M is ready
-abbrev last : tie.After-can-board → ℕ
+abbrev last : tie.After-can_board → ℕ
 last c = let t = timed (stacked c) in ready (begun t).args.goal.gate (landing t)
 
-some_entry : (c : tie.Else3) →
+some_entry : (c : tie.Else-stack-eq0) →
     let a = (begun (timed c.before.before)).args in
     0 < stack_size a.work.now a.row.land
-some_entry c = omega (arith, c.if3.false, c.before.before.stack_of.ensures.1)
+some_entry c = omega (arith, c.if-stack-eq0.false, c.stack_of-stack.ensures.1)
 
 -- the bottom entry's departure, as read
-bottom_read : (c : tie.After-can-board) →
+bottom_read : (c : tie.After-can_board) →
     let a = (begun (timed (stacked c))).args in
-    c.before.departure_of.result ≡ entry_departure a.work.now (stack_start a.work.now a.row.land) 0
+    c.departure_of.result ≡ entry_departure a.work.now (stack_start a.work.now a.row.land) 0
 bottom_read c =
     let a = (begun (timed (stacked c))).args in
     let s = (stacked c).stack_of in
     let there : s.result.start ≡ stack_start a.work.now a.row.land + 2 * 0 = omega (arith, s.ensures.0) in
-    c.before.departure_of.ensures ∙ ap (λ x. get_or a.work.now x 0 / key_step) there
+    c.departure_of.ensures ∙ ap (λ x. get_or a.work.now x 0 / key_step) there
 
-gone : (c : tie.Then4) →
+gone : (c : tie.Then-not-can_board) →
     let t = timed (stacked c.before) in
     let a = (begun t).args in
     entry_departure a.work.now (stack_start a.work.now a.row.land) 0 < last c.before
 gone c =
     subst (λ d. d < last c.before) (bottom_read c.before)
-    (leb-false (last c.before) c.before.before.departure_of.result
-    (ap (λ m. leb m c.before.before.departure_of.result) (sym c.before.before.before.before.ready.ensures)
-    ∙ sym c.before.can_board.ensures ∙ not-true c.before.can_board.result c.if4.true))
+    (leb-false (last c.before) c.departure_of.result
+    (ap (λ m. leb m c.departure_of.result) (sym c.ready-last.ensures)
+    ∙ sym c.can_board.ensures ∙ not-true c.can_board.result c.if-not-can_board.true-raw))
 
-late : (c : tie.Else4) →
+late : (c : tie.Else-not-can_board) →
     let t = timed (stacked c.before) in
     let a = (begun t).args in
     last c.before ≤ entry_departure a.work.now (stack_start a.work.now a.row.land) 0
 late c =
     subst (λ d. last c.before ≤ d) (bottom_read c.before)
-    (leb-true (last c.before) c.before.before.departure_of.result
-    (ap (λ m. leb m c.before.before.departure_of.result) (sym c.before.before.before.before.ready.ensures)
-    ∙ sym c.before.can_board.ensures ∙ not-false c.before.can_board.result c.if4.false))
+    (leb-true (last c.before) c.departure_of.result
+    (ap (λ m. leb m c.departure_of.result) (sym c.ready-last.ensures)
+    ∙ sym c.can_board.ensures ∙ not-false c.can_board.result c.if-not-can_board.false-raw))
 
 -- when one who lands on time is ready
-abbrev soon : tie.After-can-board → ℕ
+abbrev soon : tie.After-can_board → ℕ
 soon c = let a = (begun (timed (stacked c))).args in ready a.goal.gate a.row.arrival
 
-found : (c : tie.After-first-open) →
+found : (c : tie.After-first_open-at) →
     let a = (begun (timed (stacked c.before.before.before))).args in
     FirstOpenAt a.work.now (stack_start a.work.now a.row.land) (stack_size a.work.now a.row.land)
-    (soon c.before.before.before) c.first_open.result
+    (soon c.before.before.before) c.first_open-at.result
 found c =
     let s = stacked c.before.before.before in
     let a = (begun (timed s)).args in
-    moved (λ start size. FirstOpenAt a.work.now start size (soon c.before.before.before) c.first_open.result) (sym s.stack_of.ensures.0)
+    moved (λ start size. FirstOpenAt a.work.now start size (soon c.before.before.before) c.first_open-at.result) (sym s.stack_of.ensures.0)
     (sym s.stack_of.ensures.1)
-    (subst (λ m. FirstOpenAt a.work.now s.stack_of.result.start s.stack_of.result.size m c.first_open.result) c.before.ready2.ensures
-    c.first_open.ensures)
+    (subst (λ m. FirstOpenAt a.work.now s.stack_of.result.start s.stack_of.result.size m c.first_open-at.result) c.ready-soon.ensures
+    c.first_open-at.ensures)
 
-mul_class : tie.Need-overflow-mul-class
+mul_class : tie.Need-overflow_mul-class
 mul_class c = search rules
 
-add_number : tie.Need-overflow-add-number
+add_number : tie.Need-overflow_add-class
 add_number c = search rules
 
-mul_number : tie.Need-overflow-mul-number
+mul_number : tie.Need-offset_bounds-tables-class
 mul_number c = search rules
 
-shared_slice_read_number : tie.Need-shared-slice-read-number
+shared_slice_read_number : tie.Need-bounds-tables-class
 shared_slice_read_number c = search rules
 
 number_requires : tie.Need-number-requires
 number_requires c κs = search rules
 
-add_landing : tie.Need-overflow-add-landing
+add_landing : tie.Need-overflow_add-landing
 add_landing c = search rules
 
 bounded_requires : tie.Need-bounded-requires
 bounded_requires c κs = search rules
 
-returns : tie.Need-returns
+returns : tie.Need-returns-then-not-bounded
 returns c =
     λ shares chosen given.
     let t = timed_there c.before.before in
     let goal = (begun t).args.goal in
-    off_late given goal (landing t) (lands t shares chosen given) c.before.before.if1.true
-    (sym c.before.bounded.ensures ∙ not-true c.before.bounded.result c.if2.true)
+    off_late given goal (landing t) (lands t shares chosen given) c.if-row-goal.true
+    (sym c.bounded.ensures ∙ not-true c.bounded.result c.if-not-bounded.true-raw)
 
-mul_cell : tie.Need-overflow-mul-cell
+mul_cell : tie.Need-overflow_mul-row
 mul_cell c = search rules
 
 cell_requires : tie.Need-cell-requires
 cell_requires c κs = search rules
 
-add_result : tie.Need-overflow-add-result
+add_result : tie.Need-overflow_add-result
 add_result c = search rules
 
-mul_result : tie.Need-overflow-mul-result
+mul_result : tie.Need-offset_bounds-tables-class-then-row-goal
 mul_result c = search rules
 
-shared_slice_read_result : tie.Need-shared-slice-read-result
+shared_slice_read_result : tie.Need-bounds-tables-class-then-row-goal
 shared_slice_read_result c = search rules
 
-add_result_2 : tie.Need-overflow-add-result-2
+add_result_2 : tie.Need-overflow_add-result-then-row-goal
 add_result_2 c =
     let t = timed_there c.before.before.before.before.before in
-    omega (arith, c.before.cell.ensures, expected_fits (begun t).pre.0.given)
+    omega (arith, c.cell.ensures, expected_fits (begun t).requires.0.given)
 
-returns_2 : tie.Need-returns-2
+returns_2 : tie.Need-returns-then-row-goal
 returns_2 c =
     λ shares chosen given.
-    let there = c.before.before.before.before.before in
-    let t = timed_there there in
+    let there = c in
+    let t = timed_there c.before.before.before.before.before in
     let a = (begun t).args in
-    let soon = c.before.before.before.before.bounded in
-    ap (λ x. x + get_or a.tables.now (256 * a.row.class + 1) 0) c.before.cell.ensures
-    ∙ off_there given a.goal (landing t) (lands t shares chosen given) there.if1.true
-    (sym soon.ensures ∙ not-false soon.result c.before.before.before.if2.false)
+    let soon = c.bounded in
+    ap (λ x. x + get_or a.tables.now (256 * a.row.class + 1) 0) c.cell.ensures
+    ∙ off_there given a.goal (landing t) (lands t shares chosen given) there.if-row-goal.true
+    (sym soon.ensures ∙ not-false soon.result c.if-not-bounded.false-raw)
 
-stack_of_requires : tie.Need-stack-of-requires
+stack_of_requires : tie.Need-stack_of-stack-requires
 stack_of_requires c κs = search rules
 
-returns_3 : tie.Need-returns-3
+returns_3 : tie.Need-returns-then-stack-eq0
 returns_3 c =
     λ shares chosen given.
-    let s = c.before.before in
-    let t = timed s in
+    let s = c in
+    let t = timed c.before.before in
     let goal = (begun t).args.goal in
-    off_unsafe given goal (landing t) (lands t shares chosen given) (elsewhere s).if1.false
-    (none_there given (ready goal.gate (landing t)) (sym s.stack_of.ensures.1 ∙ c.if3.true))
+    off_unsafe given goal (landing t) (lands t shares chosen given) (elsewhere c.before.before).if1.false
+    (none_there given (ready goal.gate (landing t)) (sym s.stack_of-stack.ensures.1 ∙ c.if-stack-eq0.true))
 
-mul_departure_of : tie.Need-overflow-mul-departure-of
+mul_departure_of : tie.Need-offset_bounds-work-start
 mul_departure_of c = search rules
 
-shared_slice_read_departure_of : tie.Need-shared-slice-read-departure-of
+shared_slice_read_departure_of : tie.Need-bounds-work-start
 shared_slice_read_departure_of c = search rules
 
-departure_of_requires : tie.Need-departure-of-requires
+departure_of_requires : tie.Need-departure_of-requires
 departure_of_requires c κs = search rules
 
-ready_requires : tie.Need-ready-requires
+ready_requires : tie.Need-ready-last-requires
 ready_requires c κs =
     let t = timed c.before.before in
-    let p = (begun t).pre in
+    let p = (begun t).requires in
     (p.1, landing_small p.0.given (landing t) (lands t p.0.shares p.0.chosen p.0.given))
 
-can_board_requires : tie.Need-can-board-requires
+can_board_requires : tie.Need-can_board-requires
 can_board_requires c κs = search rules
 
-returns_4 : tie.Need-returns-4
+returns_4 : tie.Need-returns-then-not-can_board
 returns_4 c =
     λ shares chosen given.
     let s = stacked c.before in
@@ -205,29 +205,29 @@ returns_4 c =
     off_unsafe given goal (landing t) (lands t shares chosen given) (elsewhere s).if1.left
     (all_gone given (last c.before) (some_entry c.before.before.before.before.before) (gone c))
 
-ready_requires_2 : tie.Need-ready-requires-2
+ready_requires_2 : tie.Need-ready-soon-requires
 ready_requires_2 c κs = let p = (begun (timed (stacked c.before))).requires in (p.1, omega (arith, p.0.given.lands))
 
-first_open_requires : tie.Need-first-open-requires
+first_open_requires : tie.Need-first_open-at-requires
 first_open_requires c κs =
-    let board = c.before.before in
-    let s = stacked board in
+    let board = c in
+    let s = stacked c.before.before in
     let a = begun (timed s) in
-    moved (λ start size. Falling a.args.work.now start size c.ready2.result) s.stack_of.ensures.0 s.stack_of.ensures.1
-    (falling a.pre.0.given c.ready2.result (some_entry board.before.before.before.before)
-    (omega (arith, c.ready2.ensures, late c.before)))
+    moved (λ start size. Falling a.args.work.now start size c.ready-soon.result) s.stack_of.ensures.0 s.stack_of.ensures.1
+    (falling a.requires.0.given c.ready-soon.result (some_entry c.before.before.before.before.before.before)
+    (omega (arith, c.ready-soon.ensures, late c.before)))
 
-add_changing : tie.Need-overflow-add-changing
+add_changing : tie.Need-overflow_add-class-2
 add_changing c = let p = (begun (timed (stacked c.before.before.before))).requires in omega (arith, p.0.given.class)
 
 changing_requires : tie.Need-changing-requires
 changing_requires c κs =
-    let board = c.before.before.before in
-    let t = timed (stacked board) in
+    let board = c in
+    let t = timed (stacked c.before.before.before) in
     let a = (begun t).args in
-    let p = (begun t).pre.0 in
-    moved (λ from until. SomeBoarding a.work.now a.tables.now c.first_open.result from until (256 * a.row.class + 2))
-    c.before.ready2.ensures board.before.before.before.ready.ensures
+    let p = (begun t).requires.0 in
+    moved (λ from until. SomeBoarding a.work.now a.tables.now c.first_open-at.result from until (256 * a.row.class + 2))
+    c.ready-soon.ensures board.ready-last.ensures
     (record {
       start = stack_start a.work.now a.row.land;
       first = (found c).place;
@@ -235,15 +235,15 @@ changing_requires c κs =
       caught = λ minute. caught p.chosen a.row.land minute;
       stands = (found c).stands;
       boarding =
-          boarding p.given (soon board) c.first_open.result (found c) (last board)
+          boarding p.given (soon c.before.before.before) c.first_open-at.result (found c) (last c.before.before.before)
           (omega (arith, lands t p.shares p.chosen p.given)) (late c.before.before);
     })
 
-returns_5 : tie.Need-returns-5
+returns_5 : tie.Need-returns
 returns_5 c =
     λ shares chosen given.
-    let board = c.before.before.before.before in
-    let s = stacked board in
+    let board = c in
+    let s = stacked c.before.before.before.before in
     let t = timed s in
     let a = (begun t).args in
     let opened = found c.before in
@@ -253,10 +253,10 @@ returns_5 c =
     opened.stands
     (moved (λ from until. Boarding a.work.now a.tables.now (stack_start a.work.now a.row.land) opened.place from until
     (256 * a.row.class + 2) shares (λ minute. caught chosen a.row.land minute))
-    c.before.before.ready2.ensures board.before.before.before.ready.ensures
-    (boarding given (soon board) c.before.first_open.result opened (last board) (omega (arith, on)) safe))
-    ∙ ap (λ from. quotient_up share_total (weigh shares from (λ minute. caught chosen a.row.land minute))) c.before.before.ready2.ensures
-    ∙ off_changing given a.goal (landing t) on (elsewhere s).if1.left (some_entry board.before.before.before.before) safe
+    c.ready-soon.ensures board.ready-last.ensures
+    (boarding given (soon c.before.before.before.before) c.first_open-at.result opened (last c.before.before.before.before) (omega (arith, on)) safe))
+    ∙ ap (λ from. quotient_up share_total (weigh shares from (λ minute. caught chosen a.row.land minute))) c.ready-soon.ensures
+    ∙ off_changing given a.goal (landing t) on (elsewhere s).if1.left (some_entry c.before.before.before.before.before.before.before.before) safe
 
 pub getting_off_spec : {M : Type 1} → statement M
 getting_off_spec =

@@ -9,85 +9,85 @@ use Rattle.trial_tally.proofs.Six.{seen_table, seen_unmade}
 use Rattle.trial_tally.proofs.trial_table.Statement.{statement}
 use Rattle.trial_tally.proofs.trial_table.Tie as tie
 
-sizes : (c : tie.After-known-told)
-    → (c.before.made.given.0.0 ≤ 120) × (c.before.made.given.0.1.0 ≤ 121000000) × (c.before.made.given.0.1.1.0 ≤ 1000000)
+sizes : (c : tie.In-Table)
+    → (c.in-Table.delay ≤ 120) × (c.in-Table.landings ≤ 121000000) × (c.in-Table.apart ≤ 1000000)
 sizes c =
-    let called = c.before.before.before in
-    let a = called.before.before.before.args in
-    let told = c.before.made.given in
+    let called = c in
+    let a = called.args in
+    let told = c.made-1.given in
     table_small version_one a.tally.now a.shares.now
     told.0.0 told.0.1.0 told.0.1.1.0
-    (sym called.table_of.ensures.0 ∙ told.1)
+    (sym called.table_of-made.ensures.0 ∙ told.1)
 
-faults : (c : tie.After-known-told2) → (c.before.made2.given.0.0 ≤ 16) × (c.before.made2.given.0.1.0 ≤ 0)
+faults : (c : tie.In-Refused) → (c.in-Refused.refusal ≤ 16) × (c.in-Refused.place ≤ 0)
 faults c =
-    let called = c.before.before.before in
-    let a = called.before.before.before.args in
-    let told = c.before.made2.given in
+    let called = c in
+    let a = called.args in
+    let told = c.made-in-Refused-1.given in
     refused_small version_one a.tally.now a.shares.now
-    told.0.0 told.0.1.0 (sym called.table_of.ensures.0 ∙ told.1)
+    told.0.0 told.0.1.0 (sym called.table_of-made.ensures.0 ∙ told.1)
 
-table_of_requires : tie.Need-table-of-requires
+table_of_requires : tie.Need-table_of-made-requires
 table_of_requires c κs = search rules
 
-enum_known_made : tie.Need-enum-known-made
+enum_known_made : tie.Need-enum_known-made
 enum_known_made c = search rules
 
 cell_requires : tie.Need-cell-requires
 cell_requires c κs = omega (arith, sizes c)
 
-cell_requires_2 : tie.Need-cell-requires-2
+cell_requires_2 : tie.Need-cell-requires-in-Table
 cell_requires_2 c κs = omega (arith, sizes c.before)
 
-cell_requires_3 : tie.Need-cell-requires-3
+cell_requires_3 : tie.Need-cell-requires-in-Table-2
 cell_requires_3 c κs = omega (arith, sizes c.before.before)
 
-put_six_requires : tie.Need-put-six-requires
+put_six_requires : tie.Need-put_six-requires
 put_six_requires c κs = search rules
 
-enum_known_made_2 : tie.Need-enum-known-made-2
+enum_known_made_2 : tie.Need-enum_known-made-in-Refused-1
 enum_known_made_2 c = search rules
 
-cell_requires_4 : tie.Need-cell-requires-4
+cell_requires_4 : tie.Need-cell-requires-in-Refused
 cell_requires_4 c κs = omega (arith, faults c)
 
-cell_requires_5 : tie.Need-cell-requires-5
+cell_requires_5 : tie.Need-cell-requires-in-Refused-2
 cell_requires_5 c κs = omega (arith, faults c.before)
 
-put_six_requires_2 : tie.Need-put-six-requires-2
+put_six_requires_2 : tie.Need-put_six-requires-in-Refused
 put_six_requires_2 c κs = search rules
 
-same_length : tie.Need-same-length
+same_length : tie.Need-shape_of-answer-in-Table
 same_length c = search rules
 
-returns : tie.Need-returns
+returns : tie.Need-returns-in-Table
 returns c =
-    let standing = c.before.before.before.before in
-    let landings = standing.before in
-    let delay = landings.before in
-    let arm = delay.before in
-    let called = arm.before.before.before in
-    let a = called.before.before.before.args in (
-      c.before.before.put_six.ensures
-          ∙ seen_table a.answer.now delay.cell.result landings.cell2.result standing.cell3.result
-          (sym called.table_of.ensures.0 ∙ arm.before.made.given.1) delay.cell.ensures landings.cell2.ensures standing.cell3.ensures,
-      called.table_of.ensures.1,
+    let standing = c in
+    let landings = c in
+    let delay = c in
+    let arm = c in
+    let called = c in
+    let a = called.args in (
+      c.put_six.ensures
+          ∙ seen_table a.answer.now delay.cell.result landings.cell-in-Table.result standing.cell-in-Table-2.result
+          (sym called.table_of-made.ensures.0 ∙ arm.in-Table.is) delay.cell.ensures landings.cell-in-Table.ensures standing.cell-in-Table-2.ensures,
+      called.table_of-made.ensures.1,
     )
 
-same_length_2 : tie.Need-same-length-2
+same_length_2 : tie.Need-shape_of-answer-in-Refused
 same_length_2 c = search rules
 
-returns_2 : tie.Need-returns-2
+returns_2 : tie.Need-returns-in-Refused
 returns_2 c =
-    let place = c.before.before.before.before in
-    let refusal = place.before in
-    let arm = refusal.before in
-    let called = arm.before.before.before in
-    let a = called.before.before.before.args in (
-      c.before.before.put_six2.ensures
-          ∙ seen_unmade a.answer.now refusal.cell4.result place.cell5.result
-          (sym called.table_of.ensures.0 ∙ arm.before.made2.given.1) refusal.cell4.ensures place.cell5.ensures,
-      called.table_of.ensures.1,
+    let place = c in
+    let refusal = c in
+    let arm = c in
+    let called = c in
+    let a = called.args in (
+      c.put_six-in-Refused.ensures
+          ∙ seen_unmade a.answer.now refusal.cell-in-Refused.result place.cell-in-Refused-2.result
+          (sym called.table_of-made.ensures.0 ∙ arm.in-Refused.is) refusal.cell-in-Refused.ensures place.cell-in-Refused-2.ensures,
+      called.table_of-made.ensures.1,
     )
 
 pub trial_table_spec : {M : Type 1} → statement M
