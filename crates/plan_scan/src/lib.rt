@@ -1,4 +1,6 @@
 // Document 01, "Expected arrival in ticks", and document 02, E1: worth, leaving row and chosen rows, by one scan backward.
+#![tactic(auto)]
+
 ghost use Rattle.std.specs.Prelude.{◌≡◌, ℕ, ◌+◌, ◌-◌, ◌≤◌, ◌<◌, length};
 ghost use Rattle.std.proofs.Math.Seq.{slice};
 ghost use Rattle.timetable.specs.Limits.{most_stops};

@@ -18,125 +18,125 @@ use Rattle.gtfs_stop_times.proofs.LineSteps.{line_refused, fields_inside, own_re
 use Rattle.gtfs_stop_times.proofs.read_line.Statement.{statement}
 use Rattle.gtfs_stop_times.proofs.read_line.Tie as tie
 
-line_at_requires : tie.Need-line-at-requires
+line_at_requires : tie.Need-line_at-line-requires
 line_at_requires c κs = search rules
 
-enum_known_line : tie.Need-enum-known-line
+enum_known_line : tie.Need-enum_known-line
 enum_known_line c = search rules
 
-enum_told : tie.Need-enum-told
+enum_told : tie.Need-enum_told-1
 enum_told c = search rules
 
-returns : tie.Need-returns
+returns : tie.Need-returns-in_default
 returns c =
     λ back held.
-    let a = c.before.before.before.before.before.before.before.before.args in
-    line_refused a.text.now a.at a.service c.before.before.before.before.before.before.before.before.requires.0 back _ _ _ _ (sym c.before.before.line_at_lem.ensures ∙ c.enum_told.given.1)
+    let a = c.args in
+    line_refused a.text.now a.at a.service c.requires.0 back _ _ _ _ (sym c.line_at-line.ensures ∙ c.in_default.is)
 
 -- the call's arguments, seen from where the line is cut
-abbrev entry : tie.After-line → tie.Start
+abbrev entry : tie.In-Cut-2 → tie.Start
 entry c = c.before.before.before.before.before.before.before.before
 
-abbrev fields : tie.After-line → Fields
-fields c = c.line.given.0.0
+abbrev fields : tie.In-Cut-2 → Fields
+fields c = c.in-Cut.fields
 
-cut_at : (c : tie.After-line)
-    → cut_at (entry c).args.text.now (entry c).args.service.columns (entry c).args.at ≡ Cut (fields c) c.line.given.0.1.0
-cut_at c = sym c.before.before.line_at_lem.ensures ∙ c.line.given.1
+cut_at : (c : tie.In-Cut-2)
+    → cut_at (entry c).args.text.now (entry c).args.service.columns (entry c).args.at ≡ Cut (fields c) c.in-Cut.next
+cut_at c = sym c.line_at-line.ensures ∙ c.in-Cut.is
 
-inside_at : (c : tie.After-line) → AllInside (length (entry c).args.text.now) (fields c)
+inside_at : (c : tie.In-Cut-2) → AllInside (length (entry c).args.text.now) (fields c)
 inside_at c =
-    let a = (entry c).args in fields_inside a.text.now a.at a.service (entry c).requires.0 (fields c) c.line.given.0.1.0 (cut_at c)
+    let a = (entry c).args in fields_inside a.text.now a.at a.service (entry c).requires.0 (fields c) c.in-Cut.next (cut_at c)
 
-bytes_at : (c : tie.After-line) → Bytes (entry c).args.text.now
+bytes_at : (c : tie.In-Cut-2) → Bytes (entry c).args.text.now
 bytes_at c =
-    record { byte = λ i h. (let z : get_or (entry c).args.text.now i 0 < 256 = omega (arith, c.before.before.before.before.before.before.before.shared_slice_known.given i) in z) }
+    record { byte = λ i h. (let z : get_or (entry c).args.text.now i 0 < 256 = omega (arith, c.shared_slice_known-1.given i) in z) }
 
 -- what the fields say
-abbrev texts : tie.After-line → FieldTexts
+abbrev texts : tie.In-Cut-2 → FieldTexts
 texts c = texts_at (entry c).args.text.now (fields c)
 
-abbrev says : tie.After-line → StopTime
+abbrev says : tie.In-Cut-2 → StopTime
 says c = stop_time_of (entry c).args.service.start (texts c)
 
-call_at : (c : tie.After-said2)
+call_at : (c : tie.In-Call-2)
     → (own_verdict (entry c.before.before.before.before).args.service.start (texts c.before.before.before.before) ≡ fine)
-    × Says (entry c.before.before.before.before).args.text.now c.said2.given.0.0 (says c.before.before.before.before)
+    × Says (entry c.before.before.before.before).args.text.now c.in-Call.call (says c.before.before.before.before)
 call_at c =
-    let line = c.before.before.before.before in
-    let a = (entry line).args in
-    said_call a.service.start a.text.now (fields line) (sym c.before.before.call_of.ensures ∙ c.said2.given.1) (bytes_at line) (inside_at line)
+    let line = c in
+    let a = (entry c.before.before.before.before).args in
+    said_call a.service.start a.text.now (fields c.before.before.before.before) (sym c.call_of-said.ensures ∙ c.in-Call.is) (bytes_at c.before.before.before.before) (inside_at c.before.before.before.before)
 
-call_of_requires : tie.Need-call-of-requires
-call_of_requires c κs = let line = c.before in (inside_at line, (entry line).requires.1)
+call_of_requires : tie.Need-call_of-said-requires
+call_of_requires c κs = let line = c in (inside_at c.before, (entry c.before).requires.1)
 
-enum_known_said : tie.Need-enum-known-said
+enum_known_said : tie.Need-enum_known-said
 enum_known_said c = search rules
 
-enum_known_said_2 : tie.Need-enum-known-said-2
+enum_known_said_2 : tie.Need-enum_known-said-in-Call-1
 enum_known_said_2 c = search rules
 
-take_call_requires : tie.Need-take-call-requires
+take_call_requires : tie.Need-take_call-taken-requires
 take_call_requires c κs =
-    let said = c.before.before.before.before.before in
-    let start = entry said.before.before.before.before in
-    (start.args.text.now, start.pre.2.0, says said.before.before.before.before, start.pre.2.1, (call_at said).1)
+    let said = c in
+    let start = entry c.before.before.before.before.before.before.before.before.before in
+    (start.args.text.now, start.requires.2.0, says c.before.before.before.before.before.before.before.before.before, start.requires.2.1, (call_at c.before.before.before.before.before).1)
 
-enum_known_taken : tie.Need-enum-known-taken
+enum_known_taken : tie.Need-enum_known-taken
 enum_known_taken c = search rules
 
-enum_known_taken_2 : tie.Need-enum-known-taken-2
+enum_known_taken_2 : tie.Need-enum_known-taken-in-On-1
 enum_known_taken_2 c = search rules
 
-returns_2 : tie.Need-returns-2
+returns_2 : tie.Need-returns-in-Wrong
 returns_2 c =
     λ back held.
-    let line = c.before.before.before.before.before in
-    let a = (entry line).args in
-    own_refused a.text.now a.at a.service (entry line).requires.0 (fields line) line.line.given.0.1.0 (cut_at line) back _ _ _ _ _ _
-    (said_wrong a.service.start a.text.now (fields line) (sym c.before.before.before.call_of.ensures ∙ c.before.said.given.1))
+    let line = c in
+    let a = (entry c.before.before.before.before.before).args in
+    own_refused a.text.now a.at a.service (entry c.before.before.before.before.before).requires.0 (fields c.before.before.before.before.before) line.in-Cut.next (cut_at c.before.before.before.before.before) back _ _ _ _ _ _
+    (said_wrong a.service.start a.text.now (fields c.before.before.before.before.before) (sym c.call_of-said.ensures ∙ c.in-Wrong.is))
 
-same_length : tie.Need-same-length
+same_length : tie.Need-shape_of-trips-in-Wrong-taken
 same_length c = search rules
 
-same_length_2 : tie.Need-same-length-2
+same_length_2 : tie.Need-shape_of-stops-in-Wrong-taken
 same_length_2 c = search rules
 
-same_length_3 : tie.Need-same-length-3
+same_length_3 : tie.Need-shape_of-last-in-Wrong-taken
 same_length_3 c = search rules
 
-same_length_4 : tie.Need-same-length-4
+same_length_4 : tie.Need-shape_of-rows-in-Wrong-taken
 same_length_4 c = search rules
 
-returns_3 : tie.Need-returns-3
+returns_3 : tie.Need-returns-in-Wrong-taken
 returns_3 c =
     λ back held.
-    let said = c.before.before.before.before.before.before.before.before.before.before.before.before.before.before.before.before.before in
-    let line = said.before.before.before.before in
-    let a = (entry line).args in
-    next_refused a.text.now a.at a.service (entry line).requires.0 (fields line) line.line.given.0.1.0 (cut_at line) back _ _ _ _
-    (call_at said).0 c.before.taken.given.1 (c.before.before.before.before.before.before.before.before.before.before.before.take_call.ensures a.text.now back (says line) held (call_at said).1)
+    let said = c in
+    let line = c in
+    let a = (entry c.before.before.before.before.before.before.before.before.before.before.before.before.before.before.before.before.before.before.before.before.before).args in
+    next_refused a.text.now a.at a.service (entry c.before.before.before.before.before.before.before.before.before.before.before.before.before.before.before.before.before.before.before.before.before).requires.0 (fields c.before.before.before.before.before.before.before.before.before.before.before.before.before.before.before.before.before.before.before.before.before) line.in-Cut.next (cut_at c.before.before.before.before.before.before.before.before.before.before.before.before.before.before.before.before.before.before.before.before.before) back _ _ _ _
+    (call_at c.before.before.before.before.before.before.before.before.before.before.before.before.before.before.before.before.before).0 c.in-Wrong-taken.is (c.take_call-taken.ensures a.text.now back (says c.before.before.before.before.before.before.before.before.before.before.before.before.before.before.before.before.before.before.before.before.before) held (call_at c.before.before.before.before.before.before.before.before.before.before.before.before.before.before.before.before.before).1)
 
-same_length_5 : tie.Need-same-length-5
+same_length_5 : tie.Need-shape_of-trips-in-On
 same_length_5 c = search rules
 
-same_length_6 : tie.Need-same-length-6
+same_length_6 : tie.Need-shape_of-stops-in-On
 same_length_6 c = search rules
 
-same_length_7 : tie.Need-same-length-7
+same_length_7 : tie.Need-shape_of-last-in-On
 same_length_7 c = search rules
 
-same_length_8 : tie.Need-same-length-8
+same_length_8 : tie.Need-shape_of-rows-in-On
 same_length_8 c = search rules
 
-returns_4 : tie.Need-returns-4
+returns_4 : tie.Need-returns-in-On
 returns_4 c =
     λ back held.
-    let said = c.before.before.before.before.before.before.before.before.before.before.before.before.before.before.before.before.before in
-    let line = said.before.before.before.before in
-    let a = (entry line).args in
-    next_read a.text.now a.at a.service (entry line).requires.0 (fields line) line.line.given.0.1.0 (cut_at line) back _ _ _ _
-    (call_at said).0 c.before.taken2.given.1 (c.before.before.before.before.before.before.before.before.before.before.before.take_call.ensures a.text.now back (says line) held (call_at said).1)
+    let said = c in
+    let line = c in
+    let a = (entry c.before.before.before.before.before.before.before.before.before.before.before.before.before.before.before.before.before.before.before.before.before).args in
+    next_read a.text.now a.at a.service (entry c.before.before.before.before.before.before.before.before.before.before.before.before.before.before.before.before.before.before.before.before.before).requires.0 (fields c.before.before.before.before.before.before.before.before.before.before.before.before.before.before.before.before.before.before.before.before.before) line.in-Cut.next (cut_at c.before.before.before.before.before.before.before.before.before.before.before.before.before.before.before.before.before.before.before.before.before) back _ _ _ _
+    (call_at c.before.before.before.before.before.before.before.before.before.before.before.before.before.before.before.before.before).0 c.in-On.is (c.take_call-taken.ensures a.text.now back (says c.before.before.before.before.before.before.before.before.before.before.before.before.before.before.before.before.before.before.before.before.before) held (call_at c.before.before.before.before.before.before.before.before.before.before.before.before.before.before.before.before.before).1)
 
 pub read_line_spec : {M : Type 1} → statement M
 read_line_spec =

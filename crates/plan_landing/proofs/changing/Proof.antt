@@ -49,20 +49,20 @@ room_at : (c : tie.At-loop-departure invariant_loop decreases_loop) →
     Room a.work.now a.soon c.loop-departure.entry c.loop-departure.departure c.loop-departure.done c.loop-departure.sum
 room_at c = room (begun c).requires.boarding (turn_at c)
 
-early : (c : tie.In-loop-departure invariant_loop decreases_loop) → (turning c).loop.departure < (begun (turning c)).args.last
+early : (c : tie.In-loop-departure invariant_loop decreases_loop) → (turning c).loop-departure.departure < (begun (turning c)).args.last
 early c =
-    leb-false (begun (turning c)).args.last (turning c).loop.departure
+    leb-false (begun (turning c)).args.last (turning c).loop-departure.departure
     (sym c.can_board.ensures ∙ not-true c.can_board.result c.loop-departure-test.true-raw)
 
 more_at : (c : tie.In-loop-departure invariant_loop decreases_loop) →
     let l = turning c in
     let a = (begun l).args in
-    MoreRoom a.tables.now a.soon a.shares l.loop.entry l.loop.departure l.loop.done
+    MoreRoom a.tables.now a.soon a.shares l.loop-departure.entry l.loop-departure.departure l.loop-departure.done
 more_at c = more_room (begun (turning c)).requires.boarding (turn_at (turning c)) (early c)
 
-late : (c : tie.After-loop-departure invariant_loop decreases_loop) → (begun (leaving c)).args.last ≤ (leaving c).loop.departure
+late : (c : tie.After-loop-departure invariant_loop decreases_loop) → (begun (leaving c)).args.last ≤ (leaving c).loop-departure.departure
 late c =
-    leb-true (begun (leaving c)).args.last (leaving c).loop.departure
+    leb-true (begun (leaving c)).args.last (leaving c).loop-departure.departure
     (sym c.can_board.ensures ∙ not-false c.can_board.result c.loop-departure-test.false-raw)
 
 -- what a turn adds fits: the share is within the whole, the worth within an entry
@@ -72,17 +72,17 @@ added : (c : tie.After-long invariant_loop decreases_loop) →
 added c =
     let l = turning (sharing c.before.before) in
     let r = room_at l in
-    mul-le-mul_left (c.long-share.result - l.loop.done)
+    mul-le-mul_left (c.long-share.result - l.loop-departure.done)
     (let z : c.long.result ≤ 16777216 = omega (arith, c.long.ensures.0, r.worth_fits) in z)
 
 -- and so does what the last ride adds
 last_added : (c : tie.After-long-2 invariant_loop decreases_loop) →
-    let share = 4096 - (leaving c.before.before).loop.done in
+    let share = 4096 - (leaving c.before.before).loop-departure.done in
     share * c.long-2.result ≤ share * 16777216
 last_added c =
     let l = leaving c.before.before in
     let r = room_at l in
-    mul-le-mul_left (4096 - l.loop.done)
+    mul-le-mul_left (4096 - l.loop-departure.done)
     (let z : c.long-2.result ≤ 16777216 = omega (arith, c.long-2.ensures.0, r.worth_fits) in z)
 
 mul_departure_of : tie.Need-offset_bounds-work-entry invariant_loop decreases_loop
@@ -110,10 +110,10 @@ sub_long : tie.Need-overflow_sub-departure invariant_loop decreases_loop
 sub_long c = omega (arith, (room_at (turning c)).after)
 
 add_long : tie.Need-overflow_add-shares invariant_loop decreases_loop
-add_long c = omega (arith, (more_at c).share_inside, (begun (turning c)).good)
+add_long c = omega (arith, (more_at c).share_inside, (begun (turning c)).well_formed)
 
 mul_long : tie.Need-offset_bounds-tables-shares invariant_loop decreases_loop
-mul_long c = omega (arith, (more_at c).share_inside, (begun (turning c)).good)
+mul_long c = omega (arith, (more_at c).share_inside, (begun (turning c)).well_formed)
 
 shared_slice_read_long : tie.Need-bounds-tables-shares invariant_loop decreases_loop
 shared_slice_read_long c = (more_at c.before).share_inside
@@ -128,13 +128,13 @@ add_long_2 : tie.Need-overflow_add-entry invariant_loop decreases_loop
 add_long_2 c =
     let t = sharing c in
     let r = room_at (turning t) in
-    omega (arith, r.inside, (begun (turning t)).good)
+    omega (arith, r.inside, (begun (turning t)).well_formed)
 
 mul_long_2 : tie.Need-offset_bounds-work-entry-in-loop-departure invariant_loop decreases_loop
 mul_long_2 c =
     let t = sharing c in
     let r = room_at (turning t) in
-    omega (arith, r.inside, (begun (turning t)).good)
+    omega (arith, r.inside, (begun (turning t)).well_formed)
 
 shared_slice_read_long_2 : tie.Need-bounds-work-entry-in-loop-departure invariant_loop decreases_loop
 shared_slice_read_long_2 c = (room_at (turning (sharing c.before))).inside
@@ -160,7 +160,7 @@ mul_departure_of_2 : tie.Need-offset_bounds-work-entry-in-loop-departure-2 invar
 mul_departure_of_2 c =
     let t = sharing c.before.before in
     let r = room_at (turning t) in
-    omega (arith, r.inside, (begun (turning t)).good)
+    omega (arith, r.inside, (begun (turning t)).well_formed)
 
 shared_slice_read_departure_of_2 : tie.Need-bounds-work-entry-in-loop-departure-2 invariant_loop decreases_loop
 shared_slice_read_departure_of_2 c = omega (arith, (room_at (turning (sharing c.before.before.before))).inside)
@@ -177,14 +177,14 @@ loop_again c =
     let shared = c in
     let head = turning (sharing c.before.before.before.before) in
     let a = (begun head).args in
-    let l = head.loop in
+    let l = head.loop-departure in
     let share = shared.long-share.result in
     let worth : get_or a.work.now (l.entry + 1) 0 ≡ c.long.result = sym c.long.ensures.0 in
     subst
     (λ w. Turn a.work.now start first a.soon held caught (l.entry - 2) c.departure_of-departure-in-loop-departure.result share
     (l.sum + (share - l.done) * w))
     worth
-    (turns boarding (l.inv start first held caught stands boarding) share c.departure_of-departure-in-loop-departure.result (early (sharing c.before.before.before.before))
+    (turns boarding (l.invariant start first held caught stands boarding) share c.departure_of-departure-in-loop-departure.result (early (sharing c.before.before.before.before))
     shared.long-share.ensures.0 c.departure_of-departure-in-loop-departure.ensures)
 
 sub_sum_2 : tie.Need-overflow_sub-sum-2 invariant_loop decreases_loop
@@ -193,11 +193,11 @@ sub_sum_2 c =
 
 add_long_3 : tie.Need-overflow_add-entry-2 invariant_loop decreases_loop
 add_long_3 c =
-    let l = leaving c in omega (arith, (room_at l).inside, (begun l).good)
+    let l = leaving c in omega (arith, (room_at l).inside, (begun l).well_formed)
 
 mul_long_3 : tie.Need-offset_bounds-work-entry-2 invariant_loop decreases_loop
 mul_long_3 c =
-    let l = leaving c in omega (arith, (room_at l).inside, (begun l).good)
+    let l = leaving c in omega (arith, (room_at l).inside, (begun l).well_formed)
 
 shared_slice_read_long_3 : tie.Need-bounds-work-entry-2 invariant_loop decreases_loop
 shared_slice_read_long_3 c = (room_at (leaving c.before)).inside

@@ -66,7 +66,7 @@ bottom_read : (c : tie.After-can_board) →
     c.departure_of.result ≡ entry_departure a.work.now (stack_start a.work.now a.row.land) 0
 bottom_read c =
     let a = (begun (timed (stacked c))).args in
-    let s = (stacked c).stack_of in
+    let s = (stacked c).stack_of-stack in
     let there : s.result.start ≡ stack_start a.work.now a.row.land + 2 * 0 = omega (arith, s.ensures.0) in
     c.departure_of.ensures ∙ ap (λ x. get_or a.work.now x 0 / key_step) there
 
@@ -101,9 +101,9 @@ found : (c : tie.After-first_open-at) →
 found c =
     let s = stacked c.before.before.before in
     let a = (begun (timed s)).args in
-    moved (λ start size. FirstOpenAt a.work.now start size (soon c.before.before.before) c.first_open-at.result) (sym s.stack_of.ensures.0)
-    (sym s.stack_of.ensures.1)
-    (subst (λ m. FirstOpenAt a.work.now s.stack_of.result.start s.stack_of.result.size m c.first_open-at.result) c.ready-soon.ensures
+    moved (λ start size. FirstOpenAt a.work.now start size (soon c.before.before.before) c.first_open-at.result) (sym s.stack_of-stack.ensures.0)
+    (sym s.stack_of-stack.ensures.1)
+    (subst (λ m. FirstOpenAt a.work.now s.stack_of-stack.result.start s.stack_of-stack.result.size m c.first_open-at.result) c.ready-soon.ensures
     c.first_open-at.ensures)
 
 mul_class : tie.Need-overflow_mul-class
@@ -175,7 +175,7 @@ returns_3 c =
     let s = c in
     let t = timed c.before.before in
     let goal = (begun t).args.goal in
-    off_unsafe given goal (landing t) (lands t shares chosen given) (elsewhere c.before.before).if1.false
+    off_unsafe given goal (landing t) (lands t shares chosen given) (elsewhere c.before.before).if-row-goal.false
     (none_there given (ready goal.gate (landing t)) (sym s.stack_of-stack.ensures.1 ∙ c.if-stack-eq0.true))
 
 mul_departure_of : tie.Need-offset_bounds-work-start
@@ -202,7 +202,7 @@ returns_4 c =
     let s = stacked c.before in
     let t = timed s in
     let goal = (begun t).args.goal in
-    off_unsafe given goal (landing t) (lands t shares chosen given) (elsewhere s).if1.left
+    off_unsafe given goal (landing t) (lands t shares chosen given) (elsewhere s).if-row-goal.false
     (all_gone given (last c.before) (some_entry c.before.before.before.before.before) (gone c))
 
 ready_requires_2 : tie.Need-ready-soon-requires
@@ -213,7 +213,7 @@ first_open_requires c κs =
     let board = c in
     let s = stacked c.before.before in
     let a = begun (timed s) in
-    moved (λ start size. Falling a.args.work.now start size c.ready-soon.result) s.stack_of.ensures.0 s.stack_of.ensures.1
+    moved (λ start size. Falling a.args.work.now start size c.ready-soon.result) s.stack_of-stack.ensures.0 s.stack_of-stack.ensures.1
     (falling a.requires.0.given c.ready-soon.result (some_entry c.before.before.before.before.before.before)
     (omega (arith, c.ready-soon.ensures, late c.before)))
 
@@ -256,7 +256,7 @@ returns_5 c =
     c.ready-soon.ensures board.ready-last.ensures
     (boarding given (soon c.before.before.before.before) c.first_open-at.result opened (last c.before.before.before.before) (omega (arith, on)) safe))
     ∙ ap (λ from. quotient_up share_total (weigh shares from (λ minute. caught chosen a.row.land minute))) c.ready-soon.ensures
-    ∙ off_changing given a.goal (landing t) on (elsewhere s).if1.left (some_entry c.before.before.before.before.before.before.before.before) safe
+    ∙ off_changing given a.goal (landing t) on (elsewhere s).if-row-goal.false (some_entry c.before.before.before.before.before.before.before.before) safe
 
 pub getting_off_spec : {M : Type 1} → statement M
 getting_off_spec =

@@ -1,0 +1,46 @@
+-- `gtfs_stop_times::stop_times` meets its contract: the header, and then the lines behind it. Assumes nothing.
+use borrow.Author.Rules.{rules}
+use mathlib.Core.Path.{◌≡◌, refl, sym, ap, ◌∙◌}
+use native.Mathlib.Omega.{arith}
+use Rattle.gtfs_lines.proofs.Headers.{header_cut, header_refused}
+use Rattle.gtfs_stop_times.specs.Answers.{read_answer, out_after}
+use Rattle.gtfs_stop_times.proofs.HeaderLine.{header_quoted, column_missing, columns_named, header_some}
+use Rattle.gtfs_stop_times.proofs.stop_times.Goals as goal
+
+pub returns-in_default : goal.returns-in_default
+unfolding read_answer out_after
+returns-in_default c =
+    let a = c.args in
+    let quoted = header_quoted a.start a.text.now (header_refused a.text.now (sym c.header_columns-header.ensures ∙ c.in_default.is)) in
+    (ap (read_answer a.wanted) (sym quoted), ap (λ r. out_after a.wanted r a.out.now) (sym quoted))
+
+pub returns-then-column-ne0 : goal.returns-then-column-ne0
+unfolding read_answer out_after
+returns-then-column-ne0 c =
+    let a = c.args in
+    let named = c.header-1.given in
+    let cut = header_cut a.text.now named.0.0 named.0.1.0 (sym c.header_columns-header.ensures ∙ named.1) in
+    let missing = column_missing a.start a.text.now named.0.0 named.0.1.0 cut.unquoted cut.named cut.behind
+    c.missing_column-column.result c.missing_column-column.ensures c.if-column-ne0.true in
+    (ap (read_answer a.wanted) (sym missing), ap (λ r. out_after a.wanted r a.out.now) (sym missing))
+
+pub wanted_behind-requires : goal.wanted_behind-requires
+wanted_behind-requires c =
+    let a = c.args in
+    let named = c.header-1.given in
+    let cut = header_cut a.text.now named.0.0 named.0.1.0 (sym c.header_columns-header.ensures ∙ named.1) in (
+      header_some a.start a.text.now named.0.0 named.0.1.0 cut.unquoted cut.named cut.behind
+          (sym c.missing_column-column.ensures ∙ c.if-column-ne0.false),
+      cut.inside,
+      c.requires.0,
+      c.requires.1,
+    )
+
+pub returns : goal.returns
+returns c =
+    let a = c.args in
+    let named = c.header-1.given in
+    let cut = header_cut a.text.now named.0.0 named.0.1.0 (sym c.header_columns-header.ensures ∙ named.1) in
+    let whole = columns_named a.start a.text.now named.0.0 named.0.1.0 cut.unquoted cut.named cut.behind
+    (sym c.missing_column-column.ensures ∙ c.if-column-ne0.false) in
+    (c.wanted_behind.ensures.0 ∙ ap (read_answer a.wanted) (sym whole), c.wanted_behind.ensures.1 ∙ ap (λ r. out_after a.wanted r a.out.now) (sym whole))
