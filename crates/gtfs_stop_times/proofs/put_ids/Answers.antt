@@ -23,16 +23,16 @@ put_id-next-requires c =
     let place = c in
     let turn = c in
     let pre = turn.requires in
-    id_fits turn.loop-i.invariant place.place_of-from.result c.type_size.result turn.loop-i-test.true pre.1 pre.2
-    place.place_of-from.ensures c.type_size.ensures pre.0.0 pre.0.1 pre.0.2
+    id_fits turn.loop-i.invariant place.place_of-from.result c.size_of-size.result turn.loop-i-test.true pre.1 pre.2
+    place.place_of-from.ensures c.size_of-size.ensures pre.0.0 pre.0.1 pre.0.2
 
 pub loop-i-preserved : goal.loop-i-preserved
 loop-i-preserved c =
     let size = c in
     let place = c in
     let turn = c in
-    put_more turn.loop-i.invariant place.place_of-from.result size.type_size.result turn.loop-i-test.true place.place_of-from.ensures
-    size.type_size.ensures c.put_id-next.ensures
+    put_more turn.loop-i.invariant place.place_of-from.result size.size_of-size.result turn.loop-i-test.true place.place_of-from.ensures
+    size.size_of-size.ensures c.put_id-next.ensures
 
 pub shape_of-out : goal.shape_of-out
 shape_of-out c =

@@ -34,41 +34,41 @@ returns c =
     line_refused a.text.now a.at a.service c.requires.0 back _ _ _ _ (sym c.line_at-line.ensures ∙ c.in_default.is)
 
 -- the call's arguments, seen from where the line is cut
-abbrev entry : tie.In-Cut-2 → tie.Start
+abbrev entry : tie.In-Cut → tie.Start
 entry c = c.before.before.before.before.before.before.before.before
 
-abbrev fields : tie.In-Cut-2 → Fields
+abbrev fields : tie.In-Cut → Fields
 fields c = c.in-Cut.fields
 
-cut_at : (c : tie.In-Cut-2)
+line_cut : (c : tie.In-Cut)
     → cut_at (entry c).args.text.now (entry c).args.service.columns (entry c).args.at ≡ Cut (fields c) c.in-Cut.next
-cut_at c = sym c.line_at-line.ensures ∙ c.in-Cut.is
+line_cut c = sym c.line_at-line.ensures ∙ c.in-Cut.is
 
-inside_at : (c : tie.In-Cut-2) → AllInside (length (entry c).args.text.now) (fields c)
+inside_at : (c : tie.In-Cut) → AllInside (length (entry c).args.text.now) (fields c)
 inside_at c =
-    let a = (entry c).args in fields_inside a.text.now a.at a.service (entry c).requires.0 (fields c) c.in-Cut.next (cut_at c)
+    let a = (entry c).args in fields_inside a.text.now a.at a.service (entry c).requires.0 (fields c) c.in-Cut.next (line_cut c)
 
-bytes_at : (c : tie.In-Cut-2) → Bytes (entry c).args.text.now
+bytes_at : (c : tie.In-Cut) → Bytes (entry c).args.text.now
 bytes_at c =
     record { byte = λ i h. (let z : get_or (entry c).args.text.now i 0 < 256 = omega (arith, c.shared_slice_known-1.given i) in z) }
 
 -- what the fields say
-abbrev texts : tie.In-Cut-2 → FieldTexts
+abbrev texts : tie.In-Cut → FieldTexts
 texts c = texts_at (entry c).args.text.now (fields c)
 
-abbrev says : tie.In-Cut-2 → StopTime
+abbrev says : tie.In-Cut → StopTime
 says c = stop_time_of (entry c).args.service.start (texts c)
 
-call_at : (c : tie.In-Call-2)
-    → (own_verdict (entry c.before.before.before.before).args.service.start (texts c.before.before.before.before) ≡ fine)
-    × Says (entry c.before.before.before.before).args.text.now c.in-Call.call (says c.before.before.before.before)
+call_at : (c : tie.In-Call)
+    → (own_verdict (entry c.before.before).args.service.start (texts c.before.before) ≡ fine)
+    × Says (entry c.before.before).args.text.now c.in-Call.call (says c.before.before)
 call_at c =
     let line = c in
-    let a = (entry c.before.before.before.before).args in
-    said_call a.service.start a.text.now (fields c.before.before.before.before) (sym c.call_of-said.ensures ∙ c.in-Call.is) (bytes_at c.before.before.before.before) (inside_at c.before.before.before.before)
+    let a = (entry c.before.before).args in
+    said_call a.service.start a.text.now (fields c.before.before) (sym c.call_of-said.ensures ∙ c.in-Call.is) (bytes_at c.before.before) (inside_at c.before.before)
 
 call_of_requires : tie.Need-call_of-said-requires
-call_of_requires c κs = let line = c in (inside_at c.before, (entry c.before).requires.1)
+call_of_requires c κs = let line = c in (inside_at c, (entry c).requires.1)
 
 enum_known_said : tie.Need-enum_known-said
 enum_known_said c = search rules
@@ -79,8 +79,8 @@ enum_known_said_2 c = search rules
 take_call_requires : tie.Need-take_call-taken-requires
 take_call_requires c κs =
     let said = c in
-    let start = entry c.before.before.before.before.before.before.before.before.before in
-    (start.args.text.now, start.requires.2.0, says c.before.before.before.before.before.before.before.before.before, start.requires.2.1, (call_at c.before.before.before.before.before).1)
+    let start = entry c.before.before.before.before.before.before in
+    (start.args.text.now, start.requires.2.0, says c.before.before.before.before.before.before, start.requires.2.1, (call_at c.before.before.before.before).1)
 
 enum_known_taken : tie.Need-enum_known-taken
 enum_known_taken c = search rules
@@ -92,9 +92,9 @@ returns_2 : tie.Need-returns-in-Wrong
 returns_2 c =
     λ back held.
     let line = c in
-    let a = (entry c.before.before.before.before.before).args in
-    own_refused a.text.now a.at a.service (entry c.before.before.before.before.before).requires.0 (fields c.before.before.before.before.before) line.in-Cut.next (cut_at c.before.before.before.before.before) back _ _ _ _ _ _
-    (said_wrong a.service.start a.text.now (fields c.before.before.before.before.before) (sym c.call_of-said.ensures ∙ c.in-Wrong.is))
+    let a = (entry c.before.before).args in
+    own_refused a.text.now a.at a.service (entry c.before.before).requires.0 (fields c.before.before) line.in-Cut.next (line_cut c.before.before) back _ _ _ _ _ _
+    (said_wrong a.service.start a.text.now (fields c.before.before) (sym c.call_of-said.ensures ∙ c.in-Wrong.is))
 
 same_length : tie.Need-shape_of-trips-in-Wrong-taken
 same_length c = search rules
@@ -113,9 +113,9 @@ returns_3 c =
     λ back held.
     let said = c in
     let line = c in
-    let a = (entry c.before.before.before.before.before.before.before.before.before.before.before.before.before.before.before.before.before.before.before.before.before).args in
-    next_refused a.text.now a.at a.service (entry c.before.before.before.before.before.before.before.before.before.before.before.before.before.before.before.before.before.before.before.before.before).requires.0 (fields c.before.before.before.before.before.before.before.before.before.before.before.before.before.before.before.before.before.before.before.before.before) line.in-Cut.next (cut_at c.before.before.before.before.before.before.before.before.before.before.before.before.before.before.before.before.before.before.before.before.before) back _ _ _ _
-    (call_at c.before.before.before.before.before.before.before.before.before.before.before.before.before.before.before.before.before).0 c.in-Wrong-taken.is (c.take_call-taken.ensures a.text.now back (says c.before.before.before.before.before.before.before.before.before.before.before.before.before.before.before.before.before.before.before.before.before) held (call_at c.before.before.before.before.before.before.before.before.before.before.before.before.before.before.before.before.before).1)
+    let a = (entry c.before.before.before.before.before.before.before.before.before.before.before.before.before.before.before.before).args in
+    next_refused a.text.now a.at a.service (entry c.before.before.before.before.before.before.before.before.before.before.before.before.before.before.before.before).requires.0 (fields c.before.before.before.before.before.before.before.before.before.before.before.before.before.before.before.before) line.in-Cut.next (line_cut c.before.before.before.before.before.before.before.before.before.before.before.before.before.before.before.before) back _ _ _ _
+    (call_at c.before.before.before.before.before.before.before.before.before.before.before.before.before.before).0 c.in-Wrong-taken.is (c.take_call-taken.ensures a.text.now back (says c.before.before.before.before.before.before.before.before.before.before.before.before.before.before.before.before) held (call_at c.before.before.before.before.before.before.before.before.before.before.before.before.before.before).1)
 
 same_length_5 : tie.Need-shape_of-trips-in-On
 same_length_5 c = search rules
@@ -134,9 +134,9 @@ returns_4 c =
     λ back held.
     let said = c in
     let line = c in
-    let a = (entry c.before.before.before.before.before.before.before.before.before.before.before.before.before.before.before.before.before.before.before.before.before).args in
-    next_read a.text.now a.at a.service (entry c.before.before.before.before.before.before.before.before.before.before.before.before.before.before.before.before.before.before.before.before.before).requires.0 (fields c.before.before.before.before.before.before.before.before.before.before.before.before.before.before.before.before.before.before.before.before.before) line.in-Cut.next (cut_at c.before.before.before.before.before.before.before.before.before.before.before.before.before.before.before.before.before.before.before.before.before) back _ _ _ _
-    (call_at c.before.before.before.before.before.before.before.before.before.before.before.before.before.before.before.before.before).0 c.in-On.is (c.take_call-taken.ensures a.text.now back (says c.before.before.before.before.before.before.before.before.before.before.before.before.before.before.before.before.before.before.before.before.before) held (call_at c.before.before.before.before.before.before.before.before.before.before.before.before.before.before.before.before.before).1)
+    let a = (entry c.before.before.before.before.before.before.before.before.before.before.before.before.before.before.before.before).args in
+    next_read a.text.now a.at a.service (entry c.before.before.before.before.before.before.before.before.before.before.before.before.before.before.before.before).requires.0 (fields c.before.before.before.before.before.before.before.before.before.before.before.before.before.before.before.before) line.in-Cut.next (line_cut c.before.before.before.before.before.before.before.before.before.before.before.before.before.before.before.before) back _ _ _ _
+    (call_at c.before.before.before.before.before.before.before.before.before.before.before.before.before.before).0 c.in-On.is (c.take_call-taken.ensures a.text.now back (says c.before.before.before.before.before.before.before.before.before.before.before.before.before.before.before.before) held (call_at c.before.before.before.before.before.before.before.before.before.before.before.before.before.before).1)
 
 pub read_line_spec : {M : Type 1} → statement M
 read_line_spec =

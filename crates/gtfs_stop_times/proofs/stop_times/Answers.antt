@@ -18,18 +18,16 @@ pub returns-then-column-ne0 : goal.returns-then-column-ne0
 unfolding read_answer out_after
 returns-then-column-ne0 c =
     let a = c.args in
-    let named = c.header-1.given in
-    let cut = header_cut a.text.now named.0.0 named.0.1.0 (sym c.header_columns-header.ensures ∙ named.1) in
-    let missing = column_missing a.start a.text.now named.0.0 named.0.1.0 cut.unquoted cut.named cut.behind
+    let cut = header_cut a.text.now c.in-Named.columns c.in-Named.next (sym c.header_columns-header.ensures ∙ c.in-Named.is) in
+    let missing = column_missing a.start a.text.now c.in-Named.columns c.in-Named.next cut.unquoted cut.named cut.behind
     c.missing_column-column.result c.missing_column-column.ensures c.if-column-ne0.true in
     (ap (read_answer a.wanted) (sym missing), ap (λ r. out_after a.wanted r a.out.now) (sym missing))
 
 pub wanted_behind-requires : goal.wanted_behind-requires
 wanted_behind-requires c =
     let a = c.args in
-    let named = c.header-1.given in
-    let cut = header_cut a.text.now named.0.0 named.0.1.0 (sym c.header_columns-header.ensures ∙ named.1) in (
-      header_some a.start a.text.now named.0.0 named.0.1.0 cut.unquoted cut.named cut.behind
+    let cut = header_cut a.text.now c.in-Named.columns c.in-Named.next (sym c.header_columns-header.ensures ∙ c.in-Named.is) in (
+      header_some a.start a.text.now c.in-Named.columns c.in-Named.next cut.unquoted cut.named cut.behind
           (sym c.missing_column-column.ensures ∙ c.if-column-ne0.false),
       cut.inside,
       c.requires.0,
@@ -39,8 +37,7 @@ wanted_behind-requires c =
 pub returns : goal.returns
 returns c =
     let a = c.args in
-    let named = c.header-1.given in
-    let cut = header_cut a.text.now named.0.0 named.0.1.0 (sym c.header_columns-header.ensures ∙ named.1) in
-    let whole = columns_named a.start a.text.now named.0.0 named.0.1.0 cut.unquoted cut.named cut.behind
+    let cut = header_cut a.text.now c.in-Named.columns c.in-Named.next (sym c.header_columns-header.ensures ∙ c.in-Named.is) in
+    let whole = columns_named a.start a.text.now c.in-Named.columns c.in-Named.next cut.unquoted cut.named cut.behind
     (sym c.missing_column-column.ensures ∙ c.if-column-ne0.false) in
     (c.wanted_behind.ensures.0 ∙ ap (read_answer a.wanted) (sym whole), c.wanted_behind.ensures.1 ∙ ap (λ r. out_after a.wanted r a.out.now) (sym whole))
