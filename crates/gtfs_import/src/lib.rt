@@ -1,4 +1,6 @@
 // Document 02, E2: the bus partner's `stop_times.txt` as a sailing file.
+#![tactic(auto)]
+
 ghost use Rattle.std.specs.Prelude.{true, [], ◌∷◌, ◌≡◌, ◌+◌, ◌*◌, ◌≤◌, length};
 ghost use Rattle.std.proofs.lemmas.List.Edits.{sets};
 ghost use Rattle.timetable.specs.Limits.{most_rows};

@@ -11,68 +11,66 @@ use borrow.Author.Rules.{rules}
 use Rattle.gtfs_import.proofs.fault_place.Statement.{statement}
 use Rattle.gtfs_import.proofs.fault_place.Tie as tie
 
-is_service_day_requires : tie.Need-is-service-day-requires
+is_service_day_requires : tie.Need-is_service_day-requires
 is_service_day_requires c κs = search rules
 
-returns : tie.Need-returns
+returns : tie.Need-returns-then-not-is_service_day
 unfolding place_for
 returns c =
-    let a = c.before.before.before.args in
-    sym (cond_false (fault_place (stop_times (day_start a.day) a.text.now)) nowhere (rule_breaks c.before.is_service_day.ensures c.if1.true))
+    let a = c.args in
+    sym (cond_false (fault_place (stop_times (day_start a.day) a.text.now)) nowhere (rule_breaks c.is_service_day.ensures c.if-not-is_service_day.true-raw))
 
 -- a day that passed its test
-kept : (c : tie.Else1) → day_rule c.before.before.before.args.day ≡ true
-kept c = rule_keeps c.before.is_service_day.ensures c.if1.false
+kept : (c : tie.Else-not-is_service_day) → day_rule c.args.day ≡ true
+kept c = rule_keeps c.is_service_day.ensures c.if-not-is_service_day.false-raw
 
-file_room_requires : tie.Need-file-room-requires
+file_room_requires : tie.Need-file_room-file-requires
 file_room_requires c κs = search rules
 
-day_start_requires : tie.Need-day-start-requires
+day_start_requires : tie.Need-day_start-requires
 day_start_requires c κs = kept c.before
 
 -- the place that is told is that of the reading
-placed : (c : tie.After-stop-times)
-    → place_for c.before.before.before.before.before.before.before.args.text.now c.before.before.before.before.before.before.before.args.day
-    ≡ fault_place (stop_times c.before.before.day_start_lem.result c.before.before.before.before.before.before.before.args.text.now)
+placed : (c : tie.After-stop_times-read)
+    → place_for c.args.text.now c.args.day
+    ≡ fault_place (stop_times c.day_start.result c.args.text.now)
 unfolding place_for
 placed c =
-    let day = c.before.before in
-    let tested = day.before.before in
-    let a = tested.before.before.before.args in
-    cond_true (fault_place (stop_times (day_start a.day) a.text.now)) nowhere (kept tested)
-    ∙ ap (λ minute. fault_place (stop_times minute a.text.now)) (sym day.day_start_lem.ensures.0)
+    let day = c in
+    let tested = c in
+    let a = tested.args in
+    cond_true (fault_place (stop_times (day_start a.day) a.text.now)) nowhere (kept c.before.before.before.before)
+    ∙ ap (λ minute. fault_place (stop_times minute a.text.now)) (sym day.day_start.ensures.0)
 
-slice_aggregate_stop_times : tie.Need-slice-aggregate-stop-times
+slice_aggregate_stop_times : tie.Need-slice_bounds-stop_times-end
 slice_aggregate_stop_times c = search rules
 
-stop_times_requires : tie.Need-stop-times-requires
+stop_times_requires : tie.Need-stop_times-read-requires
 stop_times_requires c κs = search rules
 
-enum_told : tie.Need-enum-told
+enum_told : tie.Need-enum_told-1
 enum_told c = search rules
 
-enum_known_read : tie.Need-enum-known-read
+enum_known_read : tie.Need-enum_known-read
 enum_known_read c = search rules
 
-returns_2 : tie.Need-returns-2
+returns_2 : tie.Need-returns-in-Calls
 unfolding fault_place
 returns_2 c =
-    let read = c.before.before.before in
-    let told = c.enum_told.given in
-    let day = read.before.before in
-    let a = day.before.before.before.before.before.args in
-    let reading = stop_times day.day_start_lem.result a.text.now in
-    sym (placed read ∙ ap fault_place (read_calls reading told.0.0 read.stop_times_lem.ensures.0 told.1).says)
+    let read = c in
+    let day = c in
+    let a = day.args in
+    let reading = stop_times day.day_start.result a.text.now in
+    sym (placed c.before.before ∙ ap fault_place (read_calls reading c.in-Calls.counts read.stop_times-read.ensures.0 c.in-Calls.is).says)
 
-returns_3 : tie.Need-returns-3
+returns_3 : tie.Need-returns-in-Wrong
 unfolding fault_place
 returns_3 c =
-    let read = c.before.before.before.before in
-    let told = c.before.read.given in
-    let day = read.before.before in
-    let a = day.before.before.before.before.before.args in
-    let reading = stop_times day.day_start_lem.result a.text.now in
-    sym (placed read ∙ ap fault_place (read_wrong reading told.0.0 told.0.1.0 told.0.1.1.0 read.stop_times_lem.ensures.0 told.1))
+    let read = c in
+    let day = c in
+    let a = day.args in
+    let reading = stop_times day.day_start.result a.text.now in
+    sym (placed c.before.before ∙ ap fault_place (read_wrong reading c.in-Wrong.number c.in-Wrong.line c.in-Wrong.column read.stop_times-read.ensures.0 c.in-Wrong.is))
 
 pub fault_place_spec : {M : Type 1} → statement M
 fault_place_spec =

@@ -52,7 +52,7 @@ counted_on :
     (c : tie.After-nth_row-row invariant_loop decreases_loop)
     → let a = c.args in
     let l = c.loop-i in
-    Counting (slice a.first a.end (rows_in a.file.now a.s)) (slice (l.i + 1) a.end (rows_in a.file.now a.s)) a.work-1.now
+    Counting (slice a.first a.end (rows_in a.file.now a.s)) (slice (l.i + 1) a.end (rows_in a.file.now a.s)) a.work.now
     (with_size l.work c.nth_row-row.result.board (stack_size l.work c.nth_row-row.result.board + 1))
 counted_on c =
     let a = c in

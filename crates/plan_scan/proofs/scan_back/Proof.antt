@@ -101,18 +101,18 @@ unfolding closed_here
 laid_here c =
     let f = emptied_at c in
     let a = begun f in
-    laid_held a.args.file.now a.args.s a.args.goal a.args.first a.args.end a.requires.0 a.requires.3 f.fill-2.last.0
+    laid_held a.args.file.now a.args.s a.args.goal a.args.first a.args.end a.requires.0 a.requires.3 f.fill-2.new.work
     (counted_cells c) (room_here f) c.count_boardings.ensures c.part_stacks.new.work
     c.part_stacks.ensures (no_next_here f)
 
 stays_here : (c : tie.After-part_stacks)
-    → let a = (begun (emptied_at c)).args in SameOutside trip_cells (used a.s.rows) a.work-1.now (closed_here c)
+    → let a = (begun (emptied_at c)).args in SameOutside trip_cells (used a.s.rows) a.work.now (closed_here c)
 unfolding closed_here
 stays_here c =
     let f = emptied_at c in
     let a = begun f in
     outside_then (emptied_here f)
-    (laid_stays a.args.file.now a.args.s a.args.goal a.args.first a.args.end a.requires.0 a.requires.3 f.fill-2.last.0
+    (laid_stays a.args.file.now a.args.s a.args.goal a.args.first a.args.end a.requires.0 a.requires.3 f.fill-2.new.work
     (counted_cells c) (room_here f) c.count_boardings.ensures c.part_stacks.new.work
     c.part_stacks.ensures (no_next_here f))
 
@@ -145,9 +145,9 @@ returns : tie.Need-returns
 returns c =
     let scanned = c in
     let a = begun (emptied_at (parted_at c.before.before.before)) in
-    let weighed = scanned.weigh_rows.new.1.1.1.1.1.1 in (
+    let weighed = scanned.weigh_rows.new in (
       held_ends a.args.file.now a.args.s a.args.goal a.args.first a.args.end a.requires.0 a.requires.3
-          weighed.0 weighed.1.0 a.requires.2 scanned.weigh_rows.ensures.0,
+          weighed.work weighed.limits a.requires.2 scanned.weigh_rows.ensures.0,
       scanned_stays c.before.before.before,
     )
 

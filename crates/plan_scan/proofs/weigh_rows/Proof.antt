@@ -101,7 +101,7 @@ choose_requires c κs =
     let l = n.loop-i in
     let pushable = turn_pushable a.args.file.now a.args.s a.args.goal a.args.first a.args.end a.requires.0 a.requires.3 (l.i - 1) (first_here n)
     (end_here n) l.work l.limits (room_here n) n.nth_row-row.result n.nth_row-row.ensures.0
-    w.weigh_row.last.1.1.1.0 (weighed_here w) then.if-row-goal.true in
+    w.weigh_row.new.work (weighed_here w) then.if-row-goal.true in
     (pushable, omega (arith, pushable.board, l.invariant.2.limits_held.count))
 
 loop_less : tie.Need-loop-i-smaller-then-row-goal invariant_loop decreases_loop
@@ -120,11 +120,11 @@ loop_again c =
       (let z = end_here n in omega arith),
       turn_chosen a.args.file.now a.args.s a.args.goal a.args.first a.args.end a.requires.0 a.requires.3 (l.i - 1) (first_here n)
           (end_here n) l.work l.limits (room_here n) n.nth_row-row.result n.nth_row-row.ensures.0
-          w.weigh_row.last.1.1.1.0 (weighed_here w) then.if-row-goal.true chosen.choose.new.work chosen.choose.new.limits chosen.choose.ensures,
+          w.weigh_row.new.work (weighed_here w) then.if-row-goal.true chosen.choose.new.work chosen.choose.new.limits chosen.choose.ensures,
       outside_then l.invariant.3
           (turn_stays a.args.file.now a.args.s a.args.goal a.args.first a.args.end a.requires.0 a.requires.3 (l.i - 1) (first_here n)
           (end_here n) l.work l.limits (room_here n) n.nth_row-row.result n.nth_row-row.ensures.0
-          w.weigh_row.last.1.1.1.0 (weighed_here w) then.if-row-goal.true chosen.choose.new.work chosen.choose.new.limits chosen.choose.ensures),
+          w.weigh_row.new.work (weighed_here w) then.if-row-goal.true chosen.choose.new.work chosen.choose.new.limits chosen.choose.ensures),
     )
 
 loop_less_2 : tie.Need-loop-i-smaller invariant_loop decreases_loop
@@ -140,7 +140,7 @@ loop_again_2 c =
       (let z = end_here n in omega arith),
       turn_unchosen a.args.file.now a.args.s a.args.goal a.args.first a.args.end a.requires.0 a.requires.3 (l.i - 1) (first_here n)
           (end_here n) l.work l.limits (room_here n) n.nth_row-row.result n.nth_row-row.ensures.0
-          w.weigh_row.last.1.1.1.0 (weighed_here w) c.if-row-goal.false,
+          w.weigh_row.new.work (weighed_here w) c.if-row-goal.false,
       outside_then l.invariant.3 (weighed_here w).stays,
     )
 
