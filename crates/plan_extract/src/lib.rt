@@ -1,4 +1,6 @@
 // Document 01, "Expected arrival in ticks", and document 02, E3: the plan, by one pass forward over the wanted rows.
+#![tactic(auto)]
+
 ghost use Rattle.std.specs.Prelude.{◌≡◌, ◌+◌, ◌*◌, ◌≤◌, ◌<◌, max, length, get_or};
 ghost use Rattle.query.specs.Query.{most_gate};
 ghost use Rattle.plans.specs.Plan.{latest_of};

@@ -24,7 +24,7 @@ counted : (c : tie.In-Calls)
 counted c =
     let read = c in
     let args = read.args in
-read_calls (stop_times args.start args.text.now) c.in-Calls.counts read.stop_times-read.ensures.0 c.in-Calls.is
+    read_calls (stop_times args.start args.text.now) c.in-Calls.counts read.stop_times-read.ensures.0 c.in-Calls.is
 
 sound : (c : tie.In-Calls) → ReadSound (counted c).calls
 sound c =

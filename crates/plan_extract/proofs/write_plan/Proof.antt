@@ -39,23 +39,23 @@ abbrev entered : tie.After-fill → tie.Start
 entered c = c.before.before.before.before.before.before
 
 abbrev marked : tie.After-fill → List ℕ
-marked c = set c.fill.new.0 (0 + (entered c).args.boarding) 1
+marked c = set c.fill.new.work (0 + (entered c).args.boarding) 1
 
 kept : (c : tie.After-fill) → SameOutside trip_cells stop_cells (entered c).args.work.now (marked c)
 kept c =
     let a = entered c in
     let row = a.args.boarding in
     subst (λ l. SameOutside trip_cells stop_cells a.args.work.now (set l (0 + row) 1)) (sym c.fill.ensures)
-    (alone_kept a.args.work.now a.args.s.rows (0 + row) row (zero-add row) (boarding_inside a) a.pre.0.few_rows
-    (omega (arith, a.pre.3)))
+    (alone_kept a.args.work.now a.args.s.rows (0 + row) row (zero-add row) (boarding_inside a) a.requires.0.few_rows
+    (omega (arith, a.requires.3)))
 
 alone : (c : tie.After-fill) → MarkedAlone (marked c) (entered c).args.s.rows (entered c).args.boarding
 alone c =
     let a = entered c in
     let row = a.args.boarding in
     subst (λ l. MarkedAlone (set l (0 + row) 1) a.args.s.rows row) (sym c.fill.ensures)
-    (alone_marked a.args.work.now a.args.s.rows (0 + row) row (zero-add row) (boarding_inside a) a.pre.0.few_rows
-    (omega (arith, a.pre.3)))
+    (alone_marked a.args.work.now a.args.s.rows (0 + row) row (zero-add row) (boarding_inside a) a.requires.0.few_rows
+    (omega (arith, a.requires.3)))
 
 -- the marks leave the plan ahead as it was
 abbrev still_ahead :
@@ -63,22 +63,22 @@ abbrev still_ahead :
     → PlanAhead file s goal boarding end old → PlanAhead file s goal boarding end new
 still_ahead k p = record { first = p.first; ordered = p.ordered; held = kept_held k p.held; begins = p.begins }
 
-mul_work : tie.Need-overflow-mul-work
+mul_work : tie.Need-offset_bounds-work-boarding
 mul_work c =
-    let a = c.before.before.before.before.before.before.before.before in
-    omega (arith, boarding_inside a, a.requires.0.few_rows)
+    let a = c in
+    omega (arith, boarding_inside c.before.before.before.before.before.before.before.before, a.requires.0.few_rows)
 
-add_work : tie.Need-overflow-add-work
+add_work : tie.Need-overflow_add-work
 add_work c = search rules
 
-slice_write_work : tie.Need-slice-write-work
+slice_write_work : tie.Need-bounds-work-boarding
 slice_write_work c =
-    let a = c.before.before.before.before.before.before.before.before in
-    omega (arith, boarding_inside a, a.requires.3, c.before.before.fill.auto.0)
+    let a = c in
+    omega (arith, boarding_inside c.before.before.before.before.before.before.before.before, a.requires.3, c.fill.auto.work)
 
-write_wanted_requires : tie.Need-write-wanted-requires
+write_wanted_requires : tie.Need-write_wanted-requires
 write_wanted_requires c κs =
-    let a = c.before.before.before.before.before.before.before.before.before.before in
+    let a = c in
     let k = kept c.before.before.before.before in (
       a.requires.0,
       a.requires.1,
@@ -90,19 +90,19 @@ write_wanted_requires c κs =
       a.requires.6,
     )
 
-same_length : tie.Need-same-length
+same_length : tie.Need-shape_of-work
 same_length c =
-    let f = c.before.before.before.before.before.before.before.before.before in
-    c.before.before.before.before.write_wanted.ensures.1.same_length ∙ (kept f).same_length
+    let f = c in
+    c.write_wanted.ensures.1.same_length ∙ (kept c.before.before.before.before.before.before.before.before.before).same_length
 
-same_length_2 : tie.Need-same-length-2
+same_length_2 : tie.Need-shape_of-plan
 same_length_2 c = search rules
 
 returns : tie.Need-returns
 returns c =
-    let a = c.before.before.before.before.before.before.before.before.before.before.before.before.before.before.before in
+    let a = c in
     let k = kept c.before.before.before.before.before.before.before.before.before in
-    let w = c.before.before.before.before.write_wanted.ensures in
+    let w = c.write_wanted.ensures in
     (λ p. w.0 (still_ahead k p), outside_then (outside_wider (omega arith) (omega arith) k) w.1)
 
 pub write_plan_spec : {M : Type 1} → statement M

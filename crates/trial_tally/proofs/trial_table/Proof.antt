@@ -14,18 +14,16 @@ sizes : (c : tie.In-Table)
 sizes c =
     let called = c in
     let a = called.args in
-    let told = c.made-1.given in
     table_small version_one a.tally.now a.shares.now
-    told.0.0 told.0.1.0 told.0.1.1.0
-    (sym called.table_of-made.ensures.0 ∙ told.1)
+    c.in-Table.delay c.in-Table.landings c.in-Table.apart
+    (sym called.table_of-made.ensures.0 ∙ c.in-Table.is)
 
 faults : (c : tie.In-Refused) → (c.in-Refused.refusal ≤ 16) × (c.in-Refused.place ≤ 0)
 faults c =
     let called = c in
     let a = called.args in
-    let told = c.made-in-Refused-1.given in
     refused_small version_one a.tally.now a.shares.now
-    told.0.0 told.0.1.0 (sym called.table_of-made.ensures.0 ∙ told.1)
+    c.in-Refused.refusal c.in-Refused.place (sym called.table_of-made.ensures.0 ∙ c.in-Refused.is)
 
 table_of_requires : tie.Need-table_of-made-requires
 table_of_requires c κs = search rules

@@ -31,9 +31,8 @@ small : (c : tie.In-Refused) → (c.in-Refused.refusal ≤ 16) × (c.in-Refused.
 small c =
     let tallied = c in
     let a = tallied.args in
-    let told = c.tallied-1.given in
-    landing_small version_one (landing_at a.planned a.actual) a.tally.now told.0.0 told.0.1.0
-    (answered c.before ∙ told.1)
+    landing_small version_one (landing_at a.planned a.actual) a.tally.now c.in-Refused.refusal c.in-Refused.place
+    (answered c.before ∙ c.in-Refused.is)
 
 number_requires : tie.Need-number-requires
 number_requires c κs = search rules
