@@ -1,4 +1,6 @@
 // Document 01, "Expected arrival in ticks", and document 02, E3: planning in a sound file with room for it, all steps together.
+#![tactic(auto)]
+
 ghost use Rattle.std.specs.Prelude.{◌≡◌, ℕ, ◌+◌, ◌*◌, ◌≤◌, ◌<◌, length};
 ghost use Rattle.file_layout.specs.Decode.{decode};
 ghost use Rattle.query.specs.Query.{most_gate, most_quarters};

@@ -1,4 +1,6 @@
 // Document 01, "Both sides of each line": the import with its whole answer, for the comparison with an independent second program.
+#![tactic(auto)]
+
 ghost use Rattle.std.specs.Prelude.{◌≡◌};
 ghost use Rattle.gtfs_import.specs.Import.{import_answer, import_outcome};
 ghost use Rattle.trial_answers.specs.Seen.{seen};

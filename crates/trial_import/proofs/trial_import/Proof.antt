@@ -11,106 +11,104 @@ use Rattle.trial_import.proofs.trial_import.Statement.{statement}
 use Rattle.trial_import.proofs.trial_import.Tie as tie
 
 -- what the import answered
-outcome : (c : tie.After-import-stop-times)
-    → (import_outcome c.before.before.before.before.before.before.args.text.now c.before.before.before.before.before.before.args.day
-    c.before.before.before.before.before.before.args.out.now).answer
-    ≡ c.import_stop_times.result
+outcome : (c : tie.After-import_stop_times-imported)
+    → (import_outcome c.args.text.now c.args.day
+    c.args.out.now).answer
+    ≡ c.import_stop_times-imported.result
 outcome c =
-    let a = c.before.before.before.before.before.before.args in
-    ap (λ d. (import_outcome a.text.now d a.out.now).answer) (sym c.before.before.number.ensures.0) ∙ sym c.import_stop_times.ensures.0
+    let a = c.args in
+    ap (λ d. (import_outcome a.text.now d a.out.now).answer) (sym c.number.ensures.0) ∙ sym c.import_stop_times-imported.ensures.0
 
-sizes : (c : tie.After-known-told)
-    → (c.before.imported.given.0.0.stops < 65536) × (c.before.imported.given.0.0.rows < 65536)
-    × (c.before.imported.given.0.0.classes < 65536) × (c.before.imported.given.0.1.0 < 65536)
+sizes : (c : tie.In-Written)
+    → (c.in-Written.trailer.stops < 65536) × (c.in-Written.trailer.rows < 65536)
+    × (c.in-Written.trailer.classes < 65536) × (c.in-Written.bytes < 65536)
 sizes c =
-    let imported = c.before.before.before.before.before in
-    let a = imported.before.before.before.before.before.before.args in
-    let told = c.before.imported.given in
-    written_small a.text.now a.day a.out.now told.0.0 told.0.1.0 (outcome imported ∙ told.1)
+    let imported = c in
+    let a = imported.args in
+    written_small a.text.now a.day a.out.now c.in-Written.trailer c.in-Written.bytes (outcome c.before.before.before ∙ c.in-Written.is)
 
-faults : (c : tie.After-known-told2) → (c.before.imported2.given.0.0 ≤ 13) × (c.before.imported2.given.0.1.0 ≤ most_rows)
+faults : (c : tie.In-Refused) → (c.in-Refused.refusal ≤ 13) × (c.in-Refused.place ≤ most_rows)
 faults c =
-    let imported = c.before.before.before.before.before in
-    let a = imported.before.before.before.before.before.before.args in
-    let told = c.before.imported2.given in
-    refused_small a.text.now a.day a.out.now told.0.0 told.0.1.0 (outcome imported ∙ told.1)
+    let imported = c in
+    let a = imported.args in
+    refused_small a.text.now a.day a.out.now c.in-Refused.refusal c.in-Refused.place (outcome c.before.before.before ∙ c.in-Refused.is)
 
 number_requires : tie.Need-number-requires
 number_requires c κs = search rules
 
-import_stop_times_requires : tie.Need-import-stop-times-requires
+import_stop_times_requires : tie.Need-import_stop_times-imported-requires
 import_stop_times_requires c κs = search rules
 
-enum_known_imported : tie.Need-enum-known-imported
+enum_known_imported : tie.Need-enum_known-imported
 enum_known_imported c = search rules
 
 cell_requires : tie.Need-cell-requires
 cell_requires c κs = omega (arith, sizes c)
 
-cell_requires_2 : tie.Need-cell-requires-2
+cell_requires_2 : tie.Need-cell-requires-in-Written
 cell_requires_2 c κs = omega (arith, sizes c.before)
 
-cell_requires_3 : tie.Need-cell-requires-3
+cell_requires_3 : tie.Need-cell-requires-in-Written-2
 cell_requires_3 c κs = omega (arith, sizes c.before.before)
 
-cell_requires_4 : tie.Need-cell-requires-4
+cell_requires_4 : tie.Need-cell-requires-in-Written-3
 cell_requires_4 c κs = omega (arith, sizes c.before.before.before)
 
-put_six_requires : tie.Need-put-six-requires
+put_six_requires : tie.Need-put_six-requires
 put_six_requires c κs = search rules
 
-enum_known_imported_2 : tie.Need-enum-known-imported-2
+enum_known_imported_2 : tie.Need-enum_known-imported-in-Refused-1
 enum_known_imported_2 c = search rules
 
-cell_requires_5 : tie.Need-cell-requires-5
+cell_requires_5 : tie.Need-cell-requires-in-Refused
 cell_requires_5 c κs = omega (arith, faults c)
 
-cell_requires_6 : tie.Need-cell-requires-6
+cell_requires_6 : tie.Need-cell-requires-in-Refused-2
 cell_requires_6 c κs = omega (arith, faults c.before)
 
-put_six_requires_2 : tie.Need-put-six-requires-2
+put_six_requires_2 : tie.Need-put_six-requires-in-Refused
 put_six_requires_2 c κs = search rules
 
-same_length : tie.Need-same-length
+same_length : tie.Need-shape_of-out-in-Written
 same_length c = search rules
 
-same_length_2 : tie.Need-same-length-2
+same_length_2 : tie.Need-shape_of-answer-in-Written
 same_length_2 c = search rules
 
-returns : tie.Need-returns
+returns : tie.Need-returns-in-Written
 returns c =
-    let bytes = c.before.before.before.before in
-    let classes = bytes.before in
-    let rows = classes.before in
-    let stops = rows.before in
-    let arm = stops.before in
-    let imported = arm.before.before.before.before.before in
-    let number = imported.before.before in
-    let a = number.before.before.before.before.args in (
-      c.before.before.put_six.ensures
-          ∙ seen_written a.answer.now stops.cell.result rows.cell2.result classes.cell3.result bytes.cell4.result
-          (outcome imported ∙ arm.before.imported.given.1) stops.cell.ensures rows.cell2.ensures classes.cell3.ensures bytes.cell4.ensures,
-      imported.import_stop_times.ensures.1 ∙ ap (λ d. (import_outcome a.text.now d a.out.now).out) number.number.ensures.0,
+    let bytes = c in
+    let classes = c in
+    let rows = c in
+    let stops = c in
+    let arm = c in
+    let imported = c in
+    let number = c in
+    let a = number.args in (
+      c.put_six.ensures
+          ∙ seen_written a.answer.now stops.cell.result rows.cell-in-Written.result classes.cell-in-Written-2.result bytes.cell-in-Written-3.result
+          (outcome c.before.before.before.before.before.before.before.before.before.before.before ∙ arm.in-Written.is) stops.cell.ensures rows.cell-in-Written.ensures classes.cell-in-Written-2.ensures bytes.cell-in-Written-3.ensures,
+      imported.import_stop_times-imported.ensures.1 ∙ ap (λ d. (import_outcome a.text.now d a.out.now).out) number.number.ensures.0,
     )
 
-same_length_3 : tie.Need-same-length-3
+same_length_3 : tie.Need-shape_of-out-in-Refused
 same_length_3 c = search rules
 
-same_length_4 : tie.Need-same-length-4
+same_length_4 : tie.Need-shape_of-answer-in-Refused
 same_length_4 c = search rules
 
-returns_2 : tie.Need-returns-2
+returns_2 : tie.Need-returns-in-Refused
 returns_2 c =
-    let place = c.before.before.before.before in
-    let refusal = place.before in
-    let arm = refusal.before in
-    let imported = arm.before.before.before.before.before in
-    let number = imported.before.before in
-    let a = number.before.before.before.before.args in (
-      c.before.before.put_six2.ensures
-          ∙ seen_refused a.answer.now refusal.cell5.result place.cell6.result (outcome imported ∙ arm.before.imported2.given.1)
-          refusal.cell5.ensures place.cell6.ensures,
-      imported.import_stop_times.ensures.1 ∙ ap (λ d. (import_outcome a.text.now d a.out.now).out) number.number.ensures.0,
+    let place = c in
+    let refusal = c in
+    let arm = c in
+    let imported = c in
+    let number = c in
+    let a = number.args in (
+      c.put_six-in-Refused.ensures
+          ∙ seen_refused a.answer.now refusal.cell-in-Refused.result place.cell-in-Refused-2.result (outcome c.before.before.before.before.before.before.before.before.before ∙ arm.in-Refused.is)
+          refusal.cell-in-Refused.ensures place.cell-in-Refused-2.ensures,
+      imported.import_stop_times-imported.ensures.1 ∙ ap (λ d. (import_outcome a.text.now d a.out.now).out) number.number.ensures.0,
     )
 
 pub trial_import_spec : {M : Type 1} → statement M
