@@ -1,4 +1,6 @@
 // Document 01, "What the planner covers": the plan and the earliest safe arrival, or a numbered refusal.
+#![tactic(auto)]
+
 ghost use Rattle.std.specs.Prelude.{◌≡◌, ◌≤◌, length};
 ghost use Rattle.timetable.specs.Limits.{most_rows, most_stops};
 ghost use Rattle.file_layout.specs.Check.{checked_as};

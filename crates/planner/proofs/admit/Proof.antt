@@ -13,68 +13,67 @@ use Rattle.planner.proofs.admit.Statement.{statement}
 use Rattle.planner.proofs.admit.Tie as tie
 
 -- what the check answered of the file, in each arm
-refused : (c : tie.After-known-told)
-    → checked_as c.before.before.before.before.before.args.f c.before.before.before.before.before.args.file.now
-    ≡ Refused c.before.checked.given.0.0 c.before.checked.given.0.1.0
-refused c = sym c.before.before.before.check_as.ensures ∙ c.before.checked.given.1
+refused : (c : tie.In-Refused)
+    → checked_as c.args.f c.args.file.now
+    ≡ Refused c.in-Refused.number c.in-Refused.place
+refused c = sym c.check_as-checked.ensures ∙ c.in-Refused.is
 
-sound : (c : tie.After-known-told2)
-    → checked_as c.before.before.before.before.before.args.f c.before.before.before.before.before.args.file.now
-    ≡ Sound c.before.checked2.given.0.0
-sound c = sym c.before.before.before.check_as.ensures ∙ c.before.checked2.given.1
+sound : (c : tie.In-Sound)
+    → checked_as c.args.f c.args.file.now
+    ≡ Sound c.in-Sound.trailer
+sound c = sym c.check_as-checked.ensures ∙ c.in-Sound.is
 
-fits : (c : tie.After-known-told) → (c.before.checked.given.0.0 < 4294967296) × (c.before.checked.given.0.1.0 < 4294967296)
+fits : (c : tie.In-Refused) → (c.in-Refused.number < 4294967296) × (c.in-Refused.place < 4294967296)
 fits c =
-    let a = c.before.before.before.before.before.args in
-    refusal_fits a.f a.file.now (λ i. omega (arith, c.before.before.before.before.shared_slice_known.given i)) _ _ (refused c)
+    let a = c.args in
+    refusal_fits a.f a.file.now (λ i. omega (arith, c.shared_slice_known-1.given i)) _ _ (refused c)
 
-check_as_requires : tie.Need-check-as-requires
+check_as_requires : tie.Need-check_as-checked-requires
 check_as_requires c κs = search rules
 
-enum_known_checked : tie.Need-enum-known-checked
+enum_known_checked : tie.Need-enum_known-checked
 enum_known_checked c = search rules
 
 cell_requires : tie.Need-cell-requires
 cell_requires c κs = (fits c).0
 
-cell_requires_2 : tie.Need-cell-requires-2
+cell_requires_2 : tie.Need-cell-requires-in-Refused
 cell_requires_2 c κs = (fits c.before).1
 
-enum_known_checked_2 : tie.Need-enum-known-checked-2
+enum_known_checked_2 : tie.Need-enum_known-checked-in-Sound-1
 enum_known_checked_2 c = search rules
 
-admit_checked_requires : tie.Need-admit-checked-requires
+admit_checked_requires : tie.Need-admit_checked-number-requires
 admit_checked_requires c κs =
-    let a = c.before.before.before.before.before in
+    let a = c in
     let few = few_stops_rows a.args.f a.args.file.now a.args.q a.args.work a.args.other _ (sound c) a.requires.0 in
     (few.0, few.1, a.requires.1, a.requires.2)
 
-returns : tie.Need-returns
+returns : tie.Need-returns-in-Refused
 returns c =
-    let told = c.before.before in
-    let a = told.before.before.before.before.before.args in
-    let k = told.before.checked.given.0 in
-    ap₂ NotAdmitted c.before.cell.ensures c.cell2.ensures
-    ∙ refused_admission a.f a.file.now a.q a.work a.other k.0 k.1.0
-    (check_refused a.f a.file.now a.q a.work a.other k.0 k.1.0 (refused told))
+    let told = c in
+    let a = told.args in
+    ap₂ NotAdmitted c.cell.ensures c.cell-in-Refused.ensures
+    ∙ refused_admission a.f a.file.now a.q a.work a.other c.in-Refused.number c.in-Refused.place
+    (check_refused a.f a.file.now a.q a.work a.other c.in-Refused.number c.in-Refused.place (refused c.before.before))
 
-returns_2 : tie.Need-returns-2
+returns_2 : tie.Need-returns-then-number-eq0
 returns_2 c =
-    let told = c.before.before in
-    let a = told.before.before.before.before.before.args in
-    let h = told.before.checked2.given.0.0 in
-    fine_admission a.f a.file.now a.q a.work a.other h (sound_checked a.f a.file.now h (sound told)).1
-    (behind_check a.f a.file.now a.q a.work a.other h (sound told)
-    ∙ (number_tells a.f h a.q a.work a.other c.before.admit_checked.result c.before.admit_checked.ensures).1 c.if1.true)
+    let told = c in
+    let a = told.args in
+    let h = c.in-Sound.trailer in
+    fine_admission a.f a.file.now a.q a.work a.other h (sound_checked a.f a.file.now h (sound c.before.before)).1
+    (behind_check a.f a.file.now a.q a.work a.other h (sound c.before.before)
+    ∙ (number_tells a.f h a.q a.work a.other c.admit_checked-number.result c.admit_checked-number.ensures).1 c.if-number-eq0.true)
 
-returns_3 : tie.Need-returns-3
+returns_3 : tie.Need-returns-else-number-eq0
 returns_3 c =
-    let told = c.before.before in
-    let a = told.before.before.before.before.before.args in
-    let h = told.before.checked2.given.0.0 in
-    refused_admission a.f a.file.now a.q a.work a.other c.before.admit_checked.result 0
-    (behind_check a.f a.file.now a.q a.work a.other h (sound told)
-    ∙ (number_tells a.f h a.q a.work a.other c.before.admit_checked.result c.before.admit_checked.ensures).0 c.if1.false)
+    let told = c in
+    let a = told.args in
+    let h = c.in-Sound.trailer in
+    refused_admission a.f a.file.now a.q a.work a.other c.admit_checked-number.result 0
+    (behind_check a.f a.file.now a.q a.work a.other h (sound c.before.before)
+    ∙ (number_tells a.f h a.q a.work a.other c.admit_checked-number.result c.admit_checked-number.ensures).0 c.if-number-eq0.false)
 
 pub admit_spec : {M : Type 1} → statement M
 admit_spec =

@@ -12,55 +12,54 @@ use Rattle.planner.proofs.plan.Statement.{statement}
 use Rattle.planner.proofs.plan.Tie as tie
 
 -- the admission at the two slices' lengths
-told : (c : tie.After-admit) →
-    let a = c.before.before.before.before.before.before.args in
-    c.admit.result ≡ admitted version_one a.file.now a.q (work_room (length a.work.now)) (plan_room (length a.plan.now))
+told : (c : tie.After-admit-admission) →
+    let a = c.args in
+    c.admit-admission.result ≡ admitted version_one a.file.now a.q (work_room (length a.work.now)) (plan_room (length a.plan.now))
 told c =
-    let a = c.before.before.before.before.before.before.args in
-    c.admit.ensures ∙ ap₂ (admitted version_one a.file.now a.q) c.before.before.work_needs.ensures c.before.plan_needs.ensures
+    let a = c.args in
+    c.admit-admission.ensures ∙ ap₂ (admitted version_one a.file.now a.q) c.work_needs.ensures c.plan_needs.ensures
 
-work_needs_requires : tie.Need-work-needs-requires
+work_needs_requires : tie.Need-work_needs-requires
 work_needs_requires c κs = search rules
 
-plan_needs_requires : tie.Need-plan-needs-requires
+plan_needs_requires : tie.Need-plan_needs-requires
 plan_needs_requires c κs = search rules
 
-admit_requires : tie.Need-admit-requires
+admit_requires : tie.Need-admit-admission-requires
 admit_requires c κs = (
   version_one_readable,
-  subst SmallRoom (sym c.before.work_needs.ensures) (work_small _),
+  subst SmallRoom (sym c.work_needs.ensures) (work_small _),
   subst SmallRoom (sym c.plan_needs.ensures) (plan_small _),
 )
 
-enum_known_admission : tie.Need-enum-known-admission
+enum_known_admission : tie.Need-enum_known-admission
 enum_known_admission c = search rules
 
-enum_known_admission_2 : tie.Need-enum-known-admission-2
+enum_known_admission_2 : tie.Need-enum_known-admission-in-Admitted-1
 enum_known_admission_2 c = search rules
 
-plan_admitted_requires : tie.Need-plan-admitted-requires
+plan_admitted_requires : tie.Need-plan_admitted-requires
 plan_admitted_requires c κs =
-    let at = c.before.before.before.before.before in
-    let a = at.before.before.before.before.before.before.args in
+    let at = c in
+    let a = at.args in
     admitted_tells version_one a.file.now a.q (work_room (length a.work.now)) (plan_room (length a.plan.now))
-    _ version_one_plannable (sym (told at) ∙ c.before.before.before.admission2.given.1)
+    _ version_one_plannable (sym (told c.before.before.before) ∙ c.in-Admitted.is)
 
-returns : tie.Need-returns
+returns : tie.Need-returns-in-Refused
 returns c =
-    let at = c.before.before.before in
-    let a = at.before.before.before.before.before.before.args in
-    let k = c.before.admission.given in
-    refused_as version_one a.file.now a.q a.work.now a.plan.now k.0.0 k.0.1.0 refl
-    (admission_tells version_one a.file.now a.q (work_room (length a.work.now)) (plan_room (length a.plan.now)) k.0.0 k.0.1.0
-    (sym (told at) ∙ k.1))
+    let at = c in
+    let a = at.args in
+    refused_as version_one a.file.now a.q a.work.now a.plan.now c.in-Refused.number c.in-Refused.place refl
+    (admission_tells version_one a.file.now a.q (work_room (length a.work.now)) (plan_room (length a.plan.now)) c.in-Refused.number c.in-Refused.place
+    (sym (told c.before) ∙ c.in-Refused.is))
 
-same_length : tie.Need-same-length
+same_length : tie.Need-shape_of-work
 same_length c = search rules
 
-same_length_2 : tie.Need-same-length-2
+same_length_2 : tie.Need-shape_of-plan
 same_length_2 c = search rules
 
-returns_2 : tie.Need-returns-2
+returns_2 : tie.Need-returns-in-Admitted
 returns_2 c = search rules
 
 pub plan_spec : {M : Type 1} → statement M
