@@ -1,1 +1,2 @@
 // No code: document 01's cases marked P, about the definitions (specs/), and that they hold (proofs/).
+#![tactic(auto)]

@@ -1,4 +1,6 @@
 // Document 01, "Numbers returned on refusal", and document 02, E1 and E3: the booking desk's calls. include/sayurimpak.h is their manual.
+#![tactic(auto)]
+
 ghost use Rattle.std.specs.Prelude.{◌≡◌, ◌/◌, min, length};
 ghost use Rattle.file_layout.specs.Format.{version_one};
 ghost use Rattle.query.specs.Query.{plain_query, with_code, with_gate, with_margin};

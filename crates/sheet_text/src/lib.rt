@@ -1,4 +1,6 @@
 // Document 01, "The sheet": the text for a file of sailings and a query, written into lent bytes.
+#![tactic(auto)]
+
 ghost use Rattle.std.specs.Prelude.{◌≡◌, ◌+◌, ◌*◌, ◌≤◌, ◌<◌, length, take};
 ghost use Rattle.timetable.specs.Timetable.{row_of};
 ghost use Rattle.file_layout.specs.declared.Checked.TheVariants.{Sound};

@@ -1,4 +1,6 @@
 // Document 01, "Both sides of each line": the entry points with their whole answers, for the comparison with an independent second program.
+#![tactic(auto)]
+
 ghost use Rattle.std.specs.Prelude.{◌≡◌};
 ghost use Rattle.file_layout.specs.Check.{answer_of, checked};
 ghost use Rattle.house.specs.HouseShare.{house_share, house_answer};

@@ -4,12 +4,8 @@ use mathlib.Core.Path.{refl}
 use lib.ListN.{length-replicate}
 use Rattle.rooms.specs.Rooms.{zeros}
 use Rattle.sheet_text.specs.Room.{sheet_room}
-use Rattle.sheet_text.proofs.sheet_room.Statement.{statement}
-use Rattle.sheet_text.proofs.sheet_room.Tie as tie
+use Rattle.sheet_text.proofs.sheet_room.Goals as goal
 
-returns : tie.Need-returns
+pub returns : goal.returns
 unfolding zeros
 returns c = (refl, length-replicate {A = ℕ} sheet_room 0)
-
-pub sheet_room_spec : {M : Type 1} → statement M
-sheet_room_spec = tie.close (tie.spec returns)

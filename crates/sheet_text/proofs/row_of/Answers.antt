@@ -10,8 +10,7 @@ use Rattle.file_layout.specs.declared.Trailer.{Trailer}
 use Rattle.file_layout.specs.Decode.{decode, trailer_of, row_at}
 use Rattle.file_layout.specs.Sound.{SoundFile}
 use borrow.Author.Rules.{rules}
-use Rattle.sheet_text.proofs.row_of.Statement.{statement}
-use Rattle.sheet_text.proofs.row_of.Tie as tie
+use Rattle.sheet_text.proofs.row_of.Goals as goal
 
 module _ {f : Format} {file : List ℕ} {trailer : Trailer} {i : ℕ} (sound : SoundFile f file) (read : trailer ≡ trailer_of f file)
     (inside : i < trailer.rows) where
@@ -24,25 +23,22 @@ module _ {f : Format} {file : List ℕ} {trailer : Trailer} {i : ℕ} (sound : S
   row_read : row_at file (trailer.rowstart + f.width * i) ≡ row_of (decode f file).rows i
   row_read = ap (λ h. row_at file (h.rowstart + f.width * i)) read ∙ sym (sound.row_read i there)
 
-mul_row_at : tie.Need-overflow-mul-row-at
-mul_row_at c =
-    let a = c.before.before in
+pub overflow_mul-f : goal.overflow_mul-f
+overflow_mul-f c =
+    let a = c in
     omega (arith, readable a.requires.0 a.requires.1 a.requires.2)
 
-add_row_at : tie.Need-overflow-add-row-at
-add_row_at c =
-    let a = c.before.before.before in
+pub overflow_add-trailer : goal.overflow_add-trailer
+overflow_add-trailer c =
+    let a = c in
     omega (arith, readable a.requires.0 a.requires.1 a.requires.2)
 
-row_at_requires : tie.Need-row-at-requires
-row_at_requires c κs =
-    let a = c.before.before.before in
+pub row_at-requires : goal.row_at-requires
+row_at-requires c =
+    let a = c in
     readable a.requires.0 a.requires.1 a.requires.2
 
-returns : tie.Need-returns
+pub returns : goal.returns
 returns c =
-    let a = c.before.before.before.before in
+    let a = c in
     (c.row_at.ensures.0 ∙ row_read a.requires.0 a.requires.1 a.requires.2, c.row_at.ensures.1)
-
-pub row_of_spec : {M : Type 1} → statement M
-row_of_spec = tie.close (tie.spec mul_row_at add_row_at row_at_requires returns)

@@ -6,29 +6,13 @@ use Rattle.file_layout.specs.Format.{version_one}
 use Rattle.query.specs.Query.{plain_query, with_code, with_margin}
 use Rattle.planner.specs.Outcome.{PlanOutcome, plan_outcome, plan_answer}
 use Rattle.trial_answers.specs.Seen.{seen}
-use Rattle.trial.proofs.trial_plan.Statement.{statement}
-use Rattle.trial.proofs.trial_plan.Tie as tie
+use Rattle.trial.proofs.trial_plan.Goals as goal
 
-cell_requires : tie.Need-cell-requires
-cell_requires c κs = search rules
-
-trial_plan_margin_requires : tie.Need-trial-plan-margin-requires
-trial_plan_margin_requires c κs = search rules
-
-same_length : tie.Need-same-length
-same_length c = search rules
-
-same_length_2 : tie.Need-same-length-2
-same_length_2 c = search rules
-
-same_length_3 : tie.Need-same-length-3
-same_length_3 c = search rules
-
-returns : tie.Need-returns
+pub returns : goal.returns
 returns c =
-    let at = c.before.before.before.before.before.before in
-    let least = at.before.before.before.before in
-    let a = least.before.before.before.before.before.args in
+    let at = c in
+    let least = c in
+    let a = least.args in
     let o : ℕ → PlanOutcome = λ margin. plan_outcome version_one a.file.now (with_margin margin (with_code a.code (plain_query a.source a.target a.minute)))
     a.work.now a.rides.now in
     let asked = least.cell.ensures in
@@ -37,7 +21,3 @@ returns c =
       seen_with.1 ∙ ap (λ m. (o m).work) asked,
       seen_with.2 ∙ ap (λ m. (o m).plan) asked,
     )
-
-pub trial_plan_spec : {M : Type 1} → statement M
-trial_plan_spec =
-    tie.close (tie.spec cell_requires trial_plan_margin_requires same_length same_length_2 same_length_3 returns)

@@ -1,0 +1,23 @@
+use Prim.Native.Nat.{◌+◌, ◌*◌, ◌-◌, ◌≤◌, ◌<◌}
+use mathlib.Core.Path.{◌≡◌, ◌∙◌}
+use mathlib.Core.List.{List}
+use native.Mathlib.Omega.{arith}
+use borrow.Author.Rules.{rules}
+use lib.ListN.{length, take, drop}
+use Rattle.timetable.specs.Timetable.{Timetable}
+use Rattle.file_layout.specs.Decode.{decode}
+use Rattle.plan_slice.specs.Slice.{rides_in}
+use Rattle.text.proofs.Putting.{Left, left_all, put_length}
+use Rattle.sheet_text.specs.Room.{line_width}
+use Rattle.sheet_text.specs.Sheet.{rides_text}
+use Rattle.sheet_text.proofs.Lines.{line_read, lines_on, lines_end}
+use Rattle.sheet_text.proofs.put_rides.Given as goal
+
+abbrev pub invariant-loop-i : goal.invariant-loop-i
+invariant-loop-i l =
+    Left l.initial.out l.at (rides_text (rides_in (decode l.f l.sailings) (take (3 * l.rides) l.plan))) l.out l.next
+    (rides_text (drop l.i (rides_in (decode l.f l.sailings) (take (3 * l.rides) l.plan)))) × (length l.out ≡ length l.initial.out) × (l.next ≤ l.at + l.i * line_width)
+    × (l.i ≤ l.rides)
+
+abbrev pub decreases-loop-i : goal.decreases-loop-i
+decreases-loop-i l = l.rides - l.i
