@@ -26,13 +26,14 @@ put_rides-requires c =
     let after : List ℕ = planning.plan_checked-planned.new.plan in
     let fits = plan_fits a.f a.sailings.now a.trailer a.q work plan start.requires.0 start.requires.1 (omega arith) (omega arith)
     (sym told.in-Plan.is ∙ planning.plan_checked-planned.ensures.0) planning.plan_checked-planned.ensures.2 in
-    let few = fits.room in (
-      (
+    let few = fits.room in
+    record {
+      sound_file = (
         holds a.f a.sailings.now a.trailer a.q work plan start.requires.0 start.requires.1 (omega arith) (omega arith),
         trailer_read a.f a.sailings.now a.trailer a.q work plan start.requires.0 start.requires.1 (omega arith) (omega arith),
         subst (λ n. RidesFit a.trailer.rows after n) (sym count.number-count.ensures.0) fits,
-      ),
-      omega (
+      );
+      line_width_in_bounds = omega (
         arith,
         few,
         planning.plan_checked-planned.auto.plan,
@@ -40,8 +41,8 @@ put_rides-requires c =
         first.put_first-next.ensures.1,
         put_length first.put_first-next.ensures.0,
         start.requires.2,
-      ),
-    )
+      );
+    }
 
 pub returns-in-Refused : goal.returns-in-Refused
 returns-in-Refused c =
@@ -55,7 +56,7 @@ returns-in-Refused c =
     let plan : List ℕ = arrays.plan_room-rides.result in
     let same = refusal_text a.f a.sailings.now a.trailer a.q work plan start.requires.0 start.requires.1 (omega arith) (omega arith)
     (sym told.in-Refused.is ∙ planning.plan_checked-planned.ensures.0) in
-    (put_as (ap refused_text put.number.ensures.0 ∙ same) put.Put-refused.ensures.0, put.Put-refused.ensures.1)
+    (put_as (ap refused_text put.number.ensures.0 ∙ same) put.put_refused.ensures.0, put.put_refused.ensures.1)
 
 pub returns-in-Plan : goal.returns-in-Plan
 returns-in-Plan c =

@@ -17,8 +17,8 @@ returns-in_default c =
     let told = c in
     let check = c in
     let a = check.args in
-    sheet_written a.f a.sailings.now a.query.now a.out.now check.if-out-lt-SHEET_ROOM.false put.Put-refused.ensures.0
-    put.Put-refused.ensures.1
+    sheet_written a.f a.sailings.now a.query.now a.out.now check.if-out-lt-SHEET_ROOM.false put.put_refused-end.ensures.0
+    put.put_refused-end.ensures.1
     (refused_sheet a.f a.sailings.now a.query.now check.check_as-checked.result check.check_as-checked.ensures told.in_default.is
     refused.refusal_of.ensures)
 
