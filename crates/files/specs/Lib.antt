@@ -1,2 +1,3 @@
--- How the reading of a file ended.
+-- How the reading of a file ended, and how many bytes were read.
+pub mod Counts
 pub mod Endings

@@ -1,9 +1,19 @@
 // The system's side of every program: reading a file, and how that ended; writing the standard output, and telling where that fails.
+#![tactic(auto)]
+
 ghost use Rattle.std.specs.Prelude.{◌≡◌};
-ghost use Rattle.io.specs.Counts.{IsPrefixLen};
+ghost use Rattle.files.specs.Counts.{IsPrefixLen};
 ghost use Rattle.files.specs.Endings.{goes_on};
 
-use libc::STDOUT_FILENO;
+use std::cell::Cell;
+use std::fmt::Write;
+use std::fs::File;
+use std::io::{Error, ErrorKind, Print, Read, Stderr, Stdout};
+use std::rt::Files;
+use std::{fmt, io, str};
+
+// The system's number for a descriptor that is not open.
+const NOT_OPEN: i32 = 9;
 
 // How the reading of a file ended.
 #[derive(Clone, Copy)]
@@ -25,54 +35,110 @@ pub struct Reading {
     pub ending: Ending,
 }
 
+// What a program says goes out by this: its standard output, which is written until a write fails, and its standard error.
+#[derive(Drop)]
+pub struct Output {
+    out: Stdout,
+    told: Stderr,
+    failed: Cell<bool>,
+}
+
 // Reads the file at `path` into `room`. One that is there but cannot be read has no bytes, and is told on standard error by `words` and the reason.
-pub fn read_file(path: &[u8], words: &[u8], room: &mut [u8]) -> Reading
+pub fn read_file(
+    rt: &impl Files,
+    out: &Output,
+    path: &[u8],
+    words: &[u8],
+    room: &mut [u8],
+) -> Reading
     ensures { IsPrefixLen result.count room.new }
 {
-    let fd = os::open_read(path);
-    if fd < 0 {
-        let count = io::count(0, room);
-        return Reading {
-            count,
-            ending: unopened(words),
-        };
-    }
-    let count = io::read_full(fd, room);
-    let ending = ending_of(fd, count == room.len(), words);
-    libc::close(fd);
+    let mut file = match open_read(rt, path) {
+        Ok(file) => file,
+        Err(error) => {
+            return Reading {
+                count: 0,
+                ending: unopened(out, &error, words),
+            };
+        }
+    };
+    let (count, failed) = read_part(&mut file, room);
+    let ending = ending_of(&mut file, count == room.len(), failed, out, words);
     if let Ending::Unreadable = ending {
-        let none = io::count(0, room);
-        return Reading {
-            count: none,
-            ending,
-        };
+        return Reading { count: 0, ending };
     }
     Reading { count, ending }
 }
 
+// Opens the file at `path` for reading. A path is text.
+fn open_read<R: Files>(rt: &R, path: &[u8]) -> io::Result<R::File> {
+    match str::from_utf8(path) {
+        Ok(text) => File::open(rt, text),
+        Err(_) => Err(Error::from(ErrorKind::InvalidFilename)),
+    }
+}
+
+// Reads until `room` is full, the input ends or a read fails: how many bytes it put at the start of `room`, and why a read failed.
+fn read_part(file: &mut impl Read, room: &mut [u8]) -> (usize, Option<Error>)
+    ensures { IsPrefixLen result.0 room.new }
+{
+    let mut done = 0;
+    while done < room.len() {
+        match file.read(&mut room[done..]) {
+            Ok(0) => return (done, None),
+            Ok(more) => done += more,
+            Err(error) => return (done, Some(error)),
+        }
+    }
+    (done, None)
+}
+
+// Reads until `room` is full, the input ends or a read fails, and returns how many bytes it put at the start of `room`.
+pub fn read_full(file: &mut impl Read, room: &mut [u8]) -> usize
+    ensures { IsPrefixLen result room.new }
+{
+    let (count, _) = read_part(file, room);
+    count
+}
+
 // Why a file was not opened.
-fn unopened(words: &[u8]) -> Ending {
-    if os::errno() == libc::ENOENT {
+fn unopened(out: &Output, error: &Error, words: &[u8]) -> Ending {
+    if error.kind() == ErrorKind::NotFound {
         return Ending::Missing;
     }
-    os::fail(words);
+    fail(out, words, error);
     Ending::Unreadable
 }
 
 // How a reading ended that filled the room or stopped before, by one read more. A byte behind one that stopped shows that a read failed.
-fn ending_of(fd: i32, full: bool, words: &[u8]) -> Ending {
+fn ending_of(
+    file: &mut impl Read,
+    full: bool,
+    failed: Option<Error>,
+    out: &Output,
+    words: &[u8],
+) -> Ending {
     let mut byte = [0u8; 1];
-    let got = libc::read(fd, &mut byte);
-    if got == 0 {
-        return Ending::Whole;
-    }
-    if got > 0 {
-        if full {
-            return Ending::More;
+    let error = match file.read(&mut byte) {
+        Ok(0) => return Ending::Whole,
+        Ok(_) => {
+            if full {
+                return Ending::More;
+            }
+            reason_of(failed)
         }
-    }
-    os::fail(words);
+        Err(error) => error,
+    };
+    fail(out, words, &error);
     Ending::Unreadable
+}
+
+// A file that grew while it was read stopped for no reason that the system gives.
+fn reason_of(failed: Option<Error>) -> Error {
+    match failed {
+        Some(error) => error,
+        None => Error::from_raw_os_error(0),
+    }
 }
 
 // Whether the file goes on behind what was read.
@@ -88,38 +154,86 @@ pub fn goes_on(ending: Ending) -> bool
 }
 
 // To be called first by a program: tells a standard output that is closed from the start, which the writes pass over.
-pub fn open_out() {
-    if libc::write(STDOUT_FILENO, b"") < 0 {
-        if os::errno() == libc::EBADF {
-            tell_out();
+pub fn open_out(out: Stdout, told: Stderr) -> Output {
+    let out = Output {
+        out,
+        told,
+        failed: Cell::new(false),
+    };
+    if let Err(error) = out.out.write_some(b"") {
+        if error.raw_os_error() == Some(NOT_OPEN) {
+            out_failed(&out, &error);
         }
     }
+    out
 }
 
 // Writes on the standard output.
-pub fn write_out(words: &[u8]) {
-    if !io::write_all(STDOUT_FILENO, words) {
-        out_failed();
+pub fn write_out(out: &Output, words: &[u8]) {
+    if out.failed.get() {
+        return;
+    }
+    if let Err(error) = out.out.write_all(words) {
+        out_failed(out, &error);
     }
 }
 
 // Writes a number on the standard output, in decimal.
-pub fn write_number(number: usize) {
-    if !io::print_decimal(STDOUT_FILENO, number as u64) {
-        out_failed();
+pub fn write_number(out: &Output, number: usize) {
+    if out.failed.get() {
+        return;
+    }
+    if let Err(error) = out.out.print(number) {
+        out_failed(out, &error);
     }
 }
 
-// A failed write is told once: the output is then closed, and a write that fails since it is closed is passed over. A file that is
-// opened later may get its number: where it is open for reading a write fails in the same way, and while it is open for writing no program
-// says anything.
-fn out_failed() {
-    if os::errno() != libc::EBADF {
-        tell_out();
-        libc::close(STDOUT_FILENO);
-    }
+// A failed write is told once: the writes behind it are passed over.
+fn out_failed(out: &Output, error: &Error) {
+    out.failed.set(true);
+    fail(
+        out,
+        b"sayurimpak: standard output could not be written",
+        error,
+    );
 }
 
-fn tell_out() {
-    os::fail(b"sayurimpak: standard output could not be written");
+// Writes a line to standard error: what failed, as the caller names it, a colon and the reason.
+pub fn fail(out: &Output, what: &[u8], error: &Error) {
+    tell(out.told, what);
+    tell(out.told, b": ");
+    let mut reason = Reason {
+        told: out.told,
+        ended: false,
+    };
+    let _ = write!(reason, "{error}");
+    tell(out.told, b"\n");
+}
+
+// A standard error that cannot be written is passed over.
+fn tell(told: Stderr, words: &[u8]) {
+    let _ = told.write_all(words);
+}
+
+// Writes an error's text to standard error, up to its number.
+#[derive(Drop)]
+struct Reason {
+    told: Stderr,
+    ended: bool,
+}
+
+impl fmt::Write for Reason {
+    fn write_str(&mut self, text: &str) -> fmt::Result {
+        if self.ended {
+            return Ok(());
+        }
+        match text.split_once(" (os error") {
+            Some((words, _)) => {
+                self.ended = true;
+                tell(self.told, words.as_bytes());
+            }
+            None => tell(self.told, text.as_bytes()),
+        }
+        Ok(())
+    }
 }
