@@ -1,55 +1,57 @@
 // For the office: words, numbers and times on the standard output.
+#![tactic(auto)]
+
 ghost use Rattle.std.specs.Prelude.{◌<◌};
 
 use clock::Minute;
-use files::{write_number, write_out};
+use files::{Output, write_number, write_out};
 
-pub fn say(words: &[u8]) {
-    write_out(words);
+pub fn say(out: &Output, words: &[u8]) {
+    write_out(out, words);
 }
 
 // Words, then a number.
-pub fn say_number(words: &[u8], number: usize) {
-    say(words);
-    write_number(number);
+pub fn say_number(out: &Output, words: &[u8], number: usize) {
+    say(out, words);
+    write_number(out, number);
 }
 
 // Words, then a number and the thing that it counts, which has a form for 1 and one for all others.
-pub fn say_count(words: &[u8], count: usize, one: &[u8], many: &[u8]) {
-    say_number(words, count);
+pub fn say_count(out: &Output, words: &[u8], count: usize, one: &[u8], many: &[u8]) {
+    say_number(out, words, count);
     if count == 1 {
-        say(one);
+        say(out, one);
     } else {
-        say(many);
+        say(out, many);
     }
 }
 
 // Words, then a time.
-pub fn say_time(words: &[u8], minute: usize)
+pub fn say_time(out: &Output, words: &[u8], minute: usize)
     requires { minute < 4294967296 }
 {
-    say(words);
+    say(out, words);
     let time = Minute {
         minute: minute as u32,
     };
-    say_clock(time);
+    say_clock(out, time);
 }
 
 // Words, then an expected arrival, rounded up to a minute.
-pub fn say_expected(words: &[u8], ticks: u32) {
-    say(words);
-    say_clock(Minute::of_ticks(ticks));
+pub fn say_expected(out: &Output, words: &[u8], ticks: u32) {
+    say(out, words);
+    say_clock(out, Minute::of_ticks(ticks));
 }
 
-fn say_clock(time: Minute) {
+fn say_clock(out: &Output, time: Minute) {
     let text = time.time_text();
     let bytes = text.bytes;
-    say_from(&bytes, text.start);
+    say_from(out, &bytes, text.start);
 }
 
 // The bytes from `start` on.
-fn say_from(bytes: &[u8], start: usize) {
+fn say_from(out: &Output, bytes: &[u8], start: usize) {
     if start < bytes.len() {
-        say(&bytes[start..]);
+        say(out, &bytes[start..]);
     }
 }
