@@ -11,7 +11,7 @@ use explain_starts::print_starts;
 use explain_words::{say, say_count, say_expected, say_number, say_time};
 use file_check::check_as;
 use file_layout::{Checked, Format, Trailer, VERSION_ONE};
-use files::{Ending, goes_on};
+use files::{Ending, Output, goes_on};
 use numbers::number;
 use plan_whole::Planned;
 use planner::plan_checked;
@@ -19,12 +19,25 @@ use query::{GATE_BYTES, LEAST_MARGIN, MARGIN_BYTES, QUERY_BYTES, Query, query_in
 use rooms::{plan_room, work_room};
 
 // Says why the two files are refused and what to look at, or S, n, K and the plan. Behind each file's bytes stands how its reading ended.
-pub fn explain(sailings: &[u8], sailings_end: Ending, query: &[u8], query_end: Ending) {
-    explain_as(sailings, sailings_end, VERSION_ONE, query, query_end);
+pub fn explain(
+    out: &Output,
+    sailings: &[u8],
+    sailings_end: Ending,
+    query: &[u8],
+    query_end: Ending,
+) {
+    explain_as(out, sailings, sailings_end, VERSION_ONE, query, query_end);
 }
 
 // The same for a file of a version.
-fn explain_as(sailings: &[u8], sailings_end: Ending, f: Format, query: &[u8], query_end: Ending)
+fn explain_as(
+    out: &Output,
+    sailings: &[u8],
+    sailings_end: Ending,
+    f: Format,
+    query: &[u8],
+    query_end: Ending,
+)
     requires { Plannable f }
 {
     let checked = check_as(sailings, f);
@@ -33,56 +46,70 @@ fn explain_as(sailings: &[u8], sailings_end: Ending, f: Format, query: &[u8], qu
             number: refusal,
             place,
         } => {
-            say_refused(refusal);
-            explain_file(sailings, f, sailings_end, refusal, place);
+            say_refused(out, refusal);
+            explain_file(out, sailings, f, sailings_end, refusal, place);
         }
         Checked::Sound { trailer } => {
-            say_sound(trailer);
-            explain_query(sailings, f, trailer, query, query_end);
+            say_sound(out, trailer);
+            explain_query(out, sailings, f, trailer, query, query_end);
         }
     }
 }
 
 // A file that the check refuses.
-fn explain_file(sailings: &[u8], f: Format, ending: Ending, refusal: usize, place: usize)
+fn explain_file(
+    out: &Output,
+    sailings: &[u8],
+    f: Format,
+    ending: Ending,
+    refusal: usize,
+    place: usize,
+)
     requires { Plannable f }
 {
     if sailings.len() == 0 {
-        say_no_bytes(b"sailings", ending);
+        say_no_bytes(out, b"sailings", ending);
         return;
     }
-    print_file_fault(sailings, f, refusal, place, goes_on(ending));
+    print_file_fault(out, sailings, f, refusal, place, goes_on(ending));
 }
 
 // Why there are no bytes of the file of that name.
-fn say_no_bytes(name: &[u8], ending: Ending) {
+fn say_no_bytes(out: &Output, name: &[u8], ending: Ending) {
     match ending {
-        Ending::Missing => say_named(b"There is no file ", name, b" in this folder.\n"),
-        Ending::Unreadable => say_named(b"The file ", name, b" cannot be read.\n"),
-        _ => say_named(b"The file ", name, b" is empty.\n"),
+        Ending::Missing => say_named(out, b"There is no file ", name, b" in this folder.\n"),
+        Ending::Unreadable => say_named(out, b"The file ", name, b" cannot be read.\n"),
+        _ => say_named(out, b"The file ", name, b" is empty.\n"),
     }
 }
 
-fn say_named(before: &[u8], name: &[u8], behind: &[u8]) {
-    say(before);
-    say(name);
-    say(behind);
+fn say_named(out: &Output, before: &[u8], name: &[u8], behind: &[u8]) {
+    say(out, before);
+    say(out, name);
+    say(out, behind);
 }
 
-fn say_refused(refusal: usize) {
-    say_number(b"refused ", refusal);
-    say(b"\n");
+fn say_refused(out: &Output, refusal: usize) {
+    say_number(out, b"refused ", refusal);
+    say(out, b"\n");
 }
 
-fn say_sound(trailer: Trailer) {
-    say_number(b"The file is sound. Stops: ", trailer.stops);
-    say_number(b". Rows: ", trailer.rows);
-    say_number(b". Classes: ", trailer.classes);
-    say(b".\n");
+fn say_sound(out: &Output, trailer: Trailer) {
+    say_number(out, b"The file is sound. Stops: ", trailer.stops);
+    say_number(out, b". Rows: ", trailer.rows);
+    say_number(out, b". Classes: ", trailer.classes);
+    say(out, b".\n");
 }
 
 // A sound file goes on to planning.
-fn explain_query(sailings: &[u8], f: Format, trailer: Trailer, query: &[u8], ending: Ending)
+fn explain_query(
+    out: &Output,
+    sailings: &[u8],
+    f: Format,
+    trailer: Trailer,
+    query: &[u8],
+    ending: Ending,
+)
     requires { Plannable f × (checked_as f sailings.now ≡ Sound trailer) }
 {
     let q = query_in(query);
@@ -93,22 +120,23 @@ fn explain_query(sailings: &[u8], f: Format, trailer: Trailer, query: &[u8], end
         Planned::Refused {
             number: refusal,
             place: _,
-        } => explain_refusal(sailings, f, trailer, query, ending, q, number(refusal)),
+        } => explain_refusal(out, sailings, f, trailer, query, ending, q, number(refusal)),
         Planned::Plan {
             rides: count,
             expected,
             latest,
             bound: _,
         } => {
-            say_plan(number(count), expected, latest);
-            say_margin(q.margin);
-            print_plan(sailings, f, trailer, &rides, number(count), q.gate);
+            say_plan(out, number(count), expected, latest);
+            say_margin(out, q.margin);
+            print_plan(out, sailings, f, trailer, &rides, number(count), q.gate);
         }
     }
 }
 
 // Room is lent in full, so planning refuses the query or finds no safe journey.
 fn explain_refusal(
+    out: &Output,
     sailings: &[u8],
     f: Format,
     trailer: Trailer,
@@ -119,17 +147,17 @@ fn explain_refusal(
 )
     requires { Plannable f × (checked_as f sailings.now ≡ Sound trailer) × (refusal ≡ 8 → QueryFits trailer.stops f.lastminute q) }
 {
-    say_refused(refusal);
+    say_refused(out, refusal);
     if refusal == 8 {
-        print_no_journey(q);
-        print_starts(sailings, f, trailer, q);
+        print_no_journey(out, q);
+        print_starts(out, sailings, f, trailer, q);
         return;
     }
     if !is_query_length(query.len()) {
-        say_query_length(query, ending);
+        say_query_length(out, query, ending);
         return;
     }
-    print_query_fault(q, trailer.stops, f.lastminute);
+    print_query_fault(out, q, trailer.stops, f.lastminute);
 }
 
 // A query has 8 bytes, or 10 with its margin, or 12 with its gate time too.
@@ -144,36 +172,37 @@ fn is_query_length(bytes: usize) -> bool {
 }
 
 // 6: the query is not as long as one.
-fn say_query_length(query: &[u8], ending: Ending) {
+fn say_query_length(out: &Output, query: &[u8], ending: Ending) {
     if query.len() == 0 {
-        say_no_bytes(b"query", ending);
+        say_no_bytes(out, b"query", ending);
         return;
     }
-    say(b"The query has ");
+    say(out, b"The query has ");
     if goes_on(ending) {
-        say(b"at least ");
+        say(out, b"at least ");
     }
-    say_count(b"", query.len(), b" byte", b" bytes");
-    say_number(b", not ", QUERY_BYTES);
-    say_number(b", ", MARGIN_BYTES);
-    say_number(b" or ", GATE_BYTES);
-    say(b".\n");
+    say_count(out, b"", query.len(), b" byte", b" bytes");
+    say_number(out, b", not ", QUERY_BYTES);
+    say_number(out, b", ", MARGIN_BYTES);
+    say_number(out, b" or ", GATE_BYTES);
+    say(out, b".\n");
 }
 
-fn say_plan(rides: usize, expected: u32, latest: u32) {
-    say_number(b"Rides in the plan: ", rides);
-    say_expected(b". Expected arrival: ", expected);
-    say_time(b". Latest: ", number(latest));
-    say(b".\n");
+fn say_plan(out: &Output, rides: usize, expected: u32, latest: u32) {
+    say_number(out, b"Rides in the plan: ", rides);
+    say_expected(out, b". Expected arrival: ", expected);
+    say_time(out, b". Latest: ", number(latest));
+    say(out, b".\n");
 }
 
 // What a margin above the least leaves out.
-fn say_margin(margin: usize) {
+fn say_margin(out: &Output, margin: usize) {
     if margin <= LEAST_MARGIN {
         return;
     }
-    say_number(b"Margin: ", margin);
+    say_number(out, b"Margin: ", margin);
     say(
+        out,
         b" ticks. Of two rides from one stop the earlier is expected to arrive at least that much sooner.\n",
     );
 }

@@ -7,6 +7,7 @@ use crate::broken::{number_at, shares_in, trailer_start};
 use explain_words::{say, say_count, say_number};
 use file_layout::{Format, Trailer};
 use file_sections::{Blocks, class_blocks, delay_rule, rows_end};
+use files::Output;
 use timetable::SHARE_TOTAL;
 
 // A class by its number, and the byte where its block starts.
@@ -17,32 +18,36 @@ struct Block {
 }
 
 // 2: the class block that does not fit, or the sections that do not join.
-pub fn print_layout_fault(file: &[u8], f: Format, trailer: Trailer)
+pub fn print_layout_fault(out: &Output, file: &[u8], f: Format, trailer: Trailer)
     requires { Readable f × SmallTrailer trailer }
 {
     let end = trailer_start(file, f);
     let block = block_at_fault(file, f, end, trailer.tablestart, trailer.classes);
     if block.class < trailer.classes {
-        say_number(b"Class ", block.class);
-        say_number(b": its block, from byte ", block.at);
-        say_number(b" on, does not fit before the trailer at byte ", end);
-        say(b".\n");
+        say_number(out, b"Class ", block.class);
+        say_number(out, b": its block, from byte ", block.at);
+        say_number(out, b" on, does not fit before the trailer at byte ", end);
+        say(out, b".\n");
     } else {
-        print_join_fault(f, trailer, block.at, end);
+        print_join_fault(out, f, trailer, block.at, end);
     }
-    say(b"Bytes were lost or added on the way, or the export is wrong: ask for the file again.\n");
+    say(
+        out,
+        b"Bytes were lost or added on the way, or the export is wrong: ask for the file again.\n",
+    );
 }
 
-// The sections of rows and of class blocks, which end at `tables_end_lem`, do not fill the bytes up to `end`.
-fn print_join_fault(f: Format, trailer: Trailer, tables_end: usize, end: usize)
+// The sections of rows and of class blocks, which end at `tables_end`, do not fill the bytes up to `end`.
+fn print_join_fault(out: &Output, f: Format, trailer: Trailer, tables_end: usize, end: usize)
     requires { Readable f × SmallTrailer trailer }
 {
-    say_number(b"The rows take bytes ", trailer.rowstart);
-    say_number(b" up to ", rows_end(f, trailer));
-    say_number(b", the class blocks bytes ", trailer.tablestart);
-    say_number(b" up to ", tables_end);
-    say_number(b", and the trailer starts at byte ", end);
+    say_number(out, b"The rows take bytes ", trailer.rowstart);
+    say_number(out, b" up to ", rows_end(f, trailer));
+    say_number(out, b", the class blocks bytes ", trailer.tablestart);
+    say_number(out, b" up to ", tables_end);
+    say_number(out, b", and the trailer starts at byte ", end);
     say(
+        out,
         b".\nOne of the two must start at byte 0, the other where that one ends, and end where the trailer starts.\n",
     );
 }
@@ -72,36 +77,43 @@ fn block_at_fault(file: &[u8], f: Format, end: usize, start: usize, count: usize
 }
 
 // 3: maximum delay, sum or last share of a class.
-pub fn print_class_fault(file: &[u8], f: Format, trailer: Trailer, class: usize) {
+pub fn print_class_fault(out: &Output, file: &[u8], f: Format, trailer: Trailer, class: usize) {
     let blocks = class_blocks(file, f, trailer_start(file, f), trailer.tablestart, class);
     let Blocks::End { at } = blocks else {
         return;
     };
-    say_number(b"Class ", class);
-    say_number(b", read from byte ", at);
-    say(b" on: ");
-    print_block_fault(file, f, at);
+    say_number(out, b"Class ", class);
+    say_number(out, b", read from byte ", at);
+    say(out, b" on: ");
+    print_block_fault(out, file, f, at);
     say(
+        out,
         b"Correct the class; if it was written otherwise, bytes were lost or added on the way: ask for the file again.\n",
     );
 }
 
 // The first rule that the block at `at` breaks; where the others are kept, that of its last share.
-fn print_block_fault(file: &[u8], f: Format, at: usize) {
+fn print_block_fault(out: &Output, file: &[u8], f: Format, at: usize) {
     let delay = number_at(file, at);
     if !delay_rule(f, delay) {
-        say_count(b"the maximum delay is ", delay, b" minute", b" minutes");
-        say_number(b", above ", f.delay);
-        say(b".\n");
+        say_count(
+            out,
+            b"the maximum delay is ",
+            delay,
+            b" minute",
+            b" minutes",
+        );
+        say_number(out, b", above ", f.delay);
+        say(out, b".\n");
         return;
     }
     let sum = shares_in(file, at, delay);
     if sum != SHARE_TOTAL {
-        say_number(b"the shares sum to ", sum);
-        say_number(b", not ", SHARE_TOTAL);
-        say(b".\n");
+        say_number(out, b"the shares sum to ", sum);
+        say_number(out, b", not ", SHARE_TOTAL);
+        say(out, b".\n");
         return;
     }
-    say_number(b"the last share, that of the maximum delay ", delay);
-    say(b", is 0.\n");
+    say_number(out, b"the last share, that of the maximum delay ", delay);
+    say(out, b", is 0.\n");
 }

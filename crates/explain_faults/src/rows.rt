@@ -7,13 +7,14 @@ use crate::broken::{last_in, row_in};
 use explain_words::{say, say_number, say_time};
 use file_check::Found;
 use file_layout::{Format, Trailer};
+use files::Output;
 use timetable::{
     MOST_TRIPS, Ranges, Row, departure_rule, lands_there, minute_rule, onward, stop_rule,
     stops_differ, trip_rule,
 };
 
 // 4: the first rule about itself alone that the row breaks.
-pub fn print_own_fault(file: &[u8], f: Format, trailer: Trailer, place: usize)
+pub fn print_own_fault(out: &Output, file: &[u8], f: Format, trailer: Trailer, place: usize)
     requires { Readable f × (f.lastminute < 65536) }
 {
     let row = row_in(file, f, trailer.rowstart, place);
@@ -22,111 +23,111 @@ pub fn print_own_fault(file: &[u8], f: Format, trailer: Trailer, place: usize)
         classes: trailer.classes,
         lastminute: f.lastminute,
     };
-    say_number(b"Row ", place);
-    say_own_fault(row, ranges);
-    print_row(place, row);
+    say_number(out, b"Row ", place);
+    say_own_fault(out, row, ranges);
+    print_row(out, place, row);
 }
 
 // Where the rules of stops, minutes and trip are kept, that of the class is broken.
-fn say_own_fault(row: Row, g: Ranges)
+fn say_own_fault(out: &Output, row: Row, g: Ranges)
     requires { SmallRow row × (g.lastminute < 65536) }
 {
     if !stop_rule(row.board, g) {
-        say_too_high(b": boarding stop ", row.board, g.stops, b" stops");
+        say_too_high(out, b": boarding stop ", row.board, g.stops, b" stops");
     } else if !stop_rule(row.land, g) {
-        say_too_high(b": landing stop ", row.land, g.stops, b" stops");
+        say_too_high(out, b": landing stop ", row.land, g.stops, b" stops");
     } else if !stops_differ(row) {
-        say_same_stop(row);
+        say_same_stop(out, row);
     } else if !onward(row) {
-        say_not_onward(row);
+        say_not_onward(out, row);
     } else if !minute_rule(row.departure, g) {
-        say_past_last(b" departs at ", row.departure, g.lastminute);
+        say_past_last(out, b" departs at ", row.departure, g.lastminute);
     } else if !minute_rule(row.arrival, g) {
-        say_past_last(b" arrives at ", row.arrival, g.lastminute);
+        say_past_last(out, b" arrives at ", row.arrival, g.lastminute);
     } else if !trip_rule(row) {
-        say_too_high(b": trip ", row.trip, MOST_TRIPS, b" trips");
+        say_too_high(out, b": trip ", row.trip, MOST_TRIPS, b" trips");
     } else {
-        say_too_high(b": class ", row.class, g.classes, b" classes");
+        say_too_high(out, b": class ", row.class, g.classes, b" classes");
     }
 }
 
 // Numbers count from 0, so they stay below how many there are.
-fn say_too_high(name: &[u8], found: usize, count: usize, things: &[u8]) {
-    say_number(name, found);
+fn say_too_high(out: &Output, name: &[u8], found: usize, count: usize, things: &[u8]) {
+    say_number(out, name, found);
     if count == 1 {
-        say(b", but there is only one, numbered 0.\n");
+        say(out, b", but there is only one, numbered 0.\n");
         return;
     }
-    say_number(b", but there are ", count);
-    say(things);
-    say(b", numbered from 0.\n");
+    say_number(out, b", but there are ", count);
+    say(out, things);
+    say(out, b", numbered from 0.\n");
 }
 
-fn say_same_stop(row: Row) {
-    say_number(b": boards and lands at the same stop, ", row.board);
-    say(b".\n");
+fn say_same_stop(out: &Output, row: Row) {
+    say_number(out, b": boards and lands at the same stop, ", row.board);
+    say(out, b".\n");
 }
 
-fn say_not_onward(row: Row)
+fn say_not_onward(out: &Output, row: Row)
     requires { SmallRow row }
 {
-    say_time(b" departs at ", row.departure);
-    say_time(b", but arrives at ", row.arrival);
-    say(b", not later.\n");
+    say_time(out, b" departs at ", row.departure);
+    say_time(out, b", but arrives at ", row.arrival);
+    say(out, b", not later.\n");
 }
 
-fn say_past_last(words: &[u8], minute: usize, last: usize)
+fn say_past_last(out: &Output, words: &[u8], minute: usize, last: usize)
     requires { (minute < 65536) × (last < 65536) }
 {
-    say_time(words, minute);
-    say_time(b", past the last minute of the week, ", last);
-    say(b".\n");
+    say_time(out, words, minute);
+    say_time(out, b", past the last minute of the week, ", last);
+    say(out, b".\n");
 }
 
 // The row's numbers, on a line of their own.
-fn print_row(place: usize, row: Row)
+fn print_row(out: &Output, place: usize, row: Row)
     requires { SmallRow row }
 {
-    say_number(b"Row ", place);
-    say_number(b" reads: from stop ", row.board);
-    say_number(b" to stop ", row.land);
-    say_time(b", departs ", row.departure);
-    say_time(b", arrives ", row.arrival);
-    say_number(b", trip ", row.trip);
-    say_number(b", class ", row.class);
-    say(b".\n");
+    say_number(out, b"Row ", place);
+    say_number(out, b" reads: from stop ", row.board);
+    say_number(out, b" to stop ", row.land);
+    say_time(out, b", departs ", row.departure);
+    say_time(out, b", arrives ", row.arrival);
+    say_number(out, b", trip ", row.trip);
+    say_number(out, b", class ", row.class);
+    say(out, b".\n");
 }
 
 // 5: the row departs before the one ahead of it, or its trip breaks off.
-pub fn print_order_fault(file: &[u8], f: Format, trailer: Trailer, place: usize)
+pub fn print_order_fault(out: &Output, file: &[u8], f: Format, trailer: Trailer, place: usize)
     requires { Readable f }
 {
     let row = row_in(file, f, trailer.rowstart, place);
     if 0 < place {
         let ahead = row_in(file, f, trailer.rowstart, place - 1);
         if !departure_rule(ahead.departure, row) {
-            print_departure_fault(place, row, ahead);
+            print_departure_fault(out, place, row, ahead);
             return;
         }
     }
-    print_trip_fault(file, f, trailer.rowstart, place, row);
+    print_trip_fault(out, file, f, trailer.rowstart, place, row);
 }
 
 // The row departs before `ahead`, the one ahead of it.
-fn print_departure_fault(place: usize, row: Row, ahead: Row)
+fn print_departure_fault(out: &Output, place: usize, row: Row, ahead: Row)
     requires { (0 < place) × SmallRow row × SmallRow ahead }
 {
-    say_number(b"Row ", place);
-    say_time(b" departs at ", row.departure);
-    say_number(b", before row ", place - 1);
-    say_time(b" at ", ahead.departure);
-    say(b".\n");
-    print_row(place, row);
-    print_row(place - 1, ahead);
+    say_number(out, b"Row ", place);
+    say_time(out, b" departs at ", row.departure);
+    say_number(out, b", before row ", place - 1);
+    say_time(out, b" at ", ahead.departure);
+    say(out, b".\n");
+    print_row(out, place, row);
+    print_row(out, place - 1, ahead);
 }
 
 // The trip leaves from another stop than where it last landed, or before it lands.
-fn print_trip_fault(file: &[u8], f: Format, start: usize, place: usize, row: Row)
+fn print_trip_fault(out: &Output, file: &[u8], f: Format, start: usize, place: usize, row: Row)
     requires { Readable f × SmallRow row }
 {
     let found = last_in(file, f, start, place, row.trip);
@@ -138,17 +139,17 @@ fn print_trip_fault(file: &[u8], f: Format, start: usize, place: usize, row: Row
         return;
     };
     let earlier = row_in(file, f, start, last);
-    say_number(b"Row ", place);
-    say_number(b": trip ", row.trip);
+    say_number(out, b"Row ", place);
+    say_number(out, b": trip ", row.trip);
     if lands_there(earlier, row) {
-        say_time(b" leaves at ", row.departure);
-        say_time(b" but last lands at ", earlier.arrival);
+        say_time(out, b" leaves at ", row.departure);
+        say_time(out, b" but last lands at ", earlier.arrival);
     } else {
-        say_number(b" leaves from stop ", row.board);
-        say_number(b" but last landed at stop ", earlier.land);
+        say_number(out, b" leaves from stop ", row.board);
+        say_number(out, b" but last landed at stop ", earlier.land);
     }
-    say_number(b" (row ", last);
-    say(b").\n");
-    print_row(place, row);
-    print_row(last, earlier);
+    say_number(out, b" (row ", last);
+    say(out, b").\n");
+    print_row(out, place, row);
+    print_row(out, last, earlier);
 }

@@ -2,11 +2,12 @@
 ghost use Rattle.std.specs.Prelude.{◌≡◌, ◌-◌};
 
 use explain_words::{say, say_count};
+use files::Output;
 
 // Words, then how long before each departure.
-pub fn say_gate(words: &[u8], gate: usize) {
-    say_count(words, gate, b" minute", b" minutes");
-    say(b" before departure");
+pub fn say_gate(out: &Output, words: &[u8], gate: usize) {
+    say_count(out, words, gate, b" minute", b" minutes");
+    say(out, b" before departure");
 }
 
 // The last minute at which one who lands is let aboard; 0 where the gate closes before the first.

@@ -9,34 +9,37 @@ ghost use Rattle.explain_starts.specs.Starts.{StartFits};
 use crate::{Start, last_start};
 use explain_words::{say, say_number, say_time};
 use file_layout::{Format, Trailer};
+use files::Output;
 use query::Query;
 use rooms::work_room;
 
 // Until when there is a journey from the query's source, from which other stops there is one, and what can help.
-pub fn print_starts(file: &[u8], f: Format, trailer: Trailer, q: Query)
+pub fn print_starts(out: &Output, file: &[u8], f: Format, trailer: Trailer, q: Query)
     requires { Plannable f × (checked_as f file.now ≡ Sound trailer) × QueryFits trailer.stops f.lastminute q }
 {
     let mut work = work_room();
     let start = last_start(file, f, trailer, q.source, q.target, q.gate, &mut work);
-    say_number(b"From stop ", q.source);
+    say_number(out, b"From stop ", q.source);
     match start {
         Start::Until { minute } => {
-            say_time(b" there is one until ", minute);
-            say(b".\n");
-            if !print_others(file, f, trailer, q, &mut work) {
-                say(b"No other stop has one.\n");
+            say_time(out, b" there is one until ", minute);
+            say(out, b".\n");
+            if !print_others(out, file, f, trailer, q, &mut work) {
+                say(out, b"No other stop has one.\n");
             }
             say_help(
+                out,
                 b"A later start cannot help. An earlier one, another target, next week's file or a relief sailing can",
                 q.gate,
             );
         }
         Start::Never => {
-            say(b" there is none in this file, at any minute.\n");
-            if !print_others(file, f, trailer, q, &mut work) {
-                say(b"No other stop has one either.\n");
+            say(out, b" there is none in this file, at any minute.\n");
+            if !print_others(out, file, f, trailer, q, &mut work) {
+                say(out, b"No other stop has one either.\n");
             }
             say_help(
+                out,
                 b"Another minute cannot help. Another target, next week's file or a relief sailing can",
                 q.gate,
             );
@@ -45,16 +48,23 @@ pub fn print_starts(file: &[u8], f: Format, trailer: Trailer, q: Query)
 }
 
 // What can help; where gates close ahead of departure, that they close later too.
-fn say_help(words: &[u8], gate: usize) {
-    say(words);
+fn say_help(out: &Output, words: &[u8], gate: usize) {
+    say(out, words);
     if 0 < gate {
-        say(b", and so can gates that close later");
+        say(out, b", and so can gates that close later");
     }
-    say(b".\n");
+    say(out, b".\n");
 }
 
 // The other stops with a journey, each with its last minute, in one line; false where there is none.
-fn print_others(file: &[u8], f: Format, trailer: Trailer, q: Query, work: &mut [u32]) -> bool
+fn print_others(
+    out: &Output,
+    file: &[u8],
+    f: Format,
+    trailer: Trailer,
+    q: Query,
+    work: &mut [u32],
+) -> bool
     requires { Plannable f × (checked_as f file.now ≡ Sound trailer) × (q.target < trailer.stops)
         × (q.gate ≤ most_gate) × (4 * trailer.rows + 2500 ≤ length work.old) }
 {
@@ -64,11 +74,11 @@ fn print_others(file: &[u8], f: Format, trailer: Trailer, q: Query, work: &mut [
         let other = stop;
         stop += 1;
         if is_other(q, other) {
-            found = print_other(file, f, trailer, other, q, found, work);
+            found = print_other(out, file, f, trailer, other, q, found, work);
         }
     }
     if found {
-        say(b".\n");
+        say(out, b".\n");
     }
     found
 }
@@ -85,6 +95,7 @@ fn is_other(q: Query, stop: usize) -> bool
 
 // A stop's last minute, where it has one, behind those `found` before it; whether any is found now.
 fn print_other(
+    out: &Output,
     file: &[u8],
     f: Format,
     trailer: Trailer,
@@ -100,12 +111,12 @@ fn print_other(
         Start::Never => found,
         Start::Until { minute } => {
             if found {
-                say(b";");
+                say(out, b";");
             } else {
-                say(b"From other stops:");
+                say(out, b"From other stops:");
             }
-            say_number(b" stop ", stop);
-            say_time(b" until ", minute);
+            say_number(out, b" stop ", stop);
+            say_time(out, b" until ", minute);
             true
         }
     }

@@ -1,52 +1,58 @@
 // Files at both sides of every line of the check (tests/run_check/make.py packs them): prints what `check` answers to each.
-use file_layout::Checked;
-use files::{open_out, write_number, write_out};
-use rooms::{SAILINGS, sailings_room};
+#![tactic(auto)]
 
-fn print_number(n: usize) {
-    write_out(b" ");
-    write_number(n);
+use file_layout::Checked;
+use files::{Output, fail, open_out, write_number, write_out};
+use rooms::{SAILINGS, sailings_room};
+use std::fs::File;
+use std::io::Read;
+
+fn print_number(out: &Output, n: usize) {
+    write_out(out, b" ");
+    write_number(out, n);
 }
 
-fn print_answer(answer: Checked) {
+fn print_answer(out: &Output, answer: Checked) {
     match answer {
         Checked::Sound { trailer } => {
-            write_out(b" sound");
-            print_number(trailer.stops);
-            print_number(trailer.rows);
-            print_number(trailer.classes);
+            write_out(out, b" sound");
+            print_number(out, trailer.stops);
+            print_number(out, trailer.rows);
+            print_number(out, trailer.classes);
         }
         Checked::Refused { number, place } => {
-            write_out(b" refused");
-            print_number(number);
-            print_number(place);
+            write_out(out, b" refused");
+            print_number(out, number);
+            print_number(out, place);
         }
     }
-    write_out(b"\n");
+    write_out(out, b"\n");
 }
 
 // Prints what the check answers to the next file; false where there is none.
-fn print_next(fd: i32, place: usize) -> bool {
+fn print_next(out: &Output, from: &mut impl Read, place: usize) -> bool {
     let mut file = sailings_room();
-    let long = packed::read_next(fd, &mut file);
+    let long = packed::read_next(from, &mut file);
     if long == SAILINGS {
         return false;
     }
-    write_number(place);
-    print_answer(file_check::check(&file[..long]));
+    write_number(out, place);
+    print_answer(out, file_check::check(&file[..long]));
     true
 }
 
-fn main() {
-    open_out();
-    let fd = os::open_read(b"files");
-    if fd < 0 {
-        os::fail(b"files");
-        return;
-    }
+fn main(rt: HostRuntime) {
+    let out = open_out(rt.stdout(), rt.stderr());
+    let mut from = match File::open(&rt, "files") {
+        Ok(from) => from,
+        Err(error) => {
+            fail(&out, b"files", &error);
+            return;
+        }
+    };
     let mut place: usize = 0;
     while place < 1000 {
-        if !print_next(fd, place) {
+        if !print_next(&out, &mut from, place) {
             return;
         }
         place += 1;

@@ -1,6 +1,8 @@
 // Document 02, E4: prints the delay table of one class's landings, which the file `landings` has, in the folder that it is run in.
+#![tactic(auto)]
+
 use explain_words::{say, say_count, say_number};
-use files::{Ending, goes_on, open_out, read_file};
+use files::{Ending, Output, goes_on, open_out, read_file};
 use numbers::number;
 use tally::{COUNTS, LANDING_BYTES, Logged, tally_log};
 use tally_table::{Made, SHARES, table_of};
@@ -13,29 +15,37 @@ fn log_room() -> [u8; LOG] {
 }
 
 // A file that is missing or cannot be read counts as empty.
-fn main() {
-    open_out();
+fn main(rt: HostRuntime) {
+    let out = open_out(rt.stdout(), rt.stderr());
     let mut log = log_room();
-    let read = read_file(b"landings", b"tables: landings cannot be read", &mut log);
+    let read = read_file(
+        &rt,
+        &out,
+        b"landings",
+        b"tables: landings cannot be read",
+        &mut log,
+    );
     let ending = read.ending;
     if goes_on(ending) {
-        say_number(b"The file landings has more than ", LOG);
+        say_number(&out, b"The file landings has more than ", LOG);
         say(
+            &out,
             b" bytes, the most that is read. No table was made.\nTake the landings of a shorter time.\n",
         );
         return;
     }
-    print_table(&log[..read.count], ending);
+    print_table(&out, &log[..read.count], ending);
 }
 
 // What a log comes to; behind it stands how its reading ended.
-fn print_table(log: &[u8], ending: Ending) {
+fn print_table(out: &Output, log: &[u8], ending: Ending) {
     if log.len() % LANDING_BYTES != 0 {
         say_number(
+            out,
             b"The file landings ends inside a landing, which has ",
             LANDING_BYTES,
         );
-        say(b" bytes. No table was made.\n");
+        say(out, b" bytes. No table was made.\n");
         return;
     }
     let mut tally = [0u32; COUNTS];
@@ -45,14 +55,14 @@ fn print_table(log: &[u8], ending: Ending) {
         place,
     } = logged
     {
-        say_refused_landing(refusal, place);
+        say_refused_landing(out, refusal, place);
         return;
     }
-    print_made(&tally, ending);
+    print_made(out, &tally, ending);
 }
 
 // The table of a whole log: its first line, its shares and the counts that they are of; or why there is none.
-fn print_made(tally: &[u32; COUNTS], ending: Ending) {
+fn print_made(out: &Output, tally: &[u32; COUNTS], ending: Ending) {
     let mut shares = [0u32; SHARES];
     let made = table_of(tally, &mut shares);
     match made {
@@ -61,65 +71,70 @@ fn print_made(tally: &[u32; COUNTS], ending: Ending) {
             landings,
             apart,
         } => {
-            say_number(b"table ", delay);
-            say_number(b" landings ", landings);
-            say_number(b" apart ", apart);
-            say_shares(&shares, delay);
-            say_first(b"\ncounts", &tally[..], delay);
-            say(b"\n");
+            say_number(out, b"table ", delay);
+            say_number(out, b" landings ", landings);
+            say_number(out, b" apart ", apart);
+            say_shares(out, &shares, delay);
+            say_first(out, b"\ncounts", &tally[..], delay);
+            say(out, b"\n");
         }
         Made::Refused {
             number: refusal,
             place: _,
         } => {
-            say_refused(refusal);
-            say_nothing(number(tally[COUNTS - 1]), ending);
+            say_refused(out, refusal);
+            say_nothing(out, number(tally[COUNTS - 1]), ending);
         }
     }
 }
 
-fn say_shares(shares: &[u32; SHARES], last: usize) {
-    say_first(b"\nshares", &shares[..], last);
+fn say_shares(out: &Output, shares: &[u32; SHARES], last: usize) {
+    say_first(out, b"\nshares", &shares[..], last);
 }
 
 // Words, then the numbers up to the one at `last`.
-fn say_first(words: &[u8], numbers: &[u32], last: usize) {
-    say(words);
+fn say_first(out: &Output, words: &[u8], numbers: &[u32], last: usize) {
+    say(out, words);
     let mut i = 0;
     while i < numbers.len() {
         if last < i {
             return;
         }
-        say_next(numbers[i]);
+        say_next(out, numbers[i]);
         i += 1;
     }
 }
 
-fn say_next(x: u32) {
-    say_number(b" ", number(x));
+fn say_next(out: &Output, x: u32) {
+    say_number(out, b" ", number(x));
 }
 
-fn say_refused(refusal: usize) {
-    say_number(b"refused ", refusal);
-    say(b"\n");
+fn say_refused(out: &Output, refusal: usize) {
+    say_number(out, b"refused ", refusal);
+    say(out, b"\n");
 }
 
 // 14 or 15: the landing by its number in the log.
-fn say_refused_landing(refusal: usize, place: usize) {
-    say_refused(refusal);
-    say_number(b"Landing ", place);
+fn say_refused_landing(out: &Output, refusal: usize, place: usize) {
+    say_refused(out, refusal);
+    say_number(out, b"Landing ", place);
     match refusal {
-        14 => say(b", counted from 0: its planned or its actual minute is above 10079.\n"),
+        14 => say(
+            out,
+            b", counted from 0: its planned or its actual minute is above 10079.\n",
+        ),
         _ => say(
+            out,
             b", counted from 0: 1000000 landings are counted where it belongs, and no count goes further.\nTake the landings of a shorter time.\n",
         ),
     }
 }
 
 // 16: nothing is tallied.
-fn say_nothing(apart: usize, ending: Ending) {
+fn say_nothing(out: &Output, apart: usize, ending: Ending) {
     if 0 < apart {
         say_count(
+            out,
             b"No landing is at most 120 minutes late: ",
             apart,
             b" stands apart.\n",
@@ -128,8 +143,8 @@ fn say_nothing(apart: usize, ending: Ending) {
         return;
     }
     match ending {
-        Ending::Missing => say(b"There is no file landings in this folder.\n"),
-        Ending::Unreadable => say(b"The file landings cannot be read.\n"),
-        _ => say(b"The file landings is empty.\n"),
+        Ending::Missing => say(out, b"There is no file landings in this folder.\n"),
+        Ending::Unreadable => say(out, b"The file landings cannot be read.\n"),
+        _ => say(out, b"The file landings is empty.\n"),
     }
 }
