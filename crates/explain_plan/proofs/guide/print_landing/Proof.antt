@@ -5,10 +5,10 @@ use Rattle.explain_plan.proofs.guide.print_landing.Statement.{statement}
 use Rattle.explain_plan.proofs.guide.print_landing.Tie as tie
 
 abbrev invariant_loop : tie.invariant_loop
-invariant_loop file f start plan rides stop gate found₀ place₀ t9 found place = 1 ≤ place
+invariant_loop out file f start plan rides stop gate found₀ place₀ t9 found place = 1 ≤ place
 
 abbrev decreases_loop : tie.decreases_loop
-decreases_loop file f start plan rides stop gate found₀ place₀ t9 found place = rides - place
+decreases_loop out file f start plan rides stop gate found₀ place₀ t9 found place = rides - place
 
 loop_holds : tie.Need-loop-init invariant_loop decreases_loop
 loop_holds c = search rules

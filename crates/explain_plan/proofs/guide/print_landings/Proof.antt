@@ -5,10 +5,10 @@ use Rattle.explain_plan.proofs.guide.print_landings.Statement.{statement}
 use Rattle.explain_plan.proofs.guide.print_landings.Tie as tie
 
 abbrev invariant_loop : tie.invariant_loop
-invariant_loop file f start plan rides stops gate stop₀ stop = stop ≤ stops
+invariant_loop out file f start plan rides stops gate stop₀ stop = stop ≤ stops
 
 abbrev decreases_loop : tie.decreases_loop
-decreases_loop file f start plan rides stops gate stop₀ stop = stops - stop
+decreases_loop out file f start plan rides stops gate stop₀ stop = stops - stop
 
 loop_holds : tie.Need-loop-init invariant_loop decreases_loop
 loop_holds c = search rules
