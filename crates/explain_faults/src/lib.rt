@@ -1,4 +1,6 @@
 // For the office: why the check refuses, and what to look at, in a sentence or two.
+#![tactic(auto)]
+
 ghost use Rattle.std.specs.Prelude.{◌<◌};
 ghost use Rattle.file_layout.specs.Format.{Readable};
 

@@ -24,11 +24,11 @@ unfolding row_in
 missing width file start place past = sym (cond_false _ _ (le-ltb place ((length file - start) / width) past))
 
 -- the bytes of a row that is there
-inside : (c : tie.Then2)
-    → c.before.before.before.before.args.f.width * c.before.before.before.before.args.place
-    + c.before.before.before.before.args.f.width
-    ≤ length c.before.before.before.before.args.file.now - c.before.before.before.before.args.start
-inside c = row_fits _ _ _ c.if2.true
+inside : (c : tie.Then-place-file)
+    → c.args.f.width * c.args.place
+    + c.args.f.width
+    ≤ length c.args.file.now - c.args.start
+inside c = row_fits _ _ _ c.if-place-file.true
 
 nothing_small : SmallRow no_row
 nothing_small =
@@ -41,31 +41,39 @@ nothing_small =
       class = omega arith;
     }
 
-sub_if2 : tie.Need-overflow-sub-if2
+sub_if2 : tie.Need-overflow_sub-file
 sub_if2 c = search rules
 
-div_if2 : tie.Need-nonzero-div-if2
-div_if2 c = search rules
-
-mul_row_at : tie.Need-overflow-mul-row-at
+mul_row_at : tie.Need-overflow_mul-f
 mul_row_at c = omega (arith, inside c.before)
 
-add_row_at : tie.Need-overflow-add-row-at
+add_row_at : tie.Need-overflow_add-start
 add_row_at c = omega (arith, inside c.before)
 
-row_at_requires : tie.Need-row-at-requires
-row_at_requires c κs = omega (arith, inside c.before, c.before.before.before.before.before.requires)
+row_at_requires : tie.Need-row_at-requires
+row_at_requires c κs = omega (arith, inside c.before, c.requires)
 
-returns : tie.Need-returns
-returns c = (c.row_at.ensures.0 ∙ there _ _ _ _ c.before.before.if2.true, c.row_at.ensures.1)
+returns : tie.Need-returns-then-place-file
+returns c = (c.row_at.ensures.0 ∙ there _ _ _ _ c.if-place-file.true, c.row_at.ensures.1)
 
-returns_2 : tie.Need-returns-2
-returns_2 c = (missing _ _ _ _ c.if2.false, nothing_small)
+returns_2 : tie.Need-returns-else-place-file
+returns_2 c = (missing _ _ _ _ c.if-place-file.false, nothing_small)
 
-returns_3 : tie.Need-returns-3
-returns_3 c = (missing _ _ _ _ (nothing_behind _ _ _ _ (omega (arith, c.before.before.requires)) c.if1.false), nothing_small)
+returns_3 : tie.Need-returns-else-start-file
+returns_3 c = (missing _ _ _ _ (nothing_behind _ _ _ _ (omega (arith, c.requires)) c.if-start-file.false), nothing_small)
+
+found_2 : tie.Need-nonzero_div-file
+found_2 c = search rules
 
 pub row_in_spec : {M : Type 1} → statement M
 row_in_spec =
     tie.close
-    (tie.spec sub_if2 div_if2 mul_row_at add_row_at row_at_requires returns returns_2 returns_3)
+    (tie.spec
+    sub_if2
+    found_2
+    mul_row_at
+    add_row_at
+    row_at_requires
+    returns
+    returns_2
+    returns_3)
