@@ -1,4 +1,6 @@
 // For the office: how to follow a plan, what is wrong with a query, and that there is no journey.
+#![tactic(auto)]
+
 mod gate;
 mod guide;
 mod journey;

@@ -1,3 +1,4 @@
+-- `explain_faults::classes::block_at_fault` is safe and ends. Assumes nothing.
 use Prim.Native.Nat.{◌≤◌, ◌-◌}
 use Rattle.explain_faults.proofs.classes.block_at_fault.Given as goal
 

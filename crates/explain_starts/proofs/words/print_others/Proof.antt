@@ -9,10 +9,10 @@ use Rattle.explain_starts.proofs.words.print_others.Statement.{statement}
 use Rattle.explain_starts.proofs.words.print_others.Tie as tie
 
 abbrev invariant_loop : tie.invariant_loop
-invariant_loop out file f trailer q work₀ found₀ stop₀ t9 work found stop = (4 * trailer.rows + 2500 ≤ length work) × (length work ≡ length work₀)
+invariant_loop out file f trailer q work₀ found₀ stop₀ work found stop = (4 * trailer.rows + 2500 ≤ length work) × (length work ≡ length work₀)
 
 abbrev decreases_loop : tie.decreases_loop
-decreases_loop out file f trailer q work₀ found₀ stop₀ t9 work found stop = trailer.stops - stop
+decreases_loop out file f trailer q work₀ found₀ stop₀ work found stop = trailer.stops - stop
 
 loop_holds : tie.Need-loop-init invariant_loop decreases_loop
 loop_holds c = (c.before.before.requires.4, refl)
