@@ -1,4 +1,6 @@
 // For the office: why the partner's `stop_times.txt` is refused, with the line and the field, and what helps.
+#![tactic(auto)]
+
 use explain_words::{say, say_number};
 use files::Output;
 use gtfs_import::Place;
