@@ -1,4 +1,6 @@
 // For the office: what the sheet's two files come to, in words.
+#![tactic(auto)]
+
 ghost use Rattle.std.specs.Prelude.{◌≡◌};
 ghost use Rattle.file_layout.specs.declared.Checked.TheVariants.{Sound};
 ghost use Rattle.file_layout.specs.Check.{checked_as};

@@ -1,4 +1,6 @@
 // For the office: from where, and until when, there is a safe journey to a target.
+#![tactic(auto)]
+
 mod words;
 
 ghost use Rattle.std.specs.Prelude.{◌≡◌, ◌≤◌};
