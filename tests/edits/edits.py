@@ -1,6 +1,6 @@
-"""Prints the kind of each must-fail edit's first error, and fails where that is not a fact.
+"""Prints the kind of what the prover says first of each must-fail edit, and fails where that is not a fact.
 
-usage: edits.py [CRATE..]
+usage: rt must-fail [CRATE..] | edits.py [CRATE..]
 
 A fact is an error of a kind that is listed here: a kind that nobody has looked at yet fails too, and is to be added to the right list.
 """
@@ -20,13 +20,16 @@ FACTS = [
     ("rw: a goal is left", r"give a proof of that as the last argument, `rw L t`"),
 ]
 SLIPS = [
-    ("scope", r"is not in scope|that can be named from here|has no field|has no function|no field `[^`]*` on type"),
-    ("types of data", r"^expected type `(ℕ|Bool|[A-Z]\w*|(List|Option) [^` ]+)`, but this has type"),
+    ("scope", r"is not in scope|that can be named from here|has no field|has no function|has no `|no field `[^`]*` on type|was not admitted"),
+    ("types of data", r"expected type `(ℕ|Bool|[A-Z]\w*|(List|Option) [^` ]+)`(, but|$)"),
     ("syntax", r"starts at column|is still open|needs its signature|unclosed"),
 ]
-FIRST_ERROR = re.compile(r"(?P<place>[^ ]*): error(\[[^\]]*\])?: (?P<text>.*)")
-# where a function has no proof file, the proof that is made for it fails with a note
-NOT_PROVED = re.compile(r"note: (?P<place>[^ ]*): it is not proved that (?P<text>.*)")
+# what `rt` says of an edit; it passes over an error of a proof file that asks for a name in vain, where another error follows
+SAID = re.compile(r"rt: must-fail (?P<edit>\S+)\.edit: (?P<said>.*)")
+REFUSED = "refused, as it must be: "
+FIRST_ERROR = re.compile(r"(\./)?(?P<place>\S*): error: (?P<text>.*)")
+# where no proof file answers a goal, the search for its proof fails with a note
+NOT_PROVED = re.compile(r"note: (\./)?(?P<place>\S*): it is not proved that (?P<text>[^;]*)(?P<refuted>; t)?")
 
 
 def problems_of_form(lines):
@@ -61,55 +64,59 @@ def changed_lines(texts):
                 yield file, number
 
 
-def kind_of(log, copy, changed):
-    """The kind of the first error, its place, and whether it is a fact."""
-    first = next(filter(None, map(FIRST_ERROR.match, log.splitlines())), None)
+def has_proof_files(crate, place):
+    """Whether proof files answer goals of the function that stands at this place: then a goal that is left may only have another name."""
+    file, line = place.split(":")[:2]
+    above = "\n".join((crate / file).read_text().splitlines()[: int(line)])
+    name = re.findall(r"\bfn (\w+)", above)[-1]
+    return any(crate.glob(f"proofs/**/{name}/*.antt")) or any(crate.glob(f"proofs/**/+{name}/*.antt"))
+
+
+def kind_of(said, crate, changed):
+    """The kind of what is said first, its place, and whether it is a fact."""
+    left = NOT_PROVED.match(said)
+    if left:
+        if left["refuted"]:
+            return "refuted: " + left["text"][:60], left["place"], True
+        is_alone = not has_proof_files(crate, left["place"])
+        return ("not proved: " if is_alone else "not proved beside a proof file: ") + left["text"][:60], left["place"], is_alone
+    first = FIRST_ERROR.match(said)
     if first is None:
-        open_fact = next(filter(None, map(NOT_PROVED.match, log.splitlines())), None)
-        if open_fact is None:
-            return "no error", "", False
-        return "not proved: " + open_fact["text"][:60], open_fact["place"].removeprefix(f"{copy.resolve()}/"), True
-    place = first["place"].removeprefix(f"{copy.resolve()}/")
-    text = re.sub(r"^`[^`]*`: ", "", first["text"])
+        return f"unknown: {said}", "", False
+    text = re.sub(r"^`[^`]*`: (?=`|[a-z])", "", first["text"])
     for kind, form in SLIPS:
         if re.search(form, text):
-            return kind, place, False
-    file, line = (place.split(":") + ["0", "0"])[:2]
+            return kind, first["place"], False
+    file, line = (first["place"].split(":") + ["0", "0"])[:2]
     if (file, int(line)) in changed and not file.startswith("proofs/"):
-        return "the edit's own types", place, False
+        return "the edit's own types", first["place"], False
     for kind, form in FACTS:
         if re.match(form, text):
-            return kind, place, True
-    return f"unknown kind: {text[:160]}", place, False
+            return kind, first["place"], True
+    return f"unknown kind: {text}", first["place"], False
 
 
-def looked_at(path):
+def looked_at(path, told):
     """One line about an edit, and whether it is refused by a fact."""
     crate, label = path.parts[-3], path.stem
-    copy = pathlib.Path("target/must-fail", crate, label)
     edit = path.read_text().splitlines()
     for problem in problems_of_form(edit):
         return f"{crate} {label}: {problem}", False
-    log = copy / ".log"
-    if not log.exists():
-        return f"{crate} {label}: not tried", False
-    verdict = copy.with_suffix(".res")
-    if verdict.read_text().strip() != "refused":
-        return f"{crate} {label}: {verdict.read_text().strip()}", False
-    texts = edited(edit, path.parent.parent)
-    if any((copy / file).read_text() != after for file, (_, after) in texts.items()):
-        return f"{crate} {label}: tried on other files than there are now", False
-    changed = set(changed_lines(texts))
-    kind, place, fact = kind_of(log.read_text(errors="replace"), copy, changed)
+    said = told.get(f"{crate}/{label}", "not tried")
+    if not said.startswith(REFUSED):
+        return f"{crate} {label}: {said}", False
+    changed = set(changed_lines(edited(edit, path.parent.parent)))
+    kind, place, fact = kind_of(said.removeprefix(REFUSED), path.parent.parent, changed)
     return f"{crate} {label}: {kind} ({place})", fact
 
 
 def main():
     names = sys.argv[1:] or ["*"]
     edits = sorted(path for name in names for path in pathlib.Path("crates").glob(f"{name}/must-fail/*.edit"))
+    told = {line["edit"]: line["said"] for line in map(SAID.match, sys.stdin.read().splitlines()) if line}
     refused = 0
     for path in edits:
-        line, fact = looked_at(path)
+        line, fact = looked_at(path, told)
         refused += fact
         print(line if fact else f"NOT BY A FACT: {line}")
     print(f"edits: {refused} of {len(edits)} refused by a fact")
