@@ -1,6 +1,6 @@
 -- A minute's day, hour and minute of the hour: their ranges, and that together they name one minute. Assumes nothing.
-use Prim.Native.Nat.{ℕ, suc, pred, ◌+◌, ◌*◌, ◌-◌, ◌/◌, ◌%◌, ◌<◌, ◌≤◌}
-use mathlib.Core.Path.{◌≡◌, refl, ap, sym, ◌∙◌}
+use Prim.Native.Nat.{ℕ, ◌+◌, ◌*◌, ◌<◌, ◌≤◌}
+use mathlib.Core.Path.{◌≡◌, ap}
 use native.Mathlib.Omega.{arith}
 use Rattle.timetable.specs.Ticks.{ticks_a_minute}
 use Rattle.clock.specs.Clock.{day_length, day_of, day_start, since_midnight, hour_of, minute_of_hour, rounded_up}

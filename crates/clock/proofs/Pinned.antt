@@ -1,7 +1,6 @@
 -- Facts that pin the clock to document 01's own times. Assumes nothing.
-use Prim.Native.Nat.{ℕ}
 use mathlib.Core.Path.{◌≡◌, refl}
-use mathlib.Core.List.{List, [], ◌∷◌}
+use mathlib.Core.List.{[], ◌∷◌}
 use Rattle.text.specs.Decimal.{digits_onto, decimal}
 use Rattle.clock.specs.Clock.{day_of, day_start, since_midnight, hour_of, minute_of_hour, rounded_up}
 use Rattle.clock.specs.Text.{face_text, time_text}

@@ -1,7 +1,7 @@
 -- Writing a day's digits from the last to the first, ahead of a text that stands at the end of the bytes. Assumes nothing.
 use Prim.Native.Nat.{ℕ, zero, suc, pred, ◌-◌, ◌/◌, ◌%◌, ◌<◌, ◌≤◌}
 use mathlib.Core.Path.{◌≡◌, refl, ap, sym, subst⁻¹, ◌∙◌}
-use mathlib.Core.List.{List, [], ◌∷◌, ◌++◌}
+use mathlib.Core.List.{List, ◌∷◌, ◌++◌}
 use native.Mathlib.Omega.{arith}
 use lib.ListN.{length, drop, set, replicate, length-append, length-replicate, length-set}
 use lib.Seq.{drop_at}

@@ -5,7 +5,7 @@ use mathlib.Core.Path.{◌≡◌, ap}
 use Rattle.timetable.specs.Verdict.{fine, fault}
 use Rattle.file_layout.specs.Format.{version_one}
 use Rattle.file_layout.specs.Decode.{trailer_of}
-use Rattle.file_layout.specs.Check.{answer_of, file_verdict, checked_as, checked}
+use Rattle.file_layout.specs.Check.{answer_of, file_verdict, checked}
 use Rattle.file_layout.proofs.Sound.{fine_answered, fault_answered}
 
 -- a sound file is answered with S, n and K

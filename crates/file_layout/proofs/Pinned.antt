@@ -11,7 +11,7 @@ use Rattle.timetable.specs.declared.Row.{Row}
 use Rattle.file_layout.specs.declared.Trailer.{Trailer}
 use Rattle.file_layout.specs.declared.Checked.TheVariants.{Sound, Refused}
 use Rattle.file_layout.specs.Format.{version_one}
-use Rattle.numbers.specs.Numbers.{u16_at, u32_at}
+use Rattle.numbers.specs.Numbers.{u16_at}
 use Rattle.file_layout.specs.Decode.{shares_from, table_at, block_end}
 use Rattle.file_layout.specs.Check.{length_rule, trailer_rule, ranges_of, class_verdict, classes_verdict, sections_join, answer_of}
 

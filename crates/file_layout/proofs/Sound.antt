@@ -14,8 +14,8 @@ use Rattle.file_layout.specs.declared.Format.{Format}
 use Rattle.file_layout.specs.declared.Trailer.{Trailer}
 use Rattle.file_layout.specs.declared.Checked.TheVariants.{Sound, Refused}
 use Rattle.file_layout.specs.Format.{Readable, version_one}
-use Rattle.file_layout.specs.Decode.{trailer_start, trailer_of, row_at, table_at, rows_from, decode}
-use Rattle.file_layout.specs.Check.{sections_verdict, file_verdict, ranges_of, answered, checked_as, checked}
+use Rattle.file_layout.specs.Decode.{trailer_start, trailer_of, table_at, rows_from, decode}
+use Rattle.file_layout.specs.Check.{sections_verdict, file_verdict, ranges_of, answered, checked_as}
 use Rattle.file_layout.specs.Sound.{block_at, ClassSound, TrailerSound, SharesSound, SoundFile}
 use Rattle.file_layout.proofs.FileRows.{rows_length, row_of_file}
 pub use Rattle.file_layout.proofs.TrailerSound.{trailer_gives}

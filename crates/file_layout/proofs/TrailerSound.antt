@@ -1,8 +1,8 @@
 -- What a fine verdict tells of a file's trailer: its ranges, its classes and where its sections lie. Assumes nothing.
-use Prim.Native.Nat.{ℕ, ◌+◌, ◌*◌, ◌≤◌, ◌<◌}
+use Prim.Native.Nat.{ℕ, ◌+◌, ◌*◌, ◌≤◌}
 use mathlib.Core.Bool.{true, ◌&&◌}
 use mathlib.Core.List.{List, []}
-use mathlib.Core.Logic.{◌⊎◌, inl, inr}
+use mathlib.Core.Logic.{inl, inr}
 use mathlib.Core.Path.{◌≡◌, refl, ap, ◌∙◌}
 use native.Mathlib.Omega.{arith}
 use lib.Dec.{leb, eqb}
@@ -14,9 +14,9 @@ use Rattle.timetable.proofs.Verdicts.{first_fine, second_fine, rule_holds}
 use Rattle.file_layout.specs.declared.Format.{Format}
 use Rattle.file_layout.specs.declared.Trailer.{Trailer}
 use Rattle.timetable.specs.Limits.{fewest_stops, most_stops, most_rows, fewest_classes, most_classes}
-use Rattle.file_layout.specs.Decode.{trailer_start, trailer_of, table_at, tables_from, tables_end, decode}
+use Rattle.file_layout.specs.Decode.{trailer_start, trailer_of, tables_from, tables_end, decode}
 use Rattle.file_layout.specs.Check.{length_rule, trailer_rule, classes_verdict, sections_join, joined, sections_verdict}
-use Rattle.file_layout.specs.Sound.{block_at, InRange, Joins, TrailerSound}
+use Rattle.file_layout.specs.Sound.{InRange, Joins, TrailerSound}
 use Rattle.file_layout.proofs.Blocks.{classes_give, table_of_block, tables_length, tables_forward}
 
 range_gives : (f : Format) (s : List ℕ) (h : Trailer) → length_rule f s ≡ true → trailer_rule f h ≡ true → InRange f s h

@@ -1,9 +1,8 @@
 -- Document 01, "Numbers returned on refusal": what the check answers, in the order of the refusals 1 to 5.
-use Rattle.std.specs.Prelude.{ℕ, zero, suc, ◌+◌, ◌*◌, Bool, cond, ◌&&◌, ◌||◌, List, [], ◌∷◌, leb, eqb, length}
+use Rattle.std.specs.Prelude.{ℕ, zero, suc, ◌+◌, ◌*◌, Bool, ◌&&◌, ◌||◌, List, [], ◌∷◌, leb, eqb, length}
 use Rattle.timetable.specs.Verdict.{Verdict, fine, or_else, unless, by_verdict}
 use Rattle.timetable.specs.Classes.{shares_rule}
 use Rattle.timetable.specs.Rows.{rows_verdict}
-use Rattle.timetable.specs.Timetable.{Timetable}
 use Rattle.timetable.specs.declared.Ranges.{Ranges}
 use Rattle.file_layout.specs.declared.Format.{Format}
 use Rattle.file_layout.specs.declared.Trailer.{Trailer}

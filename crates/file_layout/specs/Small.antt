@@ -1,5 +1,5 @@
 -- What the width of a number in the file bounds: a u16 below 65,536, a u32 below 4,294,967,296.
-use Rattle.std.specs.Prelude.{ℕ, ◌<◌}
+use Rattle.std.specs.Prelude.{◌<◌}
 use Rattle.timetable.specs.declared.Row.{Row}
 use Rattle.file_layout.specs.declared.Trailer.{Trailer}
 

@@ -9,9 +9,9 @@ use lib.ListN.{length, take, drop, get_or, length-drop, take-append-drop}
 use lib.Seq.{length-take-le}
 use borrow.Author.Tests.{ltb-true, lt-ltb}
 use Rattle.laws.proofs.Tests.{both, both_left, both_right}
-use Rattle.text.specs.Decimal.{digit_of, value_behind, value_of, OnlyDigits}
+use Rattle.text.specs.Decimal.{value_behind, value_of, OnlyDigits}
 use Rattle.gtfs_fields.specs.Whole.{are_digits, is_whole}
-use Rattle.gtfs_fields.specs.Time.{colon, minutes_an_hour, tail_bytes, hours_in, tail_in, minutes_in, tail_rule, is_time, time_minutes}
+use Rattle.gtfs_fields.specs.Time.{minutes_an_hour, tail_bytes, hours_in, tail_in, minutes_in, tail_rule, is_time, time_minutes}
 use Rattle.gtfs_fields.proofs.Digits.{digits_told, digits_hold}
 use Rattle.gtfs_fields.proofs.Seam.{ending_of, hours_ahead, ending_behind, ending_told, two_digits}
 use Rattle.gtfs_fields.proofs.Tail.{Tail, tail_told, tail_holds}

@@ -1,7 +1,7 @@
 -- A time that is written down reads back: hours in decimal, two digits of minutes, and the seconds 00. Assumes nothing.
 use Prim.Native.Nat.{ℕ, zero, suc, ◌+◌, ◌*◌, ◌/◌, ◌%◌, ◌<◌, ◌≤◌}
 use mathlib.Core.Bool.{true, cond}
-use mathlib.Core.List.{List, [], ◌∷◌, ◌++◌}
+use mathlib.Core.List.{List, [], ◌∷◌}
 use mathlib.Core.Path.{◌≡◌, refl, ap, ◌∙◌}
 use native.Mathlib.Omega.{arith}
 use lib.Dec.{eqb, leb}
@@ -11,7 +11,7 @@ use Rattle.laws.proofs.Tests.{ifb, both, cond_true}
 use Rattle.text.specs.Decimal.{digit_of, digits_onto, decimal, number_text, value_behind, value_of}
 use Rattle.text.proofs.Decimals.{reads_back, only_digits}
 use Rattle.gtfs_fields.specs.declared.Number.TheVariants.{Is, Wrong}
-use Rattle.gtfs_fields.specs.Time.{colon, minutes_an_hour, is_time, time_minutes, time_within}
+use Rattle.gtfs_fields.specs.Time.{minutes_an_hour, is_time, time_minutes, time_within}
 use Rattle.gtfs_fields.proofs.Words.{words_pass, words_minutes}
 use Rattle.gtfs_fields.specs.Words.{ClockTime, time_text}
 

@@ -1,5 +1,5 @@
 -- The first line of a text, what is behind it, and where its fields lie: the forms that the code computes.
-use Rattle.std.specs.Prelude.{ℕ, zero, suc, ◌-◌, ◌+◌, ◌≤◌, ◌<◌, Bool, true, false, cond, ◌&&◌, List, [], ◌∷◌, ◌≡◌, eqb, ltb, length, drop, get_or}
+use Rattle.std.specs.Prelude.{ℕ, suc, ◌-◌, ◌≤◌, ◌<◌, Bool, true, false, cond, ◌&&◌, List, [], ◌∷◌, ◌≡◌, eqb, ltb, length, drop, get_or}
 use Rattle.std.proofs.Math.Seq.{slice}
 use Rattle.gtfs_lines.specs.declared.Span.{Span}
 use Rattle.gtfs_lines.specs.declared.Fields.{Fields}
@@ -9,7 +9,7 @@ use Rattle.gtfs_lines.specs.declared.Line.TheVariants.{Quoted, Cut}
 use Rattle.gtfs_lines.specs.declared.Header.{Header}
 use Rattle.gtfs_lines.specs.declared.Header.TheVariants.{Quoted as HeaderQuoted, Named}
 use Rattle.gtfs_lines.specs.Columns.{columns_of}
-use Rattle.gtfs_lines.specs.Lines.{line_feed, carriage_return, quote_mark, comma, without_return, lines_of, field_of, has_quote}
+use Rattle.gtfs_lines.specs.Lines.{line_feed, carriage_return, quote_mark, comma, without_return, field_of, has_quote}
 
 -- what stands ahead of the first LF, and whether there is one
 unfoldable pub ahead_of_feed : List ℕ → List ℕ

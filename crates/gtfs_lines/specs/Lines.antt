@@ -1,5 +1,5 @@
 -- Document 02, E2: "Lines end in LF, CR LF or the file's end", and a line's fields.
-use Rattle.std.specs.Prelude.{ℕ, zero, suc, Bool, true, false, cond, ◌&&◌, ◌||◌, List, [], ◌∷◌, eqb, length, get_or}
+use Rattle.std.specs.Prelude.{ℕ, zero, suc, Bool, false, cond, ◌&&◌, ◌||◌, List, [], ◌∷◌, eqb, length, get_or}
 
 abbrev pub line_feed : ℕ
 line_feed = 10

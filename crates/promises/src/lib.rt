@@ -1,1 +1,2 @@
 // No code: what is true of what the planning calls return (proofs/).
+#![tactic(auto)]

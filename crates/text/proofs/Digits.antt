@@ -1,14 +1,13 @@
 -- Writing a number's digits from the last to the first. Assumes nothing.
-use Prim.Native.Nat.{ℕ, zero, suc, ◌+◌, ◌*◌, ◌-◌, ◌/◌, ◌%◌, ◌^◌, ◌<◌, ◌≤◌}
+use Prim.Native.Nat.{ℕ, zero, suc, ◌-◌, ◌/◌, ◌%◌, ◌^◌, ◌<◌, ◌≤◌}
 use mathlib.Core.List.{List, [], ◌∷◌}
-use mathlib.Core.Path.{◌≡◌, refl, ap, sym, ◌∙◌}
+use mathlib.Core.Path.{◌≡◌, ap, sym, ◌∙◌}
 use native.Mathlib.Omega.{arith}
 use native.Mathlib.Nat.{pow-suc}
 use lib.ListN.{length, drop, set, length-set}
 use lib.Seq.{drop-cons, drop-length, drop-set-lt, get_or-set_same}
 use Rattle.text.specs.Decimal.{digit_of, decimal, number_text}
 use Rattle.text.proofs.Decimals.{decimal_on, decimal_nought}
-use Rattle.text.specs.declared.NumberText.{NumberText}
 use Rattle.text.specs.Put.{Digits, number_width}
 
 -- the digits of n from place `at` on, those of `left` still to write, and there is room for them

@@ -4,7 +4,6 @@ use contract.Lifetimes.{Lfts}
 use denote.Triple.Clauses.{AtExit}
 use borrow.Fn.Kinds.{Dens, res_t, ended_of}
 use Rattle.laws.proofs.Outcomes.{SettlesResult}
-use Rattle.text.specs.Put.{Put}
 use Rattle.text.proofs.digit.Kinds as digit_kinds
 use Rattle.text.proofs.digit.Reads as digit_reads
 use Rattle.text.proofs.put_byte.Kinds as byte_kinds

@@ -1,4 +1,6 @@
 // Decimal numbers and other texts, put into lent bytes one behind the other.
+#![tactic(auto)]
+
 ghost use Rattle.std.specs.Prelude.{[], ◌∷◌, ◌≡◌, ◌+◌, ◌-◌, ◌≤◌, ◌<◌, length, drop};
 ghost use Rattle.text.specs.Decimal.{digit_of, number_text};
 ghost use Rattle.text.specs.Put.{Digits, Put, number_width};

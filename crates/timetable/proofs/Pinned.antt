@@ -1,7 +1,7 @@
 -- Document 01's rules of rows and shares, at both sides of each line. Each statement holds by computing. Assumes nothing.
 use Prim.Native.Nat.{ℕ}
 use mathlib.Core.Bool.{true, false}
-use mathlib.Core.List.{List, [], ◌∷◌}
+use mathlib.Core.List.{[], ◌∷◌}
 use mathlib.Core.Option.{none, some}
 use mathlib.Core.Path.{◌≡◌, refl}
 use Rattle.timetable.specs.declared.Row.{Row}

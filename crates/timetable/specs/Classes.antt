@@ -1,5 +1,5 @@
 -- Document 01, "The sailing file": the rule of a class's shares (3).
-use Rattle.std.specs.Prelude.{ℕ, ◌+◌, pred, Bool, ◌&&◌, List, [], ◌∷◌, leb, eqb, get_or}
+use Rattle.std.specs.Prelude.{ℕ, ◌+◌, Bool, ◌&&◌, List, [], ◌∷◌, leb, eqb, get_or}
 use Rattle.timetable.specs.Timetable.{maximum_delay}
 
 -- a share counts 4,096ths

@@ -1,5 +1,5 @@
 -- Document 01, "Numbers returned on refusal": the first fault, by its number and its place.
-use Rattle.std.specs.Prelude.{ℕ, zero, suc, Bool, true, false}
+use Rattle.std.specs.Prelude.{ℕ, Bool, true, false}
 
 pub data Verdict : Type 0 where
   fine : Verdict

@@ -1,5 +1,4 @@
 -- `file_check::check` meets its contract: it is the check at version 1. Assumes nothing.
-use borrow.Author.Rules.{rules}
 use Rattle.file_layout.specs.Check.{checked}
 use Rattle.file_check.proofs.check.Goals as goal
 

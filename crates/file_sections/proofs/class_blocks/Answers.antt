@@ -1,8 +1,7 @@
 -- `file_sections::class_blocks` meets its contract: what all blocks answer is what the blocks from here on answer. Assumes nothing.
-use Prim.Native.Nat.{◌-◌, ◌≤◌}
+use Prim.Native.Nat.{◌-◌}
 use mathlib.Core.Path.{◌≡◌, sym, ap, ◌∙◌}
 use native.Mathlib.Omega.{arith}
-use borrow.Author.Rules.{rules}
 use Rattle.file_sections.specs.Blocks.{blocks_read}
 use Rattle.file_sections.proofs.ClassBlocks.{blocks_on, blocks_stop, blocks_end}
 use Rattle.file_sections.proofs.class_blocks.Goals as goal

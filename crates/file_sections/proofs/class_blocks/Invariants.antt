@@ -1,9 +1,6 @@
 use Prim.Native.Nat.{◌-◌, ◌≤◌}
-use mathlib.Core.Path.{◌≡◌, sym, ap, ◌∙◌}
-use native.Mathlib.Omega.{arith}
-use borrow.Author.Rules.{rules}
+use mathlib.Core.Path.{◌≡◌}
 use Rattle.file_sections.specs.Blocks.{blocks_read}
-use Rattle.file_sections.proofs.ClassBlocks.{blocks_on, blocks_stop, blocks_end}
 use Rattle.file_sections.proofs.class_blocks.Given as goal
 
 abbrev pub invariant-loop-class : goal.invariant-loop-class

@@ -1,7 +1,6 @@
 -- `file_sections::in_ranges` meets its contract: a rule that is broken breaks the whole, and the last decides once the others are kept. Assumes nothing.
 use mathlib.Core.Bool.{Bool, true, false, ◌&&◌}
 use mathlib.Core.Path.{◌≡◌, ap, sym, ◌∙◌}
-use borrow.Author.Rules.{rules}
 use lib.Dec.{leb, eqb}
 use Rattle.laws.proofs.Tests.{false_right, both_both, rule_breaks, rule_keeps}
 use Rattle.timetable.specs.Limits.{fewest_stops, most_stops, most_rows, fewest_classes, most_classes}

@@ -1,8 +1,7 @@
 -- `file_sections::joined` meets its contract: one order of the sections, else the other. Assumes nothing.
 use Prim.Native.Nat.{ℕ}
-use mathlib.Core.Bool.{Bool, true, false, ◌&&◌}
+use mathlib.Core.Bool.{true, false, ◌&&◌}
 use mathlib.Core.Path.{◌≡◌, sym, subst, ◌∙◌}
-use borrow.Author.Rules.{rules}
 use lib.Dec.{eqb}
 use Rattle.file_layout.specs.Check.{sections_join}
 use Rattle.file_sections.proofs.joined.Goals as goal

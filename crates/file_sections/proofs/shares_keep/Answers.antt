@@ -1,7 +1,6 @@
 -- `file_sections::shares_keep` meets its contract: the sum, then the last share. Assumes nothing.
 use mathlib.Core.Path.{sym}
 use Rattle.file_sections.proofs.Shares.{sum_breaks, last_decides}
-use borrow.Author.Rules.{rules}
 use Rattle.file_sections.proofs.shares_keep.Goals as goal
 
 pub returns-then-shares_sum-ne-SHARE_TOTAL : goal.returns-then-shares_sum-ne-SHARE_TOTAL

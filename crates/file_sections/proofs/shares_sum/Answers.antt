@@ -1,10 +1,5 @@
 -- `file_sections::shares_sum` meets its contract: the whole sum is what is summed so far and the sum of the shares left. Assumes nothing.
-use Prim.Native.Nat.{◌+◌, ◌*◌, ◌≤◌}
-use mathlib.Core.Path.{◌≡◌}
 use native.Mathlib.Omega.{arith}
-use lib.ListN.{length}
-use Rattle.timetable.specs.Classes.{sum}
-use Rattle.file_layout.specs.Decode.{shares_from}
 use Rattle.file_sections.proofs.Shares.{sum_on, sum_end}
 use Rattle.file_sections.proofs.shares_sum.Goals as goal
 

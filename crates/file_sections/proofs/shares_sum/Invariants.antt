@@ -1,10 +1,8 @@
 use Prim.Native.Nat.{◌+◌, ◌*◌, ◌≤◌}
 use mathlib.Core.Path.{◌≡◌}
-use native.Mathlib.Omega.{arith}
 use lib.ListN.{length}
 use Rattle.timetable.specs.Classes.{sum}
 use Rattle.file_layout.specs.Decode.{shares_from}
-use Rattle.file_sections.proofs.Shares.{sum_on, sum_end}
 use Rattle.file_sections.proofs.shares_sum.Given as goal
 
 abbrev pub invariant-loop-left : goal.invariant-loop-left

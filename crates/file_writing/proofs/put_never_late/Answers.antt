@@ -4,7 +4,6 @@ use Rattle.laws.proofs.Lists.{sets_on}
 use Rattle.numbers.specs.Numbers.{u16_bytes}
 use Rattle.timetable.specs.Classes.{share_total}
 use Rattle.file_encoding.specs.Encode.{shares_bytes, table_bytes, tables_bytes}
-use borrow.Author.Rules.{rules}
 use Rattle.file_writing.proofs.put_never_late.Goals as goal
 
 pub returns : goal.returns

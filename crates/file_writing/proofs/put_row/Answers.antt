@@ -3,7 +3,6 @@ use mathlib.Core.Path.{refl}
 use Rattle.numbers.specs.Numbers.{u16_bytes}
 use Rattle.file_encoding.specs.Encode.{row_bytes}
 use Rattle.file_writing.proofs.Stores.{four_stored, six_stored}
-use borrow.Author.Rules.{rules}
 use Rattle.file_writing.proofs.put_row.Goals as goal
 
 pub returns : goal.returns

@@ -3,7 +3,6 @@ use mathlib.Core.Path.{refl}
 use Rattle.numbers.specs.Numbers.{u16_bytes, u32_bytes}
 use Rattle.file_encoding.specs.Encode.{bytes_of_trailer}
 use Rattle.file_writing.proofs.Stores.{four_stored, six_stored}
-use borrow.Author.Rules.{rules}
 use Rattle.file_writing.proofs.put_trailer.Goals as goal
 
 pub returns : goal.returns

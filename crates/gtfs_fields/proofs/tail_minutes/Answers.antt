@@ -1,6 +1,5 @@
 -- `gtfs_fields::tail_minutes` meets its contract: each test that fails breaks the rule, and all of them make it. Assumes nothing.
 use native.Mathlib.Omega.{arith}
-use borrow.Author.Rules.{rules}
 use Rattle.gtfs_fields.specs.Time.{minutes_in}
 use Rattle.gtfs_fields.proofs.Tail.{tail_wrong, tail_right}
 use Rattle.gtfs_fields.proofs.tail_minutes.Goals as goal

@@ -1,10 +1,8 @@
 -- `gtfs_fields::whole_below` meets its contract: what is told of the field is what is told of the characters left. Assumes nothing.
-use Prim.Native.Nat.{◌-◌, ◌≤◌}
-use mathlib.Core.Path.{◌≡◌, sym, ◌∙◌}
+use mathlib.Core.Path.{sym, ◌∙◌}
 use native.Mathlib.Omega.{arith}
-use lib.ListN.{length, drop}
-use Rattle.gtfs_fields.specs.Whole.{whole_below}
-use Rattle.gtfs_fields.proofs.Onward.{rest_below, whole_empty, whole_starts}
+use lib.ListN.{drop}
+use Rattle.gtfs_fields.proofs.Onward.{whole_empty, whole_starts}
 use Rattle.gtfs_fields.proofs.Onward.{rest_digit, rest_low, rest_high, rest_skip, rest_below_lem, rest_past}
 use Rattle.gtfs_fields.proofs.whole_below.Goals as goal
 

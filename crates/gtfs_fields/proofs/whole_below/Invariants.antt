@@ -1,10 +1,8 @@
 use Prim.Native.Nat.{◌-◌, ◌≤◌}
-use mathlib.Core.Path.{◌≡◌, sym, ◌∙◌}
-use native.Mathlib.Omega.{arith}
+use mathlib.Core.Path.{◌≡◌}
 use lib.ListN.{length, drop}
 use Rattle.gtfs_fields.specs.Whole.{whole_below}
-use Rattle.gtfs_fields.proofs.Onward.{rest_below, whole_empty, whole_starts}
-use Rattle.gtfs_fields.proofs.Onward.{rest_digit, rest_low, rest_high, rest_skip, rest_below_lem, rest_past}
+use Rattle.gtfs_fields.proofs.Onward.{rest_below}
 use Rattle.gtfs_fields.proofs.whole_below.Given as goal
 
 abbrev pub invariant-loop-at : goal.invariant-loop-at

@@ -4,7 +4,6 @@ use native.Mathlib.Omega.{arith}
 use lib.ListN.{length-set}
 use Rattle.gtfs_ids.specs.Book.{cell_of}
 use Rattle.gtfs_ids.proofs.Stores.{six_stores}
-use borrow.Author.Rules.{rules}
 use Rattle.gtfs_ids.proofs.add.Goals as goal
 
 pub bounds-book-at-2 : goal.bounds-book-at-2

@@ -3,7 +3,6 @@ use mathlib.Core.Bool.{false≢true}
 use mathlib.Core.Path.{sym, ◌∙◌}
 use Rattle.gtfs_ids.specs.Book.{key_in}
 use Rattle.gtfs_ids.proofs.Keys.{size_decides, back_decides, front_decides}
-use borrow.Author.Rules.{rules}
 use borrow.Author.Tests.{eq-eqb, ne_eqb}
 use Rattle.gtfs_ids.proofs.has_key.Goals as goal
 use Rattle.gtfs_ids.proofs.has_key.Goals.{then-book-at, else-book-at}

@@ -2,7 +2,6 @@
 use native.Mathlib.Omega.{arith}
 use lib.ListN.{length-take}
 use Rattle.gtfs_ids.proofs.Keys.{front_key, long_key}
-use borrow.Author.Rules.{rules}
 use Rattle.gtfs_ids.proofs.key_of.Goals as goal
 
 pub returns-then-size-le8 : goal.returns-then-size-le8

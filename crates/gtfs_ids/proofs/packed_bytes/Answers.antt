@@ -1,9 +1,9 @@
 -- `gtfs_ids::packed_bytes` meets its contract: the bytes still left, behind the worth so far, make the whole. Assumes nothing.
-use Prim.Native.Nat.{◌-◌, ◌^◌, ◌≤◌, ◌<◌}
-use mathlib.Core.Path.{◌≡◌, refl, sym, ◌∙◌}
+use Prim.Native.Nat.{◌≤◌, ◌<◌}
+use mathlib.Core.Path.{refl, sym, ◌∙◌}
 use native.Mathlib.Omega.{arith}
-use lib.ListN.{length, drop, get_or}
-use Rattle.gtfs_ids.specs.Keys.{packed, packed_behind}
+use lib.ListN.{length, get_or}
+use Rattle.gtfs_ids.specs.Keys.{packed}
 use Rattle.gtfs_ids.proofs.Packing.{packed_on, packed_end, byte_more, eight_fit}
 use Rattle.gtfs_ids.proofs.packed_bytes.Goals as goal
 

@@ -1,9 +1,7 @@
 use Prim.Native.Nat.{◌-◌, ◌^◌, ◌≤◌, ◌<◌}
-use mathlib.Core.Path.{◌≡◌, refl, sym, ◌∙◌}
-use native.Mathlib.Omega.{arith}
-use lib.ListN.{length, drop, get_or}
+use mathlib.Core.Path.{◌≡◌}
+use lib.ListN.{length, drop}
 use Rattle.gtfs_ids.specs.Keys.{packed, packed_behind}
-use Rattle.gtfs_ids.proofs.Packing.{packed_on, packed_end, byte_more, eight_fit}
 use Rattle.gtfs_ids.proofs.packed_bytes.Given as goal
 
 abbrev pub invariant-loop-i : goal.invariant-loop-i

@@ -1,7 +1,6 @@
 -- `gtfs_ids::place_of` meets its contract: it reads the cell. Assumes nothing.
 use mathlib.Core.Path.{refl}
 use Rattle.gtfs_ids.specs.Book.{place_in}
-use borrow.Author.Rules.{rules}
 use Rattle.gtfs_ids.proofs.place_of.Goals as goal
 
 pub returns : goal.returns

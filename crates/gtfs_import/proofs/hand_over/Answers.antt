@@ -5,7 +5,6 @@ use lib.ListN.{length}
 use Rattle.gtfs_import.specs.declared.Imported.TheVariants.{Written}
 use Rattle.gtfs_import.specs.Import.{ImportOutcome}
 use Rattle.gtfs_import.proofs.Told.{kept_back, handed_over, put_over}
-use borrow.Author.Rules.{rules}
 use Rattle.gtfs_import.proofs.hand_over.Goals as goal
 
 pub returns-in-Refused : goal.returns-in-Refused

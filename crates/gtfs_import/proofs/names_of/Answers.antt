@@ -1,12 +1,10 @@
 -- `gtfs_import::names_of` meets its contract: room, day, and then what the text says. Assumes nothing.
-use borrow.Author.Rules.{rules}
 use mathlib.Core.Bool.{true, false}
-use mathlib.Core.Path.{◌≡◌, sym, ap, ◌∙◌}
-use borrow.Author.Tests.{le-leb, lt-leb}
+use mathlib.Core.Path.{sym, ap, ◌∙◌}
 use Rattle.laws.proofs.Tests.{rule_breaks, rule_keeps}
 use Rattle.gtfs_stop_time.specs.StopTime.{day_start}
 use Rattle.gtfs_calls.specs.Reading.{stop_times}
-use Rattle.gtfs_import.specs.Named.{NamesOutcome, names_outcome}
+use Rattle.gtfs_import.specs.Named.{NamesOutcome}
 use Rattle.gtfs_import.proofs.NamesTold.{names_room_lem, names_day, names_served, names_told, names_wrong}
 use Rattle.gtfs_import.proofs.names_of.Goals as goal
 

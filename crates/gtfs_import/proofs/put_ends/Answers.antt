@@ -4,7 +4,6 @@ use mathlib.Core.Path.{refl, ap, ◌∙◌}
 use lib.Seq.{sets}
 use Rattle.file_encoding.specs.Encode.{bytes_of_trailer}
 use Rattle.file_writing.specs.Ends.{on_time_trailer}
-use borrow.Author.Rules.{rules}
 use Rattle.gtfs_import.proofs.put_ends.Goals as goal
 
 pub returns : goal.returns

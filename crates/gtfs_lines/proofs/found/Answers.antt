@@ -1,6 +1,5 @@
 -- `gtfs_lines::found` meets its contract. Assumes nothing.
 use mathlib.Core.Path.{sym, ◌∙◌}
-use borrow.Author.Rules.{rules}
 use borrow.Author.Tests.{eq-eqb, ne_eqb}
 use Rattle.gtfs_lines.specs.Naming.{found}
 use Rattle.gtfs_lines.proofs.found.Goals as goal

@@ -1,13 +1,10 @@
 -- `gtfs_lines::header_columns` meets its contract: the header is what its fields from here on make of the columns so far. Assumes nothing.
-use Prim.Native.Nat.{ℕ, suc, ◌+◌, ◌-◌, ◌≤◌, ◌<◌}
+use Prim.Native.Nat.{ℕ, suc, ◌+◌}
 use mathlib.Core.List.{List}
 use mathlib.Core.Path.{◌≡◌, sym, subst⁻¹, ◌∙◌}
 use native.Mathlib.Nat.{le_trans}
 use native.Mathlib.Numerals.{add-one}
 use native.Mathlib.Omega.{arith}
-use borrow.Author.Rules.{rules}
-use lib.ListN.{length}
-use Rattle.gtfs_lines.specs.Cut.{header_of}
 use Rattle.gtfs_lines.specs.declared.Columns.{Columns}
 use Rattle.gtfs_lines.specs.declared.Header.{Header}
 use Rattle.gtfs_lines.specs.declared.Header.TheVariants.{Named}

@@ -1,5 +1,4 @@
 -- `gtfs_lines::last_end` meets its contract. Assumes nothing.
-use borrow.Author.Rules.{rules}
 use borrow.Author.Tests.{lt-ltb, le-ltb, eq-eqb, ne_eqb}
 use Rattle.gtfs_lines.specs.Cut.{last_end}
 use Rattle.gtfs_lines.proofs.last_end.Goals as goal

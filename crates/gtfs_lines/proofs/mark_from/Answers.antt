@@ -1,12 +1,9 @@
 -- `gtfs_lines::mark_from` meets its contract: the plain bytes from `from` on end where those from `at` on do. Assumes nothing.
-use Prim.Native.Nat.{◌+◌, ◌-◌, ◌≤◌}
 use mathlib.Core.Path.{◌≡◌, refl, sym, ◌∙◌}
 use native.Mathlib.Omega.{arith}
-use borrow.Author.Rules.{rules}
-use lib.ListN.{length, drop, get_or}
+use lib.ListN.{get_or}
 use mathlib.Core.Bool.{false}
-use mathlib.Core.Logic.{⊎_elim}
-use Rattle.gtfs_lines.specs.Marks.{marked_by, plain_ahead}
+use Rattle.gtfs_lines.specs.Marks.{marked_by}
 use Rattle.gtfs_lines.proofs.Marks.{high_plain, mark_here, mark_later, mark_none}
 use Rattle.gtfs_lines.proofs.mark_from.Goals as goal
 use Rattle.gtfs_lines.proofs.mark_from.Goals.{then-byte-le-COMMA+else-is_mark, else-byte-le-COMMA}

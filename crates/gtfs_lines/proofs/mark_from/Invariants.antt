@@ -1,12 +1,7 @@
 use Prim.Native.Nat.{◌+◌, ◌-◌, ◌≤◌}
-use mathlib.Core.Path.{◌≡◌, refl, sym, ◌∙◌}
-use native.Mathlib.Omega.{arith}
-use borrow.Author.Rules.{rules}
-use lib.ListN.{length, drop, get_or}
-use mathlib.Core.Bool.{false}
-use mathlib.Core.Logic.{⊎_elim}
-use Rattle.gtfs_lines.specs.Marks.{marked_by, plain_ahead}
-use Rattle.gtfs_lines.proofs.Marks.{high_plain, mark_here, mark_later, mark_none}
+use mathlib.Core.Path.{◌≡◌}
+use lib.ListN.{length, drop}
+use Rattle.gtfs_lines.specs.Marks.{plain_ahead}
 use Rattle.gtfs_lines.proofs.mark_from.Given as goal
 
 abbrev pub invariant-loop-at : goal.invariant-loop-at

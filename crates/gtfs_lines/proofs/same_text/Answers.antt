@@ -1,8 +1,8 @@
 -- `gtfs_lines::same_text` meets its contract: the texts are the same if what is left of them is. Assumes nothing.
-use Prim.Native.Nat.{suc, ◌+◌, ◌-◌, ◌≤◌}
+use Prim.Native.Nat.{suc, ◌+◌}
 use mathlib.Core.Path.{◌≡◌, sym, ap, ◌∙◌}
 use native.Mathlib.Omega.{arith}
-use lib.ListN.{length, drop}
+use lib.ListN.{drop}
 use lib.Seq.{slice, length-slice}
 use native.Mathlib.Nat.{add-zero}
 use native.Mathlib.Numerals.{add-one}

@@ -1,12 +1,8 @@
-use Prim.Native.Nat.{suc, ◌+◌, ◌-◌, ◌≤◌}
-use mathlib.Core.Path.{◌≡◌, sym, ap, ◌∙◌}
-use native.Mathlib.Omega.{arith}
+use Prim.Native.Nat.{◌+◌, ◌-◌, ◌≤◌}
+use mathlib.Core.Path.{◌≡◌}
 use lib.ListN.{length, drop}
-use lib.Seq.{slice, length-slice}
-use native.Mathlib.Nat.{add-zero}
-use native.Mathlib.Numerals.{add-one}
+use lib.Seq.{slice}
 use Rattle.text.specs.Same.{same_bytes}
-use Rattle.gtfs_lines.proofs.SameText.{same_length, same_on, same_stops, same_ends}
 use Rattle.gtfs_lines.proofs.same_text.Given as goal
 
 abbrev pub invariant-loop-i : goal.invariant-loop-i

@@ -1,5 +1,4 @@
 -- `gtfs_lines::with_field` meets its contract. Assumes nothing.
-use borrow.Author.Rules.{rules}
 use Rattle.gtfs_lines.specs.Cut.{with_field}
 use Rattle.gtfs_lines.proofs.with_field.Goals as goal
 

@@ -1,5 +1,4 @@
 -- `gtfs_lines::with_name` meets its contract. Assumes nothing.
-use borrow.Author.Rules.{rules}
 use lib.Seq.{slice}
 use Rattle.gtfs_lines.proofs.Naming.{with_name_lem}
 use Rattle.gtfs_lines.proofs.with_name.Goals as goal

@@ -1,5 +1,4 @@
 -- `gtfs_stop_time::is_id` meets its contract. Assumes nothing.
-use borrow.Author.Rules.{rules}
 use borrow.Author.Tests.{le-leb, lt-leb}
 use Rattle.gtfs_stop_time.proofs.is_id.Goals as goal
 

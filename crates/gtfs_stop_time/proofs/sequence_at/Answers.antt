@@ -3,7 +3,6 @@ use mathlib.Core.Path.{ap, ◌∙◌}
 use Rattle.gtfs_fields.specs.Whole.{whole_below}
 use Rattle.gtfs_stop_time.specs.StopTime.{sequence_limit}
 use Rattle.gtfs_stop_time.proofs.Spans.{part_there}
-use borrow.Author.Rules.{rules}
 use Rattle.gtfs_stop_time.proofs.sequence_at.Goals as goal
 
 pub returns : goal.returns

@@ -2,7 +2,6 @@
 use mathlib.Core.Path.{ap, ◌∙◌}
 use Rattle.gtfs_fields.specs.Time.{time_within}
 use Rattle.gtfs_stop_time.proofs.Spans.{part_there}
-use borrow.Author.Rules.{rules}
 use Rattle.gtfs_stop_time.proofs.time_at.Goals as goal
 
 pub returns : goal.returns

@@ -1,12 +1,11 @@
 -- `gtfs_stop_times::enter` meets its contract: a new id is added, for a known one nothing changes. Assumes nothing.
-use borrow.Author.Rules.{rules}
 use Prim.Native.Nat.{suc}
-use mathlib.Core.Path.{◌≡◌, sym, ap, ◌∙◌}
+use mathlib.Core.Path.{sym, ◌∙◌}
 use native.Mathlib.Omega.{arith}
 use borrow.Author.Tests.{eq-eqb, ne_eqb}
 use Rattle.laws.proofs.Tests.{cond_true, cond_false}
 use Rattle.gtfs_ids.specs.Book.{book_with}
-use Rattle.gtfs_stop_times.specs.Held.{entered, count_with}
+use Rattle.gtfs_stop_times.specs.Held.{entered}
 use Rattle.gtfs_stop_times.proofs.enter.Goals as goal
 
 pub add-requires : goal.add-requires

@@ -1,7 +1,4 @@
 -- `gtfs_stop_times::is_too_many` meets its contract: only a new id can be one too many. Assumes nothing.
-use mathlib.Core.Bool.{not}
-use mathlib.Core.Path.{◌≡◌, sym, ap, ◌∙◌}
-use native.Mathlib.Omega.{arith}
 use Rattle.gtfs_stop_times.proofs.Entered.{known_fits, new_fits}
 use Rattle.gtfs_stop_times.proofs.is_too_many.Goals as goal
 

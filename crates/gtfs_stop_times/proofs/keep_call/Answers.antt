@@ -1,7 +1,4 @@
 -- `gtfs_stop_times::keep_call` meets its contract: three stores. Assumes nothing.
-use borrow.Author.Rules.{rules}
-use Prim.Native.Nat.{suc, ◌+◌, ◌*◌}
-use mathlib.Core.Path.{◌≡◌, ap}
 use native.Mathlib.Omega.{arith}
 use lib.ListN.{length-set}
 use Rattle.gtfs_stop_times.proofs.KeptCalls.{three_stores}

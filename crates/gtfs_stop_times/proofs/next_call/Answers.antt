@@ -1,15 +1,11 @@
 -- `gtfs_stop_times::next_call` meets its contract: the tests in their order, then the row, the trip's cells and the stop. Assumes nothing.
-use borrow.Author.Rules.{rules}
-use Prim.Native.Nat.{ℕ, suc, ◌+◌, ◌*◌, ◌≤◌, ◌<◌}
+use Prim.Native.Nat.{◌+◌, ◌*◌, ◌≤◌, ◌<◌}
 use mathlib.Core.Bool.{true, false}
-use mathlib.Core.List.{List}
-use mathlib.Core.Path.{◌≡◌, refl, sym, ap, ◌∙◌}
+use mathlib.Core.Path.{refl, sym, ap, ◌∙◌}
 use native.Mathlib.Omega.{arith}
 use borrow.Author.Tests.{leb-true}
-use lib.Dec.{leb}
 use lib.ListN.{get_or}
 use lib.Seq.{sets}
-use Rattle.laws.proofs.Tests.{rule_breaks, rule_keeps}
 use Rattle.timetable.specs.Limits.{most_stops}
 use Rattle.timetable.specs.declared.Row.{Row}
 use Rattle.gtfs_stop_times.specs.declared.Taken.TheVariants.{On}

@@ -1,5 +1,4 @@
 -- `gtfs_stop_times::put_id` meets its contract: word, quote mark, id, quote mark and LF, one behind the other. Assumes nothing.
-use borrow.Author.Rules.{rules}
 use Prim.Native.Nat.{◌+◌, ◌-◌}
 use mathlib.Core.Path.{◌≡◌, sym, ap, ◌∙◌}
 use native.Mathlib.Omega.{arith}

@@ -1,8 +1,7 @@
 -- `gtfs_stop_times::put_ids` meets its contract: so far the lines of the first `i` ids are put. Assumes nothing.
 use Prim.Native.Nat.{◌-◌}
 use native.Mathlib.Omega.{arith}
-use borrow.Author.Rules.{rules}
-use Rattle.gtfs_stop_times.proofs.NameLines.{LinesPut, put_none, put_length, put_all, id_fits, put_more}
+use Rattle.gtfs_stop_times.proofs.NameLines.{put_none, put_length, put_all, id_fits, put_more}
 use Rattle.gtfs_stop_times.proofs.put_ids.Goals as goal
 
 pub loop-i-init : goal.loop-i-init

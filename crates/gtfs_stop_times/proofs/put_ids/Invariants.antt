@@ -1,7 +1,5 @@
 use Prim.Native.Nat.{◌-◌}
-use native.Mathlib.Omega.{arith}
-use borrow.Author.Rules.{rules}
-use Rattle.gtfs_stop_times.proofs.NameLines.{LinesPut, put_none, put_length, put_all, id_fits, put_more}
+use Rattle.gtfs_stop_times.proofs.NameLines.{LinesPut}
 use Rattle.gtfs_stop_times.proofs.put_ids.Given as goal
 
 abbrev pub invariant-loop-i : goal.invariant-loop-i

@@ -1,5 +1,4 @@
 -- `gtfs_stop_times::put_wanted` meets its contract: rows in order, or the lines of stops and then of trips. Assumes nothing.
-use borrow.Author.Rules.{rules}
 use native.Mathlib.Omega.{arith}
 use Rattle.gtfs_stop_times.proofs.Written.{rows_fit, stops_for, trips_for, stops_fit, trips_fit, rows_put, names_put}
 use Rattle.gtfs_stop_times.proofs.put_wanted.Goals as goal

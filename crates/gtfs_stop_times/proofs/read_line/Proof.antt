@@ -1,6 +1,6 @@
 -- `gtfs_stop_times::read_line` meets its contract: a quote mark, a fault of the fields, a fault behind the calls read so far, or a call
 -- more. Assumes nothing.
-use Prim.Native.Nat.{ℕ, ◌<◌}
+use Prim.Native.Nat.{◌<◌}
 use mathlib.Core.Path.{◌≡◌, sym, ◌∙◌}
 use native.Mathlib.Omega.{arith}
 use borrow.Author.Rules.{rules}

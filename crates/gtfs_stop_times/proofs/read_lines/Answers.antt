@@ -1,10 +1,7 @@
 -- `gtfs_stop_times::read_lines` meets its contract: what all lines come to is what those still to come come to. Assumes nothing.
-use Prim.Native.Nat.{◌-◌, ◌+◌, ◌≤◌, ◌<◌}
-use mathlib.Core.Path.{◌≡◌, refl, sym, ◌∙◌}
+use Prim.Native.Nat.{◌-◌}
 use native.Mathlib.Omega.{arith}
-use borrow.Author.Rules.{rules}
-use lib.ListN.{length}
-use Rattle.gtfs_stop_times.proofs.AllLines.{ReadTo, read_none, lines_told, next_place, read_more_lines, lines_whole}
+use Rattle.gtfs_stop_times.proofs.AllLines.{read_none, lines_told, next_place, read_more_lines, lines_whole}
 use Rattle.gtfs_stop_times.proofs.read_lines.Goals as goal
 
 pub loop-at-init : goal.loop-at-init

@@ -1,9 +1,6 @@
-use Prim.Native.Nat.{◌-◌, ◌+◌, ◌≤◌, ◌<◌}
-use mathlib.Core.Path.{◌≡◌, refl, sym, ◌∙◌}
-use native.Mathlib.Omega.{arith}
-use borrow.Author.Rules.{rules}
+use Prim.Native.Nat.{◌-◌}
 use lib.ListN.{length}
-use Rattle.gtfs_stop_times.proofs.AllLines.{ReadTo, read_none, lines_told, next_place, read_more_lines, lines_whole}
+use Rattle.gtfs_stop_times.proofs.AllLines.{ReadTo}
 use Rattle.gtfs_stop_times.proofs.read_lines.Given as goal
 
 abbrev pub invariant-loop-at : goal.invariant-loop-at

@@ -1,7 +1,5 @@
 -- `gtfs_stop_times::stop_times` meets its contract: the header, and then the lines behind it. Assumes nothing.
-use borrow.Author.Rules.{rules}
-use mathlib.Core.Path.{◌≡◌, refl, sym, ap, ◌∙◌}
-use native.Mathlib.Omega.{arith}
+use mathlib.Core.Path.{sym, ap, ◌∙◌}
 use Rattle.gtfs_lines.proofs.Headers.{header_cut, header_refused}
 use Rattle.gtfs_stop_times.specs.Answers.{read_answer, out_after}
 use Rattle.gtfs_stop_times.proofs.HeaderLine.{header_quoted, column_missing, columns_named, header_some}

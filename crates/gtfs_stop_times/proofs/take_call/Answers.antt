@@ -1,5 +1,4 @@
 -- `gtfs_stop_times::take_call` meets its contract: the trip has a call, or this is its first. Assumes nothing.
-use borrow.Author.Rules.{rules}
 use Rattle.gtfs_stop_times.proofs.Ready.{trips_chained, stops_chained, call_fits, numbered, first_numbered}
 use Rattle.gtfs_stop_times.proofs.take_call.Goals as goal
 

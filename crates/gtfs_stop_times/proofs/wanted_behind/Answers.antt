@@ -1,6 +1,4 @@
 -- `gtfs_stop_times::wanted_behind` meets its contract: the lines are read into notes of its own, and what is wanted is written of these. Assumes nothing.
-use borrow.Author.Rules.{rules}
-use mathlib.Core.Path.{◌≡◌, sym, ap, ◌∙◌}
 use Rattle.gtfs_stop_times.proofs.Answered.{held_none, held_for, wanted_answered, fault_answered}
 use Rattle.gtfs_stop_times.proofs.wanted_behind.Goals as goal
 

@@ -1,7 +1,6 @@
 -- `house::cumulative_share` meets its contract: each of its four endings is the rule's own, and no step overflows. Assumes nothing.
 use mathlib.Core.Path.{sym, ap, ◌∙◌}
 use native.Mathlib.Omega.{arith}
-use borrow.Author.Rules.{rules}
 use Rattle.house.specs.House.{cumulative}
 use Rattle.house.proofs.Rule.{at_zero, at_latest, cumulative_up, cumulative_past}
 use Rattle.house.proofs.cumulative_share.Goals as goal

@@ -2,7 +2,6 @@
 -- Assumes nothing.
 use mathlib.Core.Path.{ap}
 use native.Mathlib.Omega.{arith}
-use borrow.Author.Rules.{rules}
 use Rattle.house.specs.House.{maximum}
 use Rattle.house.proofs.Pairs.{pair_short, steps_fit}
 use Rattle.house.proofs.Answers.{pair_refused, minute_refused, share_answered}

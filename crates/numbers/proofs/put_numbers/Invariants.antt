@@ -1,13 +1,8 @@
-use Prim.Native.Nat.{◌+◌, ◌-◌, ◌*◌, ◌≤◌}
-use mathlib.Core.Path.{◌≡◌, sym, ap, ◌∙◌}
-use native.Mathlib.Omega.{arith}
-use borrow.Author.Rules.{rules}
+use Prim.Native.Nat.{◌-◌, ◌*◌, ◌≤◌}
+use mathlib.Core.Path.{◌≡◌}
 use lib.ListN.{length, take}
-use lib.Seq.{sets}
-use Rattle.numbers.specs.Numbers.{u32_bytes}
 use Rattle.numbers.specs.Bytes.{bytes_of}
 use Rattle.numbers.specs.Over.{over}
-use Rattle.numbers.proofs.Put.{put_none, put_on, length_put}
 use Rattle.numbers.proofs.put_numbers.Given as goal
 
 abbrev pub invariant-loop-i : goal.invariant-loop-i

@@ -1,11 +1,10 @@
 -- `numbers::put_u16` meets its contract: two stores, low byte first. Assumes nothing.
-use Prim.Native.Nat.{◌+◌, ◌/◌, ◌%◌, suc}
-use mathlib.Core.Path.{◌≡◌, ap}
+use Prim.Native.Nat.{◌/◌, ◌%◌}
+use mathlib.Core.Path.{ap}
 use native.Mathlib.Omega.{arith}
 use native.Mathlib.Numerals.{add-one}
 use lib.ListN.{set, length-set}
 use Rattle.numbers.specs.Numbers.{u16_bytes}
-use borrow.Author.Rules.{rules}
 use Rattle.numbers.proofs.put_u16.Goals as goal
 
 pub bounds-out-at-2 : goal.bounds-out-at-2

@@ -3,7 +3,6 @@ use Prim.Native.Nat.{◌/◌, ◌%◌}
 use mathlib.Core.Path.{refl}
 use Rattle.laws.proofs.Lists.{sets_on}
 use Rattle.numbers.specs.Numbers.{u16_bytes, u32_bytes}
-use borrow.Author.Rules.{rules}
 use Rattle.numbers.proofs.put_u32.Goals as goal
 
 pub returns : goal.returns

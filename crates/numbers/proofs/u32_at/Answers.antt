@@ -1,7 +1,6 @@
 -- `numbers::u32_at` meets its contract. Assumes nothing.
 use native.Mathlib.Omega.{arith}
 use Rattle.numbers.specs.Numbers.{u32_at}
-use borrow.Author.Rules.{rules}
 use Rattle.numbers.proofs.u32_at.Goals as goal
 
 pub returns : goal.returns

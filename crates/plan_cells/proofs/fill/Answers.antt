@@ -1,10 +1,8 @@
 -- `plan_cells::fill` meets its contract: so far `i - at` cells are filled. Assumes nothing.
-use Prim.Native.Nat.{◌+◌, ◌-◌, ◌≤◌}
+use Prim.Native.Nat.{◌-◌}
 use mathlib.Core.Path.{◌≡◌, ap, ◌∙◌}
 use native.Mathlib.Omega.{arith}
-use borrow.Author.Rules.{rules}
 use lib.ListN.{length}
-use Rattle.plan_cells.specs.Cells.{filled}
 use Rattle.plan_cells.proofs.Filled.{filled_none, filled_on, filled_to, length_filled}
 use Rattle.plan_cells.proofs.fill.Goals as goal
 

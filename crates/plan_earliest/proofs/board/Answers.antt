@@ -3,7 +3,6 @@ use mathlib.Core.Path.{sym, ap, ◌∙◌}
 use Rattle.plans.specs.Rides.{ready}
 use Rattle.plan_earliest.specs.Cells.{already}
 use Rattle.plan_earliest.proofs.Returns.{boards_now, misses_now}
-use borrow.Author.Rules.{rules}
 use Rattle.plan_earliest.proofs.board.Goals as goal
 
 pub returns-then-work-trip-ne0 : goal.returns-then-work-trip-ne0

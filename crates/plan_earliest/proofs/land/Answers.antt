@@ -1,7 +1,7 @@
 -- `plan_earliest::land` meets its contract: a line for each return. Assumes nothing.
 use Rattle.plan_earliest.proofs.Returns.{landing_computed, landing_below, landed_sooner, landed_no_sooner}
 use mir.Syntax.{w32}
-use borrow.Author.Rules.{rules, Fits-under}
+use borrow.Author.Rules.{Fits-under}
 use Rattle.plan_earliest.proofs.land.Goals as goal
 
 pub overflow_add-landing-2 : goal.overflow_add-landing-2

@@ -2,7 +2,6 @@
 use borrow.Author.Tests.{not-true, not-false}
 use mathlib.Core.Path.{subst}
 use Rattle.plan_earliest.specs.Cells.{Boarded, missed, sailed}
-use borrow.Author.Rules.{rules}
 use Rattle.plan_earliest.proofs.sail.Goals as goal
 
 pub returns-then-not-board : goal.returns-then-not-board

@@ -1,14 +1,11 @@
 -- `plan_earliest::sail_until` meets its contract: the rows below `i` are swept. Assumes nothing.
-use Prim.Native.Nat.{ℕ, ◌-◌, ◌≤◌}
+use Prim.Native.Nat.{◌-◌}
 use mathlib.Core.Path.{sym, subst, ◌∙◌}
 use native.Mathlib.Omega.{arith}
 use Rattle.plan_cells.specs.Cells.{trip_cells, pair_cells}
-use Rattle.plan_cells.specs.Outside.{SameOutside}
 use Rattle.plan_cells.proofs.Outside.{outside_same}
-use Rattle.plan_rows.specs.Reading.{timetable_in}
 use Rattle.plan_earliest.specs.Cells.{RowInCells}
 use Rattle.plan_earliest.proofs.InFile.{row_placed, row_behind_lem, row_swept, stops_there, ends_there}
-use Rattle.plan_earliest.specs.Swept.{Swept}
 use Rattle.plan_earliest.proofs.sail_until.Goals as goal
 
 pub loop-i-init : goal.loop-i-init

@@ -1,12 +1,7 @@
 use Prim.Native.Nat.{ℕ, ◌-◌, ◌≤◌}
-use mathlib.Core.Path.{sym, subst, ◌∙◌}
-use native.Mathlib.Omega.{arith}
 use Rattle.plan_cells.specs.Cells.{trip_cells, pair_cells}
 use Rattle.plan_cells.specs.Outside.{SameOutside}
-use Rattle.plan_cells.proofs.Outside.{outside_same}
 use Rattle.plan_rows.specs.Reading.{timetable_in}
-use Rattle.plan_earliest.specs.Cells.{RowInCells}
-use Rattle.plan_earliest.proofs.InFile.{row_placed, row_behind_lem, row_swept, stops_there, ends_there}
 use Rattle.plan_earliest.specs.Swept.{Swept}
 use Rattle.plan_earliest.proofs.sail_until.Given as goal
 

@@ -1,8 +1,4 @@
-use Prim.Native.Nat.{◌+◌, ◌%◌}
-use mathlib.Core.Path.{◌≡◌}
-use native.Mathlib.Omega.{arith}
-use Rattle.plan_stacks.specs.Stacks.{key_step, stack_start, stack_size}
-use lib.ListN.{length-set}
+use Rattle.plan_stacks.specs.Stacks.{stack_start, stack_size}
 use Rattle.plan_extract.proofs.Passing.{Down}
 use Rattle.plan_extract.proofs.Passing as passing
 use Rattle.plan_extract.proofs.want.Given as goal

@@ -1,5 +1,4 @@
 -- `plan_extract::write_row` meets its contract. Assumes nothing.
-use borrow.Author.Rules.{rules}
 use Rattle.plan_extract.proofs.write_row.Goals as goal
 
 pub returns : goal.returns

@@ -1,5 +1,5 @@
 -- `plan_rows::rows_before` meets its contract: rows below `low` depart before the minute, rows from `high` on do not. Assumes nothing.
-use Prim.Native.Nat.{ℕ, ◌+◌, ◌-◌, ◌/◌, ◌≤◌, ◌<◌}
+use Prim.Native.Nat.{◌+◌, ◌-◌, ◌/◌, ◌≤◌, ◌<◌}
 use mathlib.Core.Path.{sym, subst, ◌∙◌}
 use native.Mathlib.Nat.{le_trans, lt_of_le_of_lt}
 use native.Mathlib.Omega.{arith}

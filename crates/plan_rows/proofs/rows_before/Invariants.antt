@@ -1,8 +1,4 @@
-use Prim.Native.Nat.{ℕ, ◌+◌, ◌-◌, ◌/◌, ◌≤◌, ◌<◌}
-use mathlib.Core.Path.{sym, subst, ◌∙◌}
-use native.Mathlib.Nat.{le_trans, lt_of_le_of_lt}
-use native.Mathlib.Omega.{arith}
-use borrow.Author.Tests.{leb-true, leb-false}
+use Prim.Native.Nat.{ℕ, ◌-◌, ◌≤◌, ◌<◌}
 use Rattle.timetable.specs.Timetable.{row_of}
 use Rattle.plan_rows.specs.Reading.{rows_in}
 use Rattle.plan_rows.proofs.rows_before.Given as goal

@@ -7,7 +7,6 @@ use lib.ListN.{get_or, set, length-set}
 use Rattle.timetable.specs.declared.Row.{Row}
 use Rattle.plan_cells.specs.Cells.{trip_cells, pair_cell, paired}
 use Rattle.plan_scan.specs.Stores.{entered, Weighs, gets_off, stays_on}
-use borrow.Author.Rules.{rules}
 use Rattle.plan_scan.proofs.weigh_row.Goals as goal
 
 -- the two ways, over plain values

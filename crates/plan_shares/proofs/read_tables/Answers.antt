@@ -3,7 +3,7 @@ use Prim.Native.Nat.{◌-◌, ◌<◌}
 use mathlib.Core.Path.{sym, subst, ◌∙◌}
 use native.Mathlib.Omega.{arith}
 use Rattle.plan_shares.specs.Summed.{BlockStands}
-use Rattle.plan_shares.proofs.Held.{ReadSoFar, block_stands, read_none, read_more}
+use Rattle.plan_shares.proofs.Held.{block_stands, read_none, read_more}
 use Rattle.plan_shares.proofs.read_tables.Goals as goal
 
 pub loop-k-init : goal.loop-k-init

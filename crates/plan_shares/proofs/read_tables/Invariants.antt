@@ -1,8 +1,5 @@
-use Prim.Native.Nat.{◌-◌, ◌<◌}
-use mathlib.Core.Path.{sym, subst, ◌∙◌}
-use native.Mathlib.Omega.{arith}
-use Rattle.plan_shares.specs.Summed.{BlockStands}
-use Rattle.plan_shares.proofs.Held.{ReadSoFar, block_stands, read_none, read_more}
+use Prim.Native.Nat.{◌-◌}
+use Rattle.plan_shares.proofs.Held.{ReadSoFar}
 use Rattle.plan_shares.proofs.read_tables.Given as goal
 
 abbrev pub invariant-loop-k : goal.invariant-loop-k

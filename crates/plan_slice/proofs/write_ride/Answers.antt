@@ -1,7 +1,6 @@
 -- `plan_slice::write_ride` meets its contract. Assumes nothing.
 use lib.ListN.{length-set}
 use native.Mathlib.Omega.{arith}
-use borrow.Author.Rules.{rules}
 use Rattle.plan_slice.proofs.write_ride.Goals as goal
 
 pub bounds-plan-at-2 : goal.bounds-plan-at-2

@@ -5,7 +5,6 @@ use mathlib.Core.Path.{◌≡◌, ap, ◌∙◌}
 use lib.Dec.{leb}
 use lib.ListN.{get_or}
 use mir.Val.{bool_byte}
-use borrow.Author.Rules.{rules}
 use Rattle.plan_stacks.proofs.Search.{by_keys}
 use Rattle.plan_stacks.specs.Stacks.{key_step}
 use Rattle.plan_stacks.proofs.open_at.Goals as goal

@@ -4,7 +4,6 @@ use mathlib.Core.List.{List}
 use mathlib.Core.Path.{ap₂, ◌∙◌}
 use native.Mathlib.Numerals.{add-one}
 use Rattle.plan_stacks.specs.Stacks.{with_size}
-use borrow.Author.Rules.{rules}
 use Rattle.plan_stacks.proofs.push.Goals as goal
 
 pub returns : goal.returns

@@ -2,7 +2,6 @@
 use Prim.Native.Nat.{ℕ}
 use mathlib.Core.Path.{ap}
 use Rattle.plan_cells.specs.Cells.{two_at}
-use borrow.Author.Rules.{rules}
 use Rattle.plan_stacks.proofs.write_entry.Goals as goal
 
 pub returns : goal.returns

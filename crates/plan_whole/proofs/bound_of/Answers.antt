@@ -2,7 +2,6 @@
 use Prim.Native.Nat.{◌-◌}
 use native.Mathlib.Omega.{arith}
 use Rattle.plan_whole.proofs.Bounds.{no_bound, real_bound, quarters_fit}
-use borrow.Author.Rules.{rules}
 use Rattle.plan_whole.proofs.bound_of.Goals as goal
 
 pub returns-then-q-eq0 : goal.returns-then-q-eq0

@@ -1,6 +1,6 @@
 -- `plan_whole::plan_scanned` meets its contract: the top of the source's stack begins the plan. Assumes nothing.
 use Prim.Native.Nat.{◌-◌, ◌<◌, ◌≤◌}
-use mathlib.Core.Path.{◌≡◌, sym, ap, ap₂, subst, ◌∙◌}
+use mathlib.Core.Path.{◌≡◌, sym, ap₂, subst, ◌∙◌}
 use native.Mathlib.Omega.{arith}
 use Rattle.query.specs.Query.{most_gate}
 use Rattle.plans.specs.declared.Goal.{Goal}

@@ -1,8 +1,6 @@
 -- `plan_whole::rows_missed` meets its contract: rows are cut where one is ready. Assumes nothing.
 use mathlib.Core.Path.{subst}
-use native.Mathlib.Omega.{arith}
 use Rattle.plan_rows.specs.Reading.{rows_in, Cut}
-use borrow.Author.Rules.{rules}
 use Rattle.plan_whole.proofs.rows_missed.Goals as goal
 
 pub returns : goal.returns

@@ -1,6 +1,5 @@
 -- `plan_whole::rows_within` meets its contract: all rows, or those before the bound. Assumes nothing.
 use native.Mathlib.Omega.{arith}
-use borrow.Author.Rules.{rules}
 use Rattle.plan_whole.proofs.rows_within.Goals as goal
 
 pub returns : goal.returns

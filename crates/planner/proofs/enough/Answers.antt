@@ -2,7 +2,6 @@
 use mathlib.Core.Path.{ap}
 use lib.Dec.{leb}
 use Rattle.planner.specs.Admission.{enough}
-use borrow.Author.Rules.{rules}
 use Rattle.planner.proofs.enough.Goals as goal
 
 pub returns : goal.returns

@@ -1,7 +1,6 @@
 -- `planner::needed` meets its contract, and no number in it wraps. Assumes nothing.
 use native.Mathlib.Omega.{arith}
 use Rattle.planner.proofs.Admitting.{small_product}
-use borrow.Author.Rules.{rules}
 use Rattle.planner.proofs.needed.Goals as goal
 
 pub overflow_mul-result : goal.overflow_mul-result

@@ -2,7 +2,6 @@
 use mathlib.Core.Path.{ap, ◌∙◌}
 use Rattle.query.specs.Query.{four_numbers, with_margin, with_gate}
 use Rattle.query.proofs.Rules.{eight_bytes, ten_bytes, twelve_bytes, other_length}
-use borrow.Author.Rules.{rules}
 use Rattle.query.proofs.query_in.Goals as goal
 
 pub returns-then-bytes-eq-QUERY_BYTES : goal.returns-then-bytes-eq-QUERY_BYTES

@@ -1,6 +1,5 @@
 -- `query::query_of` meets its contract: each number as it is. Assumes nothing.
 use Rattle.query.specs.Query.{plain_query, with_code, with_margin, with_gate}
-use borrow.Author.Rules.{rules}
 use Rattle.query.proofs.query_of.Goals as goal
 
 pub returns : goal.returns

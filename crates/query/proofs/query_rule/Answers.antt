@@ -2,7 +2,6 @@
 use mathlib.Core.Path.{sym, ◌∙◌}
 use borrow.Author.Tests.{not-true, not-false}
 use Rattle.query.proofs.Rules.{journey_breaks, code_breaks, margin_breaks, gate_decides_rule}
-use borrow.Author.Rules.{rules}
 use Rattle.query.proofs.query_rule.Goals as goal
 
 pub returns-then-not-journey_rule : goal.returns-then-not-journey_rule

@@ -1,6 +1,5 @@
 -- `query::read_with` meets its contract: the four numbers, and the margin and gate time that are given. Assumes nothing.
 use Rattle.query.specs.Query.{plain_query, with_code, with_margin, with_gate}
-use borrow.Author.Rules.{rules}
 use Rattle.query.proofs.read_with.Goals as goal
 
 pub returns : goal.returns

@@ -1,7 +1,6 @@
 -- `sayurimpak::sayurimpak_plan` meets its contract: the call with the least margin. Assumes nothing.
 use Prim.Native.Nat.{ℕ}
 use mathlib.Core.Path.{ap, ◌∙◌}
-use borrow.Author.Rules.{rules}
 use Rattle.file_layout.specs.Format.{version_one}
 use Rattle.query.specs.Query.{plain_query, with_code, with_margin}
 use Rattle.sayurimpak.specs.Desk.{DeskOutcome, desk_outcome}

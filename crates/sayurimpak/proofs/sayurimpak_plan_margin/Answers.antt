@@ -1,5 +1,4 @@
 -- `sayurimpak::sayurimpak_plan_margin` meets its contract: the call with gate time 0. Assumes nothing.
-use borrow.Author.Rules.{rules}
 use Rattle.sayurimpak.proofs.sayurimpak_plan_margin.Goals as goal
 
 pub returns : goal.returns

@@ -4,7 +4,6 @@ use native.Mathlib.Omega.{arith}
 use Rattle.clock.specs.Text.{time_text}
 use Rattle.sheet_text.specs.Sheet.{call_text}
 use Rattle.text.proofs.Putting.{put_more, put_as}
-use borrow.Author.Rules.{rules}
 use Rattle.sheet_text.proofs.put_call.Goals as goal
 
 pub returns : goal.returns

@@ -1,9 +1,7 @@
 -- `sheet_text::put_expected` meets its contract. Assumes nothing.
 use mathlib.Core.Path.{ap}
-use native.Mathlib.Omega.{arith}
 use Rattle.clock.specs.Text.{time_text}
 use Rattle.text.proofs.Putting.{put_as}
-use borrow.Author.Rules.{rules}
 use Rattle.sheet_text.proofs.put_expected.Goals as goal
 
 pub returns : goal.returns

@@ -2,7 +2,6 @@
 use native.Mathlib.Omega.{arith}
 use Rattle.sheet_text.specs.Sheet.{line_text}
 use Rattle.text.proofs.Putting.{put_more}
-use borrow.Author.Rules.{rules}
 use Rattle.sheet_text.proofs.put_line.Goals as goal
 
 pub returns : goal.returns

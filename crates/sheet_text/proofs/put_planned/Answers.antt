@@ -9,7 +9,6 @@ use Rattle.plan_slice.specs.Slice.{rides_in, RidesFit}
 use Rattle.text.proofs.Putting.{put_more, put_as, put_length}
 use Rattle.sheet_text.specs.Sheet.{first_text, refused_text, rides_text}
 use Rattle.sheet_text.proofs.Asked.{holds, trailer_read, refusal_text, plan_fits, plan_lines}
-use borrow.Author.Rules.{rules}
 use Rattle.sheet_text.proofs.put_planned.Goals as goal
 
 pub put_rides-requires : goal.put_rides-requires

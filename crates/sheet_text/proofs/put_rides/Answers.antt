@@ -1,15 +1,12 @@
 -- `sheet_text::put_rides` meets its contract: the lines of the rides that are left make the whole. Assumes nothing.
-use Prim.Native.Nat.{◌+◌, ◌*◌, ◌-◌, ◌≤◌, ◌<◌}
+use Prim.Native.Nat.{◌*◌, ◌-◌}
 use mathlib.Core.Path.{◌≡◌, ◌∙◌}
-use mathlib.Core.List.{List}
 use native.Mathlib.Omega.{arith}
-use borrow.Author.Rules.{rules}
-use lib.ListN.{length, take, drop}
+use lib.ListN.{take}
 use Rattle.timetable.specs.Timetable.{Timetable}
 use Rattle.file_layout.specs.Decode.{decode}
 use Rattle.plan_slice.specs.Slice.{rides_in}
-use Rattle.text.proofs.Putting.{Left, left_all, put_length}
-use Rattle.sheet_text.specs.Room.{line_width}
+use Rattle.text.proofs.Putting.{left_all, put_length}
 use Rattle.sheet_text.specs.Sheet.{rides_text}
 use Rattle.sheet_text.proofs.Lines.{line_read, lines_on, lines_end}
 use Rattle.sheet_text.proofs.put_rides.Goals as goal

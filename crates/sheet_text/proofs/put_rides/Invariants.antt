@@ -1,16 +1,11 @@
-use Prim.Native.Nat.{◌+◌, ◌*◌, ◌-◌, ◌≤◌, ◌<◌}
-use mathlib.Core.Path.{◌≡◌, ◌∙◌}
-use mathlib.Core.List.{List}
-use native.Mathlib.Omega.{arith}
-use borrow.Author.Rules.{rules}
+use Prim.Native.Nat.{◌+◌, ◌*◌, ◌-◌, ◌≤◌}
+use mathlib.Core.Path.{◌≡◌}
 use lib.ListN.{length, take, drop}
-use Rattle.timetable.specs.Timetable.{Timetable}
 use Rattle.file_layout.specs.Decode.{decode}
 use Rattle.plan_slice.specs.Slice.{rides_in}
-use Rattle.text.proofs.Putting.{Left, left_all, put_length}
+use Rattle.text.proofs.Putting.{Left}
 use Rattle.sheet_text.specs.Room.{line_width}
 use Rattle.sheet_text.specs.Sheet.{rides_text}
-use Rattle.sheet_text.proofs.Lines.{line_read, lines_on, lines_end}
 use Rattle.sheet_text.proofs.put_rides.Given as goal
 
 abbrev pub invariant-loop-i : goal.invariant-loop-i

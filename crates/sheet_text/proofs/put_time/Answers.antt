@@ -2,7 +2,6 @@
 use native.Mathlib.Omega.{arith}
 use Rattle.text.proofs.Putting.{put_as}
 use Rattle.sheet_text.proofs.Times.{printed_text}
-use borrow.Author.Rules.{rules}
 use Rattle.sheet_text.proofs.put_time.Goals as goal
 
 pub returns : goal.returns

@@ -1,7 +1,6 @@
 -- `sheet_text::refusal_of` meets its contract. Assumes nothing.
 use mathlib.Core.Path.{ap, sym}
 use Rattle.file_layout.specs.Check.{answer_of}
-use borrow.Author.Rules.{rules}
 use Rattle.sheet_text.proofs.refusal_of.Goals as goal
 
 pub returns-in-Sound : goal.returns-in-Sound

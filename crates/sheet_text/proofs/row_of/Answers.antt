@@ -9,7 +9,6 @@ use Rattle.file_layout.specs.declared.Format.{Format}
 use Rattle.file_layout.specs.declared.Trailer.{Trailer}
 use Rattle.file_layout.specs.Decode.{decode, trailer_of, row_at}
 use Rattle.file_layout.specs.Sound.{SoundFile}
-use borrow.Author.Rules.{rules}
 use Rattle.sheet_text.proofs.row_of.Goals as goal
 
 module _ {f : Format} {file : List ℕ} {trailer : Trailer} {i : ℕ} (sound : SoundFile f file) (read : trailer ≡ trailer_of f file)

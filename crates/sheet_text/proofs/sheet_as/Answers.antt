@@ -1,8 +1,6 @@
 -- `sheet_text::sheet_as` meets its contract: each way to its return writes the text of its case. Assumes nothing.
 use mathlib.Core.Path.{sym, ◌∙◌}
-use native.Mathlib.Omega.{arith}
 use Rattle.sheet_text.proofs.Sheets.{refused_sheet, asked_sheet, no_room_lem, sheet_written}
-use borrow.Author.Rules.{rules}
 use Rattle.sheet_text.proofs.sheet_as.Goals as goal
 
 pub returns-then-out-lt-SHEET_ROOM : goal.returns-then-out-lt-SHEET_ROOM

@@ -1,7 +1,6 @@
 -- `tally::count` meets its contract: each return is one line of the outcome. Assumes nothing.
 use mathlib.Core.Path.{refl, ap, sym, ◌∙◌}
 use native.Mathlib.Omega.{arith}
-use borrow.Author.Rules.{rules}
 use Rattle.laws.proofs.Tests.{rule_breaks, rule_keeps}
 use Rattle.tally.specs.Outcome.{TallyOutcome}
 use Rattle.tally.proofs.Places.{place_inside, minutes_small}

@@ -1,11 +1,11 @@
 -- `tally::counts_rule` meets its contract: the whole rule is that of the largest so far and of the counts left. Assumes nothing.
-use Prim.Native.Nat.{suc, ◌-◌, ◌≤◌}
+use Prim.Native.Nat.{suc, ◌-◌}
 use mathlib.Core.Bool.{◌&&◌}
-use mathlib.Core.Path.{◌≡◌, refl, sym, ap, ◌∙◌}
+use mathlib.Core.Path.{refl, sym, ap, ◌∙◌}
 use native.Mathlib.Numerals.{add-one}
 use native.Mathlib.Omega.{arith}
 use lib.Dec.{leb}
-use lib.ListN.{length, drop}
+use lib.ListN.{drop}
 use Rattle.tally.specs.Tally.{most_count, counts_rule}
 use Rattle.tally.proofs.Counts.{rule_on, rule_end}
 use Rattle.tally.proofs.counts_rule.Goals as goal

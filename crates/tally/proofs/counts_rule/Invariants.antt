@@ -1,12 +1,9 @@
-use Prim.Native.Nat.{suc, ◌-◌, ◌≤◌}
+use Prim.Native.Nat.{◌-◌, ◌≤◌}
 use mathlib.Core.Bool.{◌&&◌}
-use mathlib.Core.Path.{◌≡◌, refl, sym, ap, ◌∙◌}
-use native.Mathlib.Numerals.{add-one}
-use native.Mathlib.Omega.{arith}
+use mathlib.Core.Path.{◌≡◌}
 use lib.Dec.{leb}
 use lib.ListN.{length, drop}
 use Rattle.tally.specs.Tally.{most_count, counts_rule}
-use Rattle.tally.proofs.Counts.{rule_on, rule_end}
 use Rattle.tally.proofs.counts_rule.Given as goal
 
 abbrev pub invariant-loop-i : goal.invariant-loop-i

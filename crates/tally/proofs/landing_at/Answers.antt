@@ -1,5 +1,4 @@
 -- `tally::landing_at` meets its contract: two numbers read. Assumes nothing.
-use borrow.Author.Rules.{rules}
 use Rattle.tally.specs.Landing.{landing_at}
 use Rattle.tally.proofs.landing_at.Goals as goal
 

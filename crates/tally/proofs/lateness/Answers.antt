@@ -1,5 +1,4 @@
 -- `tally::lateness` meets its contract: the difference of two signed minutes fits, and is read back from its bits. Assumes nothing.
-use borrow.Author.Rules.{rules}
 use Rattle.tally.proofs.Differences.{lateness_fits, lateness_is}
 use Rattle.tally.proofs.lateness.Goals as goal
 

@@ -1,13 +1,12 @@
 -- `tally::log_as` meets its contract: the whole log's outcome is that of what is left of it from here. Assumes nothing.
-use Prim.Native.Nat.{◌*◌, ◌-◌, ◌≤◌, ◌/◌}
-use mathlib.Core.Path.{◌≡◌, refl, ap, sym, ◌∙◌}
+use Prim.Native.Nat.{◌-◌}
+use mathlib.Core.Path.{refl, ap, sym, ◌∙◌}
 use native.Mathlib.Omega.{arith}
-use borrow.Author.Rules.{rules}
 use lib.ListN.{length}
 use Rattle.tally.specs.Tally.{counts_rule}
-use Rattle.tally.specs.LogOutcome.{LogOutcome, landings_in, log_outcome}
+use Rattle.tally.specs.LogOutcome.{LogOutcome}
 use Rattle.tally.proofs.Kept.{counted_keeps}
-use Rattle.tally.proofs.LogSteps.{rest, outcome_length, log_on, log_stopped, log_end, log_whole}
+use Rattle.tally.proofs.LogSteps.{outcome_length, log_on, log_stopped, log_end, log_whole}
 use Rattle.tally.proofs.log_as.Goals as goal
 
 pub loop-i-init : goal.loop-i-init

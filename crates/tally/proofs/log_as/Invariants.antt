@@ -1,12 +1,9 @@
-use Prim.Native.Nat.{◌*◌, ◌-◌, ◌≤◌, ◌/◌}
-use mathlib.Core.Path.{◌≡◌, refl, ap, sym, ◌∙◌}
-use native.Mathlib.Omega.{arith}
-use borrow.Author.Rules.{rules}
+use Prim.Native.Nat.{◌*◌, ◌-◌, ◌≤◌}
+use mathlib.Core.Path.{◌≡◌}
 use lib.ListN.{length}
 use Rattle.tally.specs.Tally.{counts_rule}
-use Rattle.tally.specs.LogOutcome.{LogOutcome, landings_in, log_outcome}
-use Rattle.tally.proofs.Kept.{counted_keeps}
-use Rattle.tally.proofs.LogSteps.{rest, outcome_length, log_on, log_stopped, log_end, log_whole}
+use Rattle.tally.specs.LogOutcome.{landings_in, log_outcome}
+use Rattle.tally.proofs.LogSteps.{rest}
 use Rattle.tally.proofs.log_as.Given as goal
 
 abbrev pub invariant-loop-i : goal.invariant-loop-i

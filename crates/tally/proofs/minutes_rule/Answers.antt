@@ -1,5 +1,4 @@
 -- `tally::minutes_rule` meets its contract: the first minute that is past the last decides. Assumes nothing.
-use mathlib.Core.Path.{sym, ◌∙◌}
 use borrow.Author.Tests.{lt-leb, le-leb}
 use Rattle.tally.specs.Tally.{minutes_rule}
 use Rattle.tally.proofs.minutes_rule.Goals as goal

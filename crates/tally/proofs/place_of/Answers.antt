@@ -1,6 +1,5 @@
 -- `tally::place_of` meets its contract: by lateness up to the longest delay, and behind it what is later. Assumes nothing.
 use mathlib.Core.Path.{◌∙◌}
-use borrow.Author.Rules.{rules}
 use Rattle.tally.proofs.Differences.{counted_back}
 use Rattle.tally.proofs.Places.{late_placed, over_placed}
 use Rattle.tally.proofs.place_of.Goals as goal

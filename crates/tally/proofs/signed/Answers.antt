@@ -1,5 +1,4 @@
 -- `tally::signed` meets its contract: a minute below 2^31 has no sign. Assumes nothing.
-use borrow.Author.Rules.{rules}
 use Rattle.tally.proofs.Differences.{minute_signed}
 use Rattle.tally.proofs.signed.Goals as goal
 

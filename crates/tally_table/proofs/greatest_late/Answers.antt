@@ -1,8 +1,5 @@
 -- `tally_table::greatest_late` meets its contract: what is found from the top is what is found from here. Assumes nothing.
-use Prim.Native.Nat.{◌≤◌, ◌<◌}
-use mathlib.Core.Path.{◌≡◌}
 use native.Mathlib.Omega.{arith}
-use lib.ListN.{length}
 use Rattle.tally_table.specs.Table.{greatest_late}
 use Rattle.tally_table.proofs.Greatest.{found_here, found_earlier, found_at_last}
 use Rattle.tally_table.proofs.greatest_late.Goals as goal

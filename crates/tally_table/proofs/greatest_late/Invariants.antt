@@ -1,9 +1,7 @@
-use Prim.Native.Nat.{◌≤◌, ◌<◌}
+use Prim.Native.Nat.{◌<◌}
 use mathlib.Core.Path.{◌≡◌}
-use native.Mathlib.Omega.{arith}
 use lib.ListN.{length}
 use Rattle.tally_table.specs.Table.{greatest_late}
-use Rattle.tally_table.proofs.Greatest.{found_here, found_earlier, found_at_last}
 use Rattle.tally_table.proofs.greatest_late.Given as goal
 
 abbrev pub invariant-loop-x : goal.invariant-loop-x

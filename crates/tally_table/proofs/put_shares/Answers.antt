@@ -1,15 +1,12 @@
 -- `tally_table::put_shares` meets its contract: the whole is what stands and the rest of the shares from here. Assumes nothing.
-use Prim.Native.Nat.{suc, ◌+◌, ◌-◌, ◌≤◌}
-use mathlib.Core.Path.{◌≡◌, refl, sym, ap, ◌∙◌}
+use Prim.Native.Nat.{◌+◌, ◌-◌}
+use mathlib.Core.Path.{refl, sym, ap, ◌∙◌}
 use native.Mathlib.Nat.{zero-div}
 use native.Mathlib.Numerals.{add-one}
 use native.Mathlib.Omega.{arith}
-use borrow.Author.Rules.{rules}
-use lib.ListN.{length, take, length-set}
-use lib.Seq.{sets}
+use lib.ListN.{length-set}
 use Rattle.timetable.specs.Classes.{sum}
-use Rattle.tally_table.specs.Table.{share_of}
-use Rattle.tally_table.proofs.Shares.{rest, sum_more, share_rises, share_within, turn_within, turn_keeps, shares_end, shares_whole}
+use Rattle.tally_table.proofs.Shares.{sum_more, share_rises, share_within, turn_within, turn_keeps, shares_end, shares_whole}
 use Rattle.tally_table.proofs.put_shares.Goals as goal
 
 pub loop-x-init : goal.loop-x-init

@@ -1,14 +1,10 @@
-use Prim.Native.Nat.{suc, ◌+◌, ◌-◌, ◌≤◌}
-use mathlib.Core.Path.{◌≡◌, refl, sym, ap, ◌∙◌}
-use native.Mathlib.Nat.{zero-div}
-use native.Mathlib.Numerals.{add-one}
-use native.Mathlib.Omega.{arith}
-use borrow.Author.Rules.{rules}
-use lib.ListN.{length, take, length-set}
+use Prim.Native.Nat.{◌+◌, ◌-◌, ◌≤◌}
+use mathlib.Core.Path.{◌≡◌}
+use lib.ListN.{length, take}
 use lib.Seq.{sets}
 use Rattle.timetable.specs.Classes.{sum}
 use Rattle.tally_table.specs.Table.{share_of}
-use Rattle.tally_table.proofs.Shares.{rest, sum_more, share_rises, share_within, turn_within, turn_keeps, shares_end, shares_whole}
+use Rattle.tally_table.proofs.Shares.{rest}
 use Rattle.tally_table.proofs.put_shares.Given as goal
 
 abbrev pub invariant-loop-x : goal.invariant-loop-x

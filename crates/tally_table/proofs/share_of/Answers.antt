@@ -1,6 +1,5 @@
 -- `tally_table::share_of` meets its contract: the estimate or one more, as the comparison says. Assumes nothing.
 use native.Mathlib.Omega.{arith}
-use borrow.Author.Rules.{rules}
 use Rattle.tally_table.proofs.Reciprocals.{product_within, estimate_below, one_more, as_estimated}
 use Rattle.tally_table.proofs.share_of.Goals as goal
 

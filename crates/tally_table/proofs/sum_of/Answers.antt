@@ -1,10 +1,7 @@
 -- `tally_table::sum_of` meets its contract: the whole sum is what is summed so far and the sum of the counts left. Assumes nothing.
-use Prim.Native.Nat.{◌+◌, ◌-◌, ◌≤◌}
-use mathlib.Core.Path.{◌≡◌}
+use Prim.Native.Nat.{◌-◌}
 use native.Mathlib.Numerals.{add-one}
 use native.Mathlib.Omega.{arith}
-use lib.ListN.{length, drop}
-use Rattle.timetable.specs.Classes.{sum}
 use Rattle.tally_table.proofs.Sums.{sum_on, sum_end, sum_within}
 use Rattle.tally_table.proofs.sum_of.Goals as goal
 

@@ -1,9 +1,8 @@
 -- `text::number_text` meets its contract: the digits from the last to the first. Assumes nothing.
 use native.Mathlib.Omega.{arith}
-use borrow.Author.Rules.{rules}
 use mathlib.Core.Path.{refl}
 use lib.ListN.{replicate}
-use Rattle.text.proofs.Digits.{Counted, counted_start, counted_on, counted_room, counted_end}
+use Rattle.text.proofs.Digits.{counted_start, counted_on, counted_room, counted_end}
 use Rattle.text.proofs.number_text.Goals as goal
 
 pub overflow_cast-n : goal.overflow_cast-n

@@ -1,8 +1,4 @@
-use native.Mathlib.Omega.{arith}
-use borrow.Author.Rules.{rules}
-use mathlib.Core.Path.{refl}
-use lib.ListN.{replicate}
-use Rattle.text.proofs.Digits.{Counted, counted_start, counted_on, counted_room, counted_end}
+use Rattle.text.proofs.Digits.{Counted}
 use Rattle.text.proofs.number_text.Given as goal
 
 abbrev pub invariant-loop-left : goal.invariant-loop-left

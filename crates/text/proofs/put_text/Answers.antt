@@ -1,9 +1,8 @@
 -- `text::put_text` meets its contract: what is still to be written makes the whole text. Assumes nothing.
-use Prim.Native.Nat.{◌+◌, ◌-◌, ◌≤◌, ◌<◌}
-use mathlib.Core.Path.{◌≡◌}
+use Prim.Native.Nat.{◌<◌}
 use native.Mathlib.Omega.{arith}
 use lib.ListN.{length, drop, length-set}
-use Rattle.text.proofs.Putting.{Left, left_all, text_on, text_end}
+use Rattle.text.proofs.Putting.{left_all, text_on, text_end}
 use Rattle.text.proofs.put_text.Goals as goal
 
 pub loop-i-init : goal.loop-i-init

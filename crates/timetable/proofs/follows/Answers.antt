@@ -1,6 +1,5 @@
 -- `timetable::follows` meets its contract: the landing stop first, then the minute. Assumes nothing.
 use mathlib.Core.Path.{sym}
-use borrow.Author.Rules.{rules}
 use Rattle.laws.proofs.Tests.{rule_breaks, rule_keeps}
 use Rattle.timetable.specs.Rows.{follows}
 use Rattle.timetable.proofs.follows.Goals as goal

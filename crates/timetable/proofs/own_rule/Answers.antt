@@ -1,7 +1,6 @@
 -- `timetable::own_rule` meets its contract: a rule that is broken breaks the whole, and the last decides once the others are kept. Assumes nothing.
 use mathlib.Core.Bool.{Bool, true, ◌&&◌}
 use mathlib.Core.Path.{◌≡◌, sym, ◌∙◌}
-use borrow.Author.Rules.{rules}
 use Rattle.laws.proofs.Tests.{false_right, rule_breaks, rule_keeps}
 use Rattle.timetable.specs.Rows.{own_rule}
 use Rattle.timetable.proofs.own_rule.Goals as goal

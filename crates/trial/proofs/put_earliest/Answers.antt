@@ -1,6 +1,5 @@
 -- `trial::put_earliest` meets its contract, in each arm by the answer's case. Assumes nothing.
-use mathlib.Core.Path.{◌≡◌, sym, ap, ◌∙◌}
-use borrow.Author.Rules.{rules}
+use mathlib.Core.Path.{sym, ap, ◌∙◌}
 use Rattle.planner.specs.Outcome.{earliest_answer}
 use Rattle.trial_answers.specs.Seen.{six, seen}
 use Rattle.trial.proofs.put_earliest.Goals as goal

@@ -1,6 +1,6 @@
 -- `trial::trial_check` meets its contract, in each arm by the check's case. Assumes nothing.
 use Prim.Native.Nat.{◌<◌}
-use mathlib.Core.Path.{◌≡◌, sym, ap, ◌∙◌}
+use mathlib.Core.Path.{◌≡◌, sym, ◌∙◌}
 use native.Mathlib.Omega.{arith}
 use Rattle.file_layout.specs.declared.Checked.TheVariants.{Sound, Refused}
 use Rattle.file_layout.specs.Check.{checked}

@@ -1,6 +1,5 @@
 -- `trial::trial_earliest_gate` meets its contract. Assumes nothing.
 use mathlib.Core.Path.{ap, ◌∙◌}
-use borrow.Author.Rules.{rules}
 use Rattle.file_layout.specs.Format.{version_one}
 use Rattle.query.specs.declared.Query.{Query}
 use Rattle.query.specs.Query.{plain_query, with_gate}

@@ -1,6 +1,5 @@
 -- `trial::trial_house` meets its contract, in each arm by the answer's case. Assumes nothing.
-use mathlib.Core.Path.{◌≡◌, sym, ap, ◌∙◌}
-use borrow.Author.Rules.{rules}
+use mathlib.Core.Path.{sym, ap, ◌∙◌}
 use Rattle.house.specs.HouseShare.{house_answer}
 use Rattle.trial_answers.specs.Seen.{six, seen}
 use Rattle.trial.proofs.trial_house.Goals as goal

@@ -1,7 +1,6 @@
 -- `trial::trial_plan` meets its contract: the plan with the least margin. Assumes nothing.
 use Prim.Native.Nat.{ℕ}
 use mathlib.Core.Path.{ap, ◌∙◌}
-use borrow.Author.Rules.{rules}
 use Rattle.file_layout.specs.Format.{version_one}
 use Rattle.query.specs.Query.{plain_query, with_code, with_margin}
 use Rattle.planner.specs.Outcome.{PlanOutcome, plan_outcome, plan_answer}

@@ -3,7 +3,6 @@ use mathlib.Core.List.{[], ◌∷◌}
 use native.Mathlib.Omega.{arith}
 use lib.ListN.{length-set}
 use Rattle.trial_answers.proofs.Six.{too_short, six_stores}
-use borrow.Author.Rules.{rules}
 use Rattle.trial_answers.proofs.put_six.Goals as goal
 
 pub returns-then-answer-lt6 : goal.returns-then-answer-lt6

@@ -2,7 +2,6 @@
 use native.Mathlib.Omega.{arith}
 use Rattle.clock.specs.Text.{face_text}
 use Rattle.clock.proofs.Days.{hour_below, minute_below}
-use borrow.Author.Rules.{rules}
 use Rattle.clock.proofs.Minute.face.Goals as goal
 
 pub digit-requires : goal.digit-requires

@@ -3,7 +3,7 @@ use mathlib.Core.Path.{ap}
 use lib.ListN.{drop}
 use native.Mathlib.Omega.{arith}
 use borrow.Author.Rules.{rules}
-use Rattle.clock.proofs.Writing.{Written, written_start, written_on, written_end}
+use Rattle.clock.proofs.Writing.{written_start, written_on, written_end}
 use Rattle.clock.proofs.Minute.time_text.Goals as goal
 
 pub loop-left-init : goal.loop-left-init

@@ -1,8 +1,5 @@
-use mathlib.Core.Path.{ap}
 use lib.ListN.{drop}
-use native.Mathlib.Omega.{arith}
-use borrow.Author.Rules.{rules}
-use Rattle.clock.proofs.Writing.{Written, written_start, written_on, written_end}
+use Rattle.clock.proofs.Writing.{Written}
 use Rattle.clock.proofs.Minute.time_text.Given as goal
 
 abbrev pub invariant-loop-left : goal.invariant-loop-left
