@@ -2,7 +2,6 @@
 use Prim.Native.Nat.{◌-◌, ◌/◌, zero-le, ◌≤◌, ◌<◌}
 use native.Mathlib.Omega.{arith}
 use mathlib.Core.Path.{refl, sym, ◌∙◌}
-use borrow.Author.Tests.{not-true, not-false}
 use Rattle.file_layout.specs.Decode.{decode}
 use Rattle.explain_starts.proofs.Asking.{fits_again, cleared_again}
 use Rattle.explain_starts.proofs.Closing.{never_any, closing_first, closing_up, closing_down, closing_end}
@@ -16,7 +15,7 @@ returns-then-not-starts_at c =
     let p = c in
     let a = p.args in
     let asked = p.starts_at.ensures in
-    (never_any (decode a.f a.file.now) a.source a.target a.gate a.f.lastminute (asked.0.no (not-true _ c.if-not-starts_at.true-raw)), asked.1)
+    (never_any (decode a.f a.file.now) a.source a.target a.gate a.f.lastminute (asked.0.no c.if-not-starts_at.true), asked.1)
 
 pub loop-low-init : goal.loop-low-init
 loop-low-init c =
@@ -27,7 +26,7 @@ loop-low-init c =
       asked.1 ∙ sym (cleared_again a.args.f a.args.file.now a.args.work.now asked.1),
       refl,
       closing_first (decode a.args.f a.args.file.now) a.args.source a.args.target a.args.gate a.args.f.lastminute
-          (asked.0.yes (not-false _ c.if-not-starts_at.false-raw)),
+          (asked.0.yes c.if-not-starts_at.false),
     )
 
 pub overflow_sub-middle-in-loop-low : goal.overflow_sub-middle-in-loop-low
