@@ -16,7 +16,7 @@ START, END = "```mermaid\n", "```\n"
 def stands_on():
     """Each crate of crates.txt with the crates of ours that it directly uses."""
     lines = [line for line in pathlib.Path("crates.txt").read_text().splitlines() if line.strip() and not line.startswith("#")]
-    used = {name: below.split() for name, below in (line.split(":") for line in lines)}
+    used = {name.split()[0]: below.split() for name, below in (line.split(":") for line in lines)}
     return {name: [crate for crate in below if crate in used] for name, below in used.items()}
 
 
