@@ -44,12 +44,12 @@ module _ (t : Timetable) (timely : Timely t) (q : Query) (p : Plan) (made : Made
       (omega (
         arith,
         ap (λ w. w.minute) is,
-        boards_minute e.first.ride e.window.stop e.window.minute (window_boards e.window e.first.ride e.in_window_lem),
+        boards_minute e.first.ride e.window.stop e.window.minute (window_boards e.window e.first.ride e.within_window),
       ))
       (λ s there opens. can_board s.ride q.source e.first.ride.departs (boards_stop s.ride q.source (ready_at q) opens)
       (omega (
         arith,
-        window_until e.window e.first.ride e.in_window_lem,
+        window_until e.window e.first.ride e.within_window,
         ap (λ w. w.until) is,
         taken_after chosen (extract q.gate q.target windows chosen) (for_ordered t timely (goal_of q p.bound))
             (λ v among. extract_member q.gate q.target chosen windows among) q.source (ready_at q) found.1 e.delayed s there opens,

@@ -92,10 +92,10 @@ delayed_choice (delay_first {r = r} {s = s} {rides = rides} {sailed = sailed} sa
 -- there is a choice: nobody is late
 pub on_time :
     (rides : List Ride) → ((r : Ride) → Memᴰ r rides → 0 < length r.shares) → (sailed : List Sailed) × Delayed rides sailed
-on_time [] some_Share = ([], undelayed)
-on_time (r ∷ rides) some_Share =
-    let behind = on_time rides (λ u there. some_Share u (Memᴰ.tail there)) in
-    (late r 0 ∷ behind.0, delay_first refl (some_Share r (Memᴰ.head refl)) behind.1)
+on_time [] some_share = ([], undelayed)
+on_time (r ∷ rides) some_share =
+    let behind = on_time rides (λ u there. some_share u (Memᴰ.tail there)) in
+    (late r 0 ∷ behind.0, delay_first refl (some_share r (Memᴰ.head refl)) behind.1)
 
 map_append : (f : List Sailed → ℕ) (xs ys : List (List Sailed)) → map f (xs ++ ys) ≡ map f xs ++ map f ys
 map_append f [] ys = refl

@@ -127,7 +127,7 @@ pub record Entry (gate : ℕ) (ws : List Window) (chosen taken : List Valued) (r
   pub among : Memᴰ window ws
   pub first : Valued
   pub is_chosen : Memᴰ first chosen
-  pub in_window_lem : in_window window first.ride ≡ true
+  pub within_window : in_window window first.ride ≡ true
   pub sailed : List Sailed
   pub delayed : Delayed (rides_of taken) sailed
   pub meets : Meets gate r sailed window.stop first.ride.departs
@@ -149,7 +149,7 @@ module _ {gate : ℕ} {ws : List Window} {u : Valued} {behind taken : List Value
         among = among;
         first = u;
         is_chosen = Memᴰ.head refl;
-        in_window_lem = in_it;
+        within_window = in_it;
         sailed = late u.ride 0 ∷ others.0;
         delayed = delay_first refl some_share others.1;
         meets = here refl (window_departs w u.ride in_it);
@@ -171,7 +171,7 @@ module _ {gate : ℕ} {ws : List Window} {u : Valued} {behind taken : List Value
         among = among;
         first = u;
         is_chosen = Memᴰ.head refl;
-        in_window_lem = in_it;
+        within_window = in_it;
         sailed = late u.ride landed.delay ∷ e.sailed;
         delayed = delay_first refl landed.below e.delayed;
         meets = lands (window_departs w u.ride in_it) landed.meets;
@@ -183,7 +183,7 @@ module _ {gate : ℕ} {ws : List Window} {u : Valued} {behind taken : List Value
       none_between s there opens =
           omega (
             arith,
-            window_until e.window e.first.ride e.in_window_lem,
+            window_until e.window e.first.ride e.within_window,
             ap (λ x. x.until) opened.is,
             taken_after behind taken ordered part u.ride.to (ready gate (lands_by u.ride)) opened.is_first e.delayed s there opens,
           )
@@ -194,7 +194,7 @@ module _ {gate : ℕ} {ws : List Window} {u : Valued} {behind taken : List Value
           (omega (
             arith,
             ap (λ x. x.minute) opened.is,
-            boards_minute e.first.ride e.window.stop e.window.minute (window_boards e.window e.first.ride e.in_window_lem),
+            boards_minute e.first.ride e.window.stop e.window.minute (window_boards e.window e.first.ride e.within_window),
           ))
           none_between (subst (λ (stop : ℕ). Meets gate r e.sailed stop e.first.ride.departs) (ap (λ x. x.stop) opened.is) e.meets)
 
@@ -209,7 +209,7 @@ entry_older {u = u} some_share before e among =
       among = among;
       first = e.first;
       is_chosen = Memᴰ.tail e.is_chosen;
-      in_window_lem = e.in_window_lem;
+      within_window = e.within_window;
       sailed = late u.ride 0 ∷ e.sailed;
       delayed = delay_first refl some_share e.delayed;
       meets = passes shut e.meets;
@@ -219,7 +219,7 @@ entry_older {u = u} some_share before e among =
     stop = e.window.stop
 
     there : boards e.first.ride stop e.window.minute ≡ true
-    there = window_boards e.window e.first.ride e.in_window_lem
+    there = window_boards e.window e.first.ride e.within_window
 
     shut : boards u.ride stop e.first.ride.departs ≡ false
     shut =
@@ -240,7 +240,7 @@ entry_passed e =
       among = e.among;
       first = e.first;
       is_chosen = Memᴰ.tail e.is_chosen;
-      in_window_lem = e.in_window_lem;
+      within_window = e.within_window;
       sailed = e.sailed;
       delayed = e.delayed;
       meets = e.meets;

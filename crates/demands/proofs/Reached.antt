@@ -82,14 +82,14 @@ pub steps_in_time :
     (gate target last : ℕ) (sailed : List Sailed) → InRange sailed → ((r : Ride) → Memᴰ r (rides_sailed sailed) → lands_by r ≤ last)
     → (k : ℕ) (at : Standing) → at.minute ≤ last → (steps gate target sailed k at).minute ≤ last
 unfolding landed
-steps_in_time gate target last sailed ranged by_Last = steps_keep (λ at. at.minute ≤ last) gate target sailed lands
+steps_in_time gate target last sailed ranged by_last = steps_keep (λ at. at.minute ≤ last) gate target sailed lands
   where
     lands :
         (at : Standing) (s : Sailed) → at.minute ≤ last → first_sailed sailed at.stop (ready gate at.minute) ≡ some s
         → (landed at (some s)).minute ≤ last
     lands at s before found =
         let there = (found_sailed sailed at.stop (ready gate at.minute) found).0 in
-        le_trans (delay_latest s.ride s.delay (ranged s there)) (by_Last s.ride (Memᴰ.map (λ x. x.ride) there))
+        le_trans (delay_latest s.ride s.delay (ranged s there)) (by_last s.ride (Memᴰ.map (λ x. x.ride) there))
 
 -- a landing boards one ride at most
 pub steps_count :

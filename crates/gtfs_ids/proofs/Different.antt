@@ -41,4 +41,4 @@ number_at ids i different inside =
     (λ earlier.
     let before : number_of ids (get_or ids i []) < i = ltb-true (number_of ids (get_or ids i [])) i earlier in
     absurd (different.apart (number_of ids (get_or ids i [])) i before inside (number_points ids (get_or ids i []) (omega arith))))
-    (λ not_Earlier. omega (arith, number_known ids i inside, ltb-false (number_of ids (get_or ids i [])) i not_Earlier))
+    (λ not_earlier. omega (arith, number_known ids i inside, ltb-false (number_of ids (get_or ids i [])) i not_earlier))

@@ -68,8 +68,8 @@ module _ (book : List ℕ) (count : ℕ) (key : Key) (place : ℕ) where
         (λ earlier.
         let before : j < count = ltb-true j count earlier in
         chained.apart i j less before (sym one ∙ same ∙ kept_key book count key place j before))
-        (λ not_Earlier.
-        let last : j ≡ count = omega (arith, ltb-false j count not_Earlier) in
+        (λ not_earlier.
+        let last : j ≡ count = omega (arith, ltb-false j count not_earlier) in
         new i (omega arith) (sym one ∙ same ∙ ap (key_in longer) last ∙ with_key book count key place room))
 
     pub chained_with : Chained (book_with book count key place) (suc count)

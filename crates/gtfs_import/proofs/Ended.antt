@@ -38,7 +38,7 @@ use Rattle.gtfs_calls.proofs.ReadSound.{read_sound}
 use Rattle.gtfs_import.specs.declared.Imported.{Imported}
 use Rattle.gtfs_import.specs.declared.Imported.TheVariants.{Written, Refused}
 use Rattle.gtfs_import.specs.Import.{day_rule, ImportOutcome, refused_import, by_check, by_reading, import_outcome}
-use Rattle.gtfs_import.specs.Returned.{Asked, read_on, file_of, FileWritten, Reason, no_day, no_room_lem, text_fault, file_fault, Ended, refused, written}
+use Rattle.gtfs_import.specs.Returned.{Asked, read_on, file_of, FileWritten, Reason, no_day, little_room, text_fault, file_fault, Ended, refused, written}
 use Rattle.gtfs_import.proofs.Days.{served, day_kept, no_service_day, too_little_room, by_the_text}
 use Rattle.gtfs_import.proofs.Told.{kept_back}
 
@@ -122,7 +122,7 @@ module _ (text : List ℕ) (day : ℕ) (out : List ℕ) where
       (by_reading_lem (record { first = within.0; last = within.1; room = room }) (read_on day text) refl (fault_known (day_start day) text)))
       (λ short.
       let little = leb-false version_one.mostbytes (length out) short in
-      subst Ends (sym (too_little_room text day out service little)) (refused 7 0 (no_room_lem within.0 within.1 little) refl refl)))
+      subst Ends (sym (too_little_room text day out service little)) (refused 7 0 (little_room within.0 within.1 little) refl refl)))
       (λ none.
       subst Ends (sym (no_service_day text day out none))
       (refused 6 0 (no_day (λ first last. false≢true (sym none ∙ served day first last))) refl refl))

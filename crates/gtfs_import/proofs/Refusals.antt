@@ -15,7 +15,7 @@ use Rattle.gtfs_calls.specs.FaultNumbers.{TextFault, too_many, unreadable, bad_t
 use Rattle.gtfs_calls.specs.Reading.{said, wrong}
 use Rattle.gtfs_import.specs.Import.{first_day, last_day}
 use Rattle.file_writing.specs.Answers.{RefusedOnTime, few_stops, own_fault, order_fault}
-use Rattle.gtfs_import.specs.Returned.{Asked, read_on, file_of, Reason, no_day, no_room_lem, text_fault, file_fault, rows_in}
+use Rattle.gtfs_import.specs.Returned.{Asked, read_on, file_of, Reason, no_day, little_room, text_fault, file_fault, rows_in}
 use Rattle.gtfs_import.specs.Returned.{Refusal, too_few_stops, bad_row, bad_order, no_such_day, too_little_room, past_a_limit, unreadable_line, wrong_time, wrong_sequence}
 
 text_refusal : {n number column : ℕ} → TextFault number column → Refusal n number 0
@@ -49,42 +49,42 @@ one_stops (order_fault enough inside) e = absurd (let z : ⊥ = omega arith in z
 module _ {text : List ℕ} {day : ℕ} {out : List ℕ} where
   pub refusal_of : {number place : ℕ} → Reason text day out number place → Refusal (rows_in (read_on day text)) number place
   refusal_of (no_day none) = no_such_day
-  refusal_of (no_room_lem first last little) = too_little_room
+  refusal_of (little_room first last little) = too_little_room
   refusal_of (text_fault line column asked is fault) = text_refusal fault
   refusal_of {number} {place} (file_fault calls asked says checks fault) =
       subst (λ r. Refusal (rows_in r) number place) (sym says) (file_refusal fault)
 
   pub day_reason : {number place : ℕ} → Reason text day out number place → number ≡ 6 → first_day ≤ day → day ≤ last_day → ⊥
   day_reason (no_day none) e = none
-  day_reason (no_room_lem first last little) e = absurd (let z : ⊥ = omega arith in z)
+  day_reason (little_room first last little) e = absurd (let z : ⊥ = omega arith in z)
   day_reason (text_fault line column asked is fault) e = absurd (let z : ⊥ = omega (arith, text_number fault) in z)
   day_reason (file_fault calls asked says checks fault) e = absurd (let z : ⊥ = omega (arith, file_number fault) in z)
 
   pub room_reason : {number place : ℕ} → Reason text day out number place → number ≡ 7
       → (first_day ≤ day) × (day ≤ last_day) × (length out < version_one.mostbytes)
   room_reason (no_day none) e = absurd (let z : ⊥ = omega arith in z)
-  room_reason (no_room_lem first last little) e = (first, last, little)
+  room_reason (little_room first last little) e = (first, last, little)
   room_reason (text_fault line column asked is fault) e = absurd (let z : ⊥ = omega (arith, text_number fault) in z)
   room_reason (file_fault calls asked says checks fault) e = absurd (let z : ⊥ = omega (arith, file_number fault) in z)
 
   pub text_reason : {number place : ℕ} → Reason text day out number place → 8 < number
       → Asked day out × ((line : ℕ) × (column : ℕ) × (read_on day text ≡ wrong number line column))
   text_reason (no_day none) e = absurd (let z : ⊥ = omega arith in z)
-  text_reason (no_room_lem first last little) e = absurd (let z : ⊥ = omega arith in z)
+  text_reason (little_room first last little) e = absurd (let z : ⊥ = omega arith in z)
   text_reason (text_fault line column asked is fault) e = (asked, (line, column, is))
   text_reason (file_fault calls asked says checks fault) e = absurd (let z : ⊥ = omega (arith, file_number fault) in z)
 
   pub stops_reason : {number place : ℕ} → Reason text day out number place → number ≡ 1
       → Asked day out × ((calls : List StopTime) × (read_on day text ≡ said calls) × (length (stops_of calls) < fewest_stops))
   stops_reason (no_day none) e = absurd (let z : ⊥ = omega arith in z)
-  stops_reason (no_room_lem first last little) e = absurd (let z : ⊥ = omega arith in z)
+  stops_reason (little_room first last little) e = absurd (let z : ⊥ = omega arith in z)
   stops_reason (text_fault line column asked is fault) e = absurd (let z : ⊥ = omega (arith, text_number fault) in z)
   stops_reason (file_fault calls asked says checks fault) e = (asked, (calls, says, one_stops fault e))
 
   pub check_reason : {number place : ℕ} → Reason text day out number place → number < 6
       → Asked day out × ((calls : List StopTime) × (read_on day text ≡ said calls) × (checked (file_of calls) ≡ CheckRefused number place))
   check_reason (no_day none) e = absurd (let z : ⊥ = omega arith in z)
-  check_reason (no_room_lem first last little) e = absurd (let z : ⊥ = omega arith in z)
+  check_reason (little_room first last little) e = absurd (let z : ⊥ = omega arith in z)
   check_reason (text_fault line column asked is fault) e = absurd (let z : ⊥ = omega (arith, text_number fault) in z)
   check_reason (file_fault calls asked says checks fault) e = (asked, (calls, says, checks))
 

@@ -47,7 +47,7 @@ pub record FileWritten (calls : List StopTime) (out out' : List ℕ) (trailer : 
 -- why there is a refusal: 6; 7; the text's fault, whose place is 0; or the check's
 pub data Reason (text : List ℕ) (day : ℕ) (out : List ℕ) : (number place : ℕ) → Type 0 where
   no_day : (first_day ≤ day → day ≤ last_day → ⊥) → Reason text day out 6 0
-  no_room_lem : first_day ≤ day → day ≤ last_day → length out < version_one.mostbytes → Reason text day out 7 0
+  little_room : first_day ≤ day → day ≤ last_day → length out < version_one.mostbytes → Reason text day out 7 0
   text_fault : {number : ℕ} (line column : ℕ) → Asked day out → read_on day text ≡ wrong number line column → TextFault number column
       → Reason text day out number 0
   file_fault : {number place : ℕ} (calls : List StopTime) → Asked day out → read_on day text ≡ said calls

@@ -33,7 +33,7 @@ held_none text =
             trip_cells = length-replicate {A = ℕ} (book_cells most_trips) 0;
             stop_cells = length-replicate {A = ℕ} (book_cells most_stops) 0;
             call_cells = length-replicate {A = ℕ} (3 * most_trips) 0;
-            row_bytes_lem = length-replicate {A = ℕ} (12 * most_rows) 0;
+            rows_length = length-replicate {A = ℕ} (12 * most_rows) 0;
           };
       trip_ids = holds_none text (book_cells most_trips) (omega arith);
       stop_ids = holds_none text (book_cells most_stops) (omega arith);

@@ -105,7 +105,7 @@ module _ {text : List ℕ} (back : List StopTime) (says : StopTime) (call : Call
                       entered_length stops (stops_of back) says.stop call.stop call.stopplace counts.stops stop held.stop_count own_stop
                       ∙ held.room.stop_cells;
                   call_cells = written_length last trip stop call.departure call.sequence ∙ held.room.call_cells;
-                  row_bytes_lem = length-sets rows (12 * counts.rows) (row_bytes row) ∙ held.room.row_bytes_lem;
+                  rows_length = length-sets rows (12 * counts.rows) (row_bytes row) ∙ held.room.rows_length;
                 };
             trip_ids = subst (HoldsIds text trips) (sym trips_after) held.trip_ids;
             stop_ids = stops_held;
@@ -118,7 +118,7 @@ module _ {text : List ℕ} (back : List StopTime) (says : StopTime) (call : Call
             calls = λ t inside. calls_after (omega (arith, held.few_trips)) t
                 (let z : t < length (trips_of (says ∷ back)) = omega (arith, held.trip_count, ap (λ (l : List (List ℕ)). length l) trips_after) in z);
             read =
-                read_more rows (rows_of back) row counts.rows held.row_count (omega (arith, held.room.row_bytes_lem)) held.read
+                read_more rows (rows_of back) row counts.rows held.row_count (omega (arith, held.room.rows_length)) held.read
                 ∙ ap rows_bytes (sym rows_after);
             small = λ i inside.
                 subst (λ (l : List Row). SmallRow (row_of l i)) (sym rows_after)
@@ -158,7 +158,7 @@ module _ {text : List ℕ} (back : List StopTime) (says : StopTime) (call : Call
                       entered_length stops (stops_of back) says.stop call.stop call.stopplace counts.stops stop held.stop_count own_stop
                       ∙ held.room.stop_cells;
                   call_cells = written_length last trip stop call.departure call.sequence ∙ held.room.call_cells;
-                  row_bytes_lem = held.room.row_bytes_lem;
+                  rows_length = held.room.rows_length;
                 };
             trip_ids = trips_held;
             stop_ids = stops_held;

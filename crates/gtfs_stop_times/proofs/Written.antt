@@ -50,7 +50,7 @@ module _ {text trips stops rows : List ℕ} {counts : Counts} where
     rows_fit out e lent =
         let few = held.2.few_rows in
         let room = room_for out e lent in
-        (few, (let z : 12 * counts.rows ≤ length rows = omega (arith, held.2.room.row_bytes_lem) in z), (let z : 12 * counts.rows ≤ length out = omega arith in z))
+        (few, (let z : 12 * counts.rows ≤ length rows = omega (arith, held.2.room.rows_length) in z), (let z : 12 * counts.rows ≤ length out = omega arith in z))
 
     pub stops_fit : {wanted : Wanted} (out : List ℕ) → wanted ≡ Names → wanted_room wanted ≤ length out → 0 + line_room * counts.stops ≤ length out
     stops_fit out e lent = omega (arith, held.2.few_stops, room_for out e lent)

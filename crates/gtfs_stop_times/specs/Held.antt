@@ -31,7 +31,7 @@ pub record NotesRoom (trips stops last rows : List ℕ) : Type 0 where
   pub trip_cells : length trips ≡ book_cells most_trips
   pub stop_cells : length stops ≡ book_cells most_stops
   pub call_cells : length last ≡ 3 * most_trips
-  pub row_bytes_lem : length rows ≡ 12 * most_rows
+  pub rows_length : length rows ≡ 12 * most_rows
 
 pub record Held (text : List ℕ) (back : List StopTime) (trips stops last rows : List ℕ) (counts : Counts) : Type 0 where
   pub room : NotesRoom trips stops last rows

@@ -177,7 +177,7 @@ module _ (aim : Aim) (t : Timetable) where
       → P u
       → P (record { ride = boarded_at i (row_of t.rows i) u.ride; worth = u.worth }))
       → (i : ℕ) → i < length t.rows → (v : Valued) → best_at aim t i ≡ some v → P v
-  each_best P gets_off Stays-on =
+  each_best P gets_off stays_on =
       from_greater (λ i. (v : Valued) → best_at aim t i ≡ some v → P v) (length t.rows)
       (λ i h all v e. at_row i h all v (best_source i h v e))
     where
@@ -186,7 +186,7 @@ module _ (aim : Aim) (t : Timetable) where
       at_row i h all v (off_here {w = w} e dearer) =
           gets_off i h (λ u m. let p = chosen_picked (suc i) h u m in all u.ride.board p.here p.inside u p.best) w e
       at_row i h all v (stays {u = u} {j = j} next e) =
-          Stays-on i j next.later next.inside next.one_trip u e (all j next.later next.inside u e)
+          stays_on i j next.later next.inside next.one_trip u e (all j next.later next.inside u e)
 
   -- a ride of a later row of the trip, boarded at row i already, is a ride
   pub boarded_earlier :

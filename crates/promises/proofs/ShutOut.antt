@@ -130,7 +130,7 @@ module _ (κs : Lfts 3) (arguments : Dens κs kinds.ps) (answer : (res_t kinds.r
     pub invents_landings : (invented : List Valued) → invented ≢ others → rides_in t (take (3 * rides) plan') ≢ invented
     invents_landings invented other stand = other (sym stand ∙ as_demanded.0)
 
-  -- not one with a made_up ride count: no count but that of the rides demanded is answered
+  -- not one with a made-up ride count: no count but that of the rides demanded is answered
   pub makes_up_a_count : (others : List Valued) (expected latest bound : ℕ) → Demanded t q others expected latest bound
       → (made_up : ℕ) → made_up ≢ length others → (x l b : ℕ) → answer ≢ AsPlan made_up x l b
   makes_up_a_count others expected latest bound demanded made_up other x l b told =

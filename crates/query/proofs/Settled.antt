@@ -8,7 +8,7 @@ use Rattle.query.proofs.query_in.Reads as bytes_reads
 use Rattle.query.proofs.query_rule.Kinds as rule_kinds
 use Rattle.query.proofs.query_rule.Reads as rule_reads
 use Rattle.query.proofs.code_rule.Kinds as code_kinds
-use Rattle.query.proofs.code_rule.Reads as code_Reads
+use Rattle.query.proofs.code_rule.Reads as code_reads
 use Rattle.query.proofs.margin_rule.Kinds as margin_kinds
 use Rattle.query.proofs.margin_rule.Reads as margin_reads
 use Rattle.query.proofs.gate_rule.Kinds as gate_kinds
@@ -23,7 +23,7 @@ query_in_settled κs arguments one other ending another first second = first ∙
 pub query_rule_settled : SettlesResult 0 rule_kinds.ps rule_kinds.r rule_reads.Post
 query_rule_settled κs arguments one other ending another first second = first ∙ sym second
 
-pub code_rule_settled : SettlesResult 0 code_kinds.ps code_kinds.r code_Reads.Post
+pub code_rule_settled : SettlesResult 0 code_kinds.ps code_kinds.r code_reads.Post
 code_rule_settled κs arguments one other ending another first second = first ∙ sym second
 
 pub margin_rule_settled : SettlesResult 0 margin_kinds.ps margin_kinds.r margin_reads.Post

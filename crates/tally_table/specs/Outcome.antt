@@ -29,5 +29,5 @@ table_outcome f tally shares =
 
 -- A case of an answer by document 01's number, place and values: one that is no refusal has number 0 and place 0
 unfoldable pub table_answer : Made → Answer
-table_answer (Table delay landings Standing-apart) = record { number = 0; place = 0; values = delay ∷ landings ∷ Standing-apart ∷ [] }
+table_answer (Table delay landings standing_apart) = record { number = 0; place = 0; values = delay ∷ landings ∷ standing_apart ∷ [] }
 table_answer (Refused number place) = record { number = number; place = place; values = [] }

@@ -7,7 +7,7 @@ use Rattle.laws.proofs.Outcomes.{SettlesResult}
 use Rattle.text.proofs.digit.Kinds as digit_kinds
 use Rattle.text.proofs.digit.Reads as digit_reads
 use Rattle.text.proofs.put_byte.Kinds as byte_kinds
-use Rattle.text.proofs.put_byte.Reads as byte_Reads
+use Rattle.text.proofs.put_byte.Reads as byte_reads
 use Rattle.text.proofs.put_text.Kinds as text_kinds
 use Rattle.text.proofs.put_text.Reads as text_reads
 use Rattle.text.proofs.put_number.Kinds as number_kinds
@@ -19,7 +19,7 @@ digit_settled κs arguments one other ending another first second = first ∙ sy
 pub put_byte_settled :
     (κs : Lfts 1) (arguments : Dens κs byte_kinds.ps) (one other : (res_t byte_kinds.r κs).Denot)
     (ending another : AtExit (ended_of 1 byte_kinds.ps byte_kinds.r) κs)
-    → byte_Reads.Post κs arguments one ending → byte_Reads.Post κs arguments other another
+    → byte_reads.Post κs arguments one ending → byte_reads.Post κs arguments other another
     → (one ≡ other) × (ending.0.now ≡ another.0.now)
 put_byte_settled κs arguments one other ending another first second =
     (first.0.ends ∙ sym second.0.ends, first.0.says ∙ sym second.0.says)

@@ -11,7 +11,7 @@ number_of-stop-requires c = stops_chained c.requires
 pub next_call-requires : goal.next_call-requires
 next_call-requires c =
     let ready = c.requires in
-    (call_fits ready c.number_of-stop.result c.number_of-stop.ensures, ready.3.room.row_bytes_lem, c.if-trip-counts.true)
+    (call_fits ready c.number_of-stop.result c.number_of-stop.ensures, ready.3.room.rows_length, c.if-trip-counts.true)
 
 pub returns-then-trip-counts : goal.returns-then-trip-counts
 returns-then-trip-counts c =
