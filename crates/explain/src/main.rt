@@ -1,10 +1,11 @@
 // For the office: explains the files `sailings` and `query` of the folder it is run in.
 #![tactic(auto)]
 
-use files::{open_out, read_file};
+use files::{ended, open_out, read_file};
 use rooms::{query_room, sailings_room};
+use std::process::ExitCode;
 
-fn main(rt: HostRuntime) {
+fn main(rt: HostRuntime) -> ExitCode {
     let out = open_out(rt.stdout(), rt.stderr());
     let mut sailings = sailings_room();
     let mut query = query_room();
@@ -31,4 +32,5 @@ fn main(rt: HostRuntime) {
         &query[..short.count],
         query_end,
     );
+    ended(&out)
 }

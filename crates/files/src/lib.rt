@@ -9,11 +9,15 @@ use std::cell::Cell;
 use std::fmt::Write;
 use std::fs::File;
 use std::io::{Error, ErrorKind, Print, Read, Stderr, Stdout};
+use std::process::ExitCode;
 use std::rt::Files;
 use std::{fmt, io, str};
 
 // The system's number for a descriptor that is not open.
 const NOT_OPEN: i32 = 9;
+
+// What a shell answers for a program that the system's signal ended at a pipe whose reader was gone.
+const GONE_STATUS: u8 = 141;
 
 // How the reading of a file ended.
 #[derive(Clone, Copy)]
@@ -41,6 +45,7 @@ pub struct Output {
     out: Stdout,
     told: Stderr,
     failed: Cell<bool>,
+    gone: Cell<bool>,
 }
 
 // Reads the file at `path` into `room`. One that is there but cannot be read has no bytes, and is told on standard error by `words` and the reason.
@@ -159,6 +164,7 @@ pub fn open_out(out: Stdout, told: Stderr) -> Output {
         out,
         told,
         failed: Cell::new(false),
+        gone: Cell::new(false),
     };
     if let Err(error) = out.out.write_some(b"") {
         if error.raw_os_error() == Some(NOT_OPEN) {
@@ -188,14 +194,26 @@ pub fn write_number(out: &Output, number: usize) {
     }
 }
 
-// A failed write is told once: the writes behind it are passed over.
+// A failed write is told once: the writes behind it are passed over. A pipe whose reader is gone is not told, and shows in the status.
 fn out_failed(out: &Output, error: &Error) {
     out.failed.set(true);
+    if error.kind() == ErrorKind::BrokenPipe {
+        out.gone.set(true);
+        return;
+    }
     fail(
         out,
         b"sayurimpak: standard output could not be written",
         error,
     );
+}
+
+// The status that a program is to end with: 0, but where its output is a pipe whose reader is gone.
+pub fn ended(out: &Output) -> ExitCode {
+    if out.gone.get() {
+        return ExitCode::from(GONE_STATUS);
+    }
+    ExitCode::SUCCESS
 }
 
 // Writes a line to standard error: what failed, as the caller names it, a colon and the reason.

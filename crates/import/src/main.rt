@@ -3,7 +3,7 @@
 
 use explain_words::{say, say_count, say_number};
 use file_layout::Trailer;
-use files::{Ending, Output, fail, goes_on, open_out, read_file};
+use files::{Ending, Output, ended, fail, goes_on, open_out, read_file};
 use gtfs_fields::{Number, whole_below};
 use gtfs_import::{Imported, NAMES_ROOM, Named, import_stop_times, names_of};
 use import_words::{say_refusal, say_refused};
@@ -11,6 +11,7 @@ use rooms::{SAILINGS, sailings_room};
 use std::env::FillError;
 use std::fs::{OpenFile, OpenOptions};
 use std::io::{Error, ErrorKind, Write};
+use std::process::ExitCode;
 use std::rt::{Env, Files};
 use std::{fs, io};
 
@@ -54,7 +55,7 @@ fn has_more(rt: &impl Env) -> bool {
 }
 
 // A file that is missing or cannot be read counts as empty.
-fn main(rt: HostRuntime) {
+fn main(rt: HostRuntime) -> ExitCode {
     let out = open_out(rt.stdout(), rt.stderr());
     let asked = asked_day(&rt);
     let Number::Is { value: day } = asked else {
@@ -62,7 +63,7 @@ fn main(rt: HostRuntime) {
             &out,
             b"usage: import DAY\nReads stop_times.txt in this folder and writes sailings and names for that service day, 1 to 7.\n",
         );
-        return;
+        return ended(&out);
     };
     let mut text = text_room();
     let read = read_file(
@@ -75,9 +76,10 @@ fn main(rt: HostRuntime) {
     let ending = read.ending;
     if goes_on(ending) {
         say_too_long(&out);
-        return;
+        return ended(&out);
     }
     import(&rt, &out, &text[..read.count], ending, day);
+    ended(&out)
 }
 
 // A text that is cut short would be another timetable.

@@ -2,10 +2,11 @@
 #![tactic(auto)]
 
 use file_layout::Checked;
-use files::{Output, fail, open_out, write_number, write_out};
+use files::{Output, ended, fail, open_out, write_number, write_out};
 use rooms::{SAILINGS, sailings_room};
 use std::fs::File;
 use std::io::Read;
+use std::process::ExitCode;
 
 fn print_number(out: &Output, n: usize) {
     write_out(out, b" ");
@@ -41,20 +42,21 @@ fn print_next(out: &Output, from: &mut impl Read, place: usize) -> bool {
     true
 }
 
-fn main(rt: HostRuntime) {
+fn main(rt: HostRuntime) -> ExitCode {
     let out = open_out(rt.stdout(), rt.stderr());
     let mut from = match File::open(&rt, "files") {
         Ok(from) => from,
         Err(error) => {
             fail(&out, b"files", &error);
-            return;
+            return ended(&out);
         }
     };
     let mut place: usize = 0;
     while place < 1000 {
         if !print_next(&out, &mut from, place) {
-            return;
+            return ended(&out);
         }
         place += 1;
     }
+    ended(&out)
 }

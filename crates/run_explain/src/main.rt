@@ -2,10 +2,11 @@
 #![tactic(auto)]
 
 use explain_words::{say, say_number};
-use files::{Ending, Output, fail, open_out};
+use files::{Ending, Output, ended, fail, open_out};
 use rooms::{SAILINGS, query_room, sailings_room};
 use std::fs::File;
 use std::io::Read;
+use std::process::ExitCode;
 
 // Explains the next two files, each with room of its own; false where there is none.
 fn explain_next(out: &Output, from: &mut impl Read, place: usize) -> bool {
@@ -28,20 +29,21 @@ fn explain_next(out: &Output, from: &mut impl Read, place: usize) -> bool {
     true
 }
 
-fn main(rt: HostRuntime) {
+fn main(rt: HostRuntime) -> ExitCode {
     let out = open_out(rt.stdout(), rt.stderr());
     let mut from = match File::open(&rt, "files") {
         Ok(from) => from,
         Err(error) => {
             fail(&out, b"files", &error);
-            return;
+            return ended(&out);
         }
     };
     let mut place: usize = 0;
     while place < 1000 {
         if !explain_next(&out, &mut from, place) {
-            return;
+            return ended(&out);
         }
         place += 1;
     }
+    ended(&out)
 }

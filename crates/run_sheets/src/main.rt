@@ -1,11 +1,12 @@
 // Stored cases of the sheet (tests/run_sheets/make.py packs them): prints the sheet of each.
 #![tactic(auto)]
 
-use files::{Output, fail, open_out, write_number, write_out};
+use files::{Output, ended, fail, open_out, write_number, write_out};
 use rooms::{SAILINGS, sailings_room};
 use sheet_text::{SHEET_ROOM, Sheeted, sheet_room};
 use std::fs::File;
 use std::io::Read;
+use std::process::ExitCode;
 
 fn print_sheet(out: &Output, place: usize, sailings: &[u8], query: &[u8]) {
     write_out(out, b"case ");
@@ -33,20 +34,21 @@ fn print_next(out: &Output, from: &mut impl Read, place: usize) -> bool {
     true
 }
 
-fn main(rt: HostRuntime) {
+fn main(rt: HostRuntime) -> ExitCode {
     let out = open_out(rt.stdout(), rt.stderr());
     let mut from = match File::open(&rt, "cases") {
         Ok(from) => from,
         Err(error) => {
             fail(&out, b"cases", &error);
-            return;
+            return ended(&out);
         }
     };
     let mut place: usize = 0;
     while place < 1000 {
         if !print_next(&out, &mut from, place) {
-            return;
+            return ended(&out);
         }
         place += 1;
     }
+    ended(&out)
 }

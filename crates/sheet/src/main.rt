@@ -1,9 +1,10 @@
 // Document 01, "The sheet": prints the sheet for the files `sailings` and `query` of the folder it is run in.
 #![tactic(auto)]
 
-use files::{Output, open_out, read_file, write_out};
+use files::{Output, ended, open_out, read_file, write_out};
 use rooms::{query_room, sailings_room};
 use sheet_text::{SHEET_ROOM, Sheeted, sheet_room};
+use std::process::ExitCode;
 
 // Writes the sheet of the two files' bytes.
 fn print_sheet(out: &Output, sailings: &[u8], query: &[u8]) {
@@ -17,7 +18,7 @@ fn print_sheet(out: &Output, sailings: &[u8], query: &[u8]) {
 }
 
 // A file that is missing or cannot be read counts as empty.
-fn main(rt: HostRuntime) {
+fn main(rt: HostRuntime) -> ExitCode {
     let out = open_out(rt.stdout(), rt.stderr());
     let mut sailings = sailings_room();
     let mut query = query_room();
@@ -36,4 +37,5 @@ fn main(rt: HostRuntime) {
         &mut query,
     );
     print_sheet(&out, &sailings[..long.count], &query[..short.count]);
+    ended(&out)
 }

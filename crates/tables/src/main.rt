@@ -2,8 +2,9 @@
 #![tactic(auto)]
 
 use explain_words::{say, say_count, say_number};
-use files::{Ending, Output, goes_on, open_out, read_file};
+use files::{Ending, Output, ended, goes_on, open_out, read_file};
 use numbers::number;
+use std::process::ExitCode;
 use tally::{COUNTS, LANDING_BYTES, Logged, tally_log};
 use tally_table::{Made, SHARES, table_of};
 
@@ -15,7 +16,7 @@ fn log_room() -> [u8; LOG] {
 }
 
 // A file that is missing or cannot be read counts as empty.
-fn main(rt: HostRuntime) {
+fn main(rt: HostRuntime) -> ExitCode {
     let out = open_out(rt.stdout(), rt.stderr());
     let mut log = log_room();
     let read = read_file(
@@ -32,9 +33,10 @@ fn main(rt: HostRuntime) {
             &out,
             b" bytes, the most that is read. No table was made.\nTake the landings of a shorter time.\n",
         );
-        return;
+        return ended(&out);
     }
     print_table(&out, &log[..read.count], ending);
+    ended(&out)
 }
 
 // What a log comes to; behind it stands how its reading ended.
