@@ -1,0 +1,2 @@
+-- Laws of the calls from C.
+pub mod Settled
