@@ -1,6 +1,6 @@
--- How many bytes of a room were filled.
+-- How much of a room is filled.
 use Rattle.std.specs.Prelude.{◌≡◌, ℕ, ◌≤◌, List, length, take}
 
--- `&xs[..n]` is in bounds and has n bytes
+-- so many bytes stand at the start of the room, and a slice that ends behind them has no more
 abbrev pub IsPrefixLen : ℕ → List ℕ → Type 0
-IsPrefixLen n xs = (n ≤ length xs) × (n ≡ length (take n xs))
+IsPrefixLen count room = (count ≤ length room) × (count ≡ length (take count room))
