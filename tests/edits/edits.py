@@ -68,8 +68,8 @@ def has_proof_files(crate, place):
     """Whether proof files answer goals of the function that stands at this place: then a goal that is left may only have another name."""
     file, line = place.split(":")[:2]
     above = "\n".join((crate / file).read_text().splitlines()[: int(line)])
-    name = re.findall(r"\bfn (\w+)", above)[-1]
-    return any(crate.glob(f"proofs/**/{name}/*.antt")) or any(crate.glob(f"proofs/**/+{name}/*.antt"))
+    names = re.findall(r"\bfn (\w+)", above)
+    return not names or any(any(crate.glob(f"proofs/**/{name}/*.antt")) for name in (names[-1], "+" + names[-1]))
 
 
 def kind_of(said, crate, changed):
