@@ -68,12 +68,11 @@ def has_proof_files(crate, place):
     """Whether proof files answer goals of the function that stands at this place: then a goal that is left may only have another name."""
     file, line = place.split(":")[:2]
     lines = (crate / file).read_text().splitlines()
-    # a goal stands in the function's body, or where the function begins, with its attributes
-    last = int(line) - 1
-    while lines[last].lstrip().startswith("#["):
+    last = int(line)
+    while lines[last - 1].lstrip().startswith("#["):  # a function's place is that of its first attribute
         last += 1
-    name = re.findall(r"\bfn (\w+)", "\n".join(lines[: last + 1]))[-1]
-    return any(any(crate.glob(f"proofs/**/{folder}/*.antt")) for folder in (name, "+" + name))
+    names = re.findall(r"\bfn (\w+)", "\n".join(lines[:last]))
+    return not names or any(any(crate.glob(f"proofs/**/{name}/*.antt")) for name in (names[-1], "+" + names[-1]))
 
 
 def kind_of(said, crate, changed):
