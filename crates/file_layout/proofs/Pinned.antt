@@ -4,12 +4,12 @@ use mathlib.Core.Bool.{true, false}
 use mathlib.Core.List.{[], ◌∷◌}
 use mathlib.Core.Path.{◌≡◌, refl}
 use lib.ListN.{replicate}
-use Rattle.timetable.specs.Verdict.{fine, fault}
+use Rattle.timetable.specs.Verdict.{fine, fault, refused}
 use Rattle.timetable.specs.Classes.{sum, shares_rule}
 use Rattle.timetable.specs.Rows.{own_rule}
 use Rattle.timetable.specs.declared.Row.{Row}
 use Rattle.file_layout.specs.declared.Trailer.{Trailer}
-use Rattle.file_layout.specs.declared.Checked.TheVariants.{Sound, Refused}
+use Rattle.std.specs.Prelude.{Ok}
 use Rattle.file_layout.specs.Format.{version_one}
 use Rattle.numbers.specs.Numbers.{u16_at}
 use Rattle.file_layout.specs.Decode.{shares_from, table_at, block_end}
@@ -93,7 +93,7 @@ unfolding classes_verdict class_verdict u16_at block_end table_at shares_from sh
 class_by_class = (refl, refl, refl, refl)
 
 -- The check answers a sound file with S, n and K; a refusal carries its number and place and nothing else
-pub answers : (answer_of (Sound (numbers 1 3 4 2)) ≡ record { number = 0; place = 0; values = 3 ∷ 4 ∷ 2 ∷ [] })
-    × (answer_of (Refused 5 7) ≡ record { number = 5; place = 7; values = [] })
+pub answers : (answer_of (Ok (numbers 1 3 4 2)) ≡ record { number = 0; place = 0; values = 3 ∷ 4 ∷ 2 ∷ [] })
+    × (answer_of (refused 5 7) ≡ record { number = 5; place = 7; values = [] })
 unfolding answer_of
 answers = (refl, refl)

@@ -5,14 +5,13 @@ use mathlib.Core.Path.{◌≡◌, ap, subst, ◌∙◌}
 use native.Mathlib.Omega.{arith}
 use lib.Dec.{leb}
 use lib.ListN.{length, get_or}
-use Rattle.timetable.specs.Verdict.{Verdict, fine, fault, or_else, unless}
+use Rattle.timetable.specs.Verdict.{Verdict, fine, fault, or_else, unless, refused, told_fault}
 use Rattle.timetable.specs.Classes.{shares_rule}
 use Rattle.timetable.specs.Rows.{rows_verdict}
 use Rattle.timetable.specs.Places.{Placed, WellPlaced, outside, unjoined, class}
 use Rattle.timetable.proofs.Places.{number_small, place_small, one_of_two_placed, rule_placed, rows_placed}
 use Rattle.file_layout.specs.declared.Format.{Format}
 use Rattle.file_layout.specs.declared.Trailer.{Trailer}
-use Rattle.file_layout.specs.declared.Checked.TheVariants.{Refused}
 use Rattle.numbers.specs.Numbers.{u16_at}
 use Rattle.file_layout.specs.Decode.{trailer_start, trailer_at, trailer_of, table_at, block_end, decode}
 use Rattle.file_layout.specs.Check.{length_rule, trailer_rule, class_verdict, classes_verdict, joined, sections_verdict, ranges_of, file_verdict, answered, checked_as}
@@ -61,19 +60,19 @@ file_placed f s =
     one_of_two_placed h.classes h.rows (sections_verdict f s) (rows_verdict (ranges_of f h) [] 0 (decode f s).rows)
     (sections_placed f s h.rows) (rows_placed h.classes h.rows (ranges_of f h) [] 0 (decode f s).rows (omega (arith, count)))
 
-refused_answer : (h : Trailer) (v : Verdict) (number place : ℕ) → answered h v ≡ Refused number place → v ≡ fault number place
+refused_answer : (h : Trailer) (v : Verdict) (number place : ℕ) → answered h v ≡ refused number place → v ≡ fault number place
 unfolding answered
 refused_answer h fine number place e = absurd (let z : ◌≡◌ {A = ℕ} 0 1 = cc in let y : ⊥ = omega arith in y)
-refused_answer h (fault n p) number place e = cc
+refused_answer h (fault n p) number place e = ap told_fault e
 
 -- a refusal carries its fault's number and place
-pub refused_checked : (f : Format) (s : List ℕ) (number place : ℕ) → checked_as f s ≡ Refused number place
+pub refused_checked : (f : Format) (s : List ℕ) (number place : ℕ) → checked_as f s ≡ refused number place
     → file_verdict f s ≡ fault number place
 unfolding checked_as
 refused_checked f s number place e = refused_answer (trailer_of f s) (file_verdict f s) number place e
 
 -- and these are 1 to 5, the place a class for 3, a row for 4 and 5, otherwise 0
-pub refused_placed : (f : Format) (s : List ℕ) (number place : ℕ) → checked_as f s ≡ Refused number place
+pub refused_placed : (f : Format) (s : List ℕ) (number place : ℕ) → checked_as f s ≡ refused number place
     → Placed (trailer_of f s).classes (trailer_of f s).rows number place
 refused_placed f s number place e =
     subst (WellPlaced (trailer_of f s).classes (trailer_of f s).rows) (refused_checked f s number place e) (file_placed f s)
@@ -88,7 +87,7 @@ module _ (f : Format) (s : List ℕ) (bytes : (i : ℕ) → get_or s i 0 < 256) 
   unfolding trailer_of trailer_at
   trailer_small = omega (arith, u16_small (trailer_start f s + 6), u16_small (trailer_start f s + 4))
 
-  pub refusal_fits : (number place : ℕ) → checked_as f s ≡ Refused number place → (number < 4294967296) × (place < 4294967296)
+  pub refusal_fits : (number place : ℕ) → checked_as f s ≡ refused number place → (number < 4294967296) × (place < 4294967296)
   refusal_fits number place e =
       let placed = refused_placed f s number place e in
       (omega (arith, (number_small placed).1), omega (arith, place_small placed, trailer_small))

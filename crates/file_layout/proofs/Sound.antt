@@ -5,14 +5,14 @@ use mathlib.Core.Path.{◌≡◌, refl, ap, sym, subst, ◌∙◌}
 use native.Mathlib.Omega.{arith}
 use native.Mathlib.Nat.{mul-le-mul_left}
 use lib.ListN.{length}
-use Rattle.timetable.specs.Verdict.{Verdict, fine, fault}
+use Rattle.timetable.specs.Verdict.{Verdict, fine, fault, refused}
 use Rattle.timetable.specs.Timetable.{shares_of, row_of}
 use Rattle.timetable.specs.Rows.{rows_verdict}
 use Rattle.timetable.proofs.Verdicts.{first_fine, second_fine}
 use Rattle.timetable.proofs.RowsSound.{rows_give}
 use Rattle.file_layout.specs.declared.Format.{Format}
 use Rattle.file_layout.specs.declared.Trailer.{Trailer}
-use Rattle.file_layout.specs.declared.Checked.TheVariants.{Sound, Refused}
+use Rattle.std.specs.Prelude.{Ok}
 use Rattle.file_layout.specs.Format.{Readable, version_one}
 use Rattle.file_layout.specs.Decode.{trailer_start, trailer_of, table_at, rows_from, decode}
 use Rattle.file_layout.specs.Check.{sections_verdict, file_verdict, ranges_of, answered, checked_as}
@@ -86,24 +86,24 @@ sound_gives f s readable e =
           λ i l. shares_sound f s trailer (row_of (decode f s).rows i).class (rows.own i (omega (arith, count))).class;
     }
 
-sound_answer : (h : Trailer) (v : Verdict) (k : Trailer) → answered h v ≡ Sound k → (v ≡ fine) × (k ≡ h)
+sound_answer : (h : Trailer) (v : Verdict) (k : Trailer) → answered h v ≡ Ok k → (v ≡ fine) × (k ≡ h)
 unfolding answered
 sound_answer h fine k e = (refl, (cc))
 sound_answer h (fault number place) k e = absurd (let z : ◌≡◌ {A = ℕ} 0 1 = cc in let y : ⊥ = omega arith in y)
 
 -- a file answered as sound has no fault, and the answer is its trailer
-pub sound_checked : (f : Format) (s : List ℕ) (h : Trailer) → checked_as f s ≡ Sound h → (file_verdict f s ≡ fine) × (h ≡ trailer_of f s)
+pub sound_checked : (f : Format) (s : List ℕ) (h : Trailer) → checked_as f s ≡ Ok h → (file_verdict f s ≡ fine) × (h ≡ trailer_of f s)
 unfolding checked_as
 sound_checked f s h e = sound_answer (trailer_of f s) (file_verdict f s) h e
 
 -- a file without a fault is answered as sound, with its trailer
-pub fine_answered : (f : Format) (s : List ℕ) → file_verdict f s ≡ fine → checked_as f s ≡ Sound (trailer_of f s)
+pub fine_answered : (f : Format) (s : List ℕ) → file_verdict f s ≡ fine → checked_as f s ≡ Ok (trailer_of f s)
 unfolding checked_as answered
 fine_answered f s e = ap (answered (trailer_of f s)) e
 
 -- a fault is answered by its number and place
 pub fault_answered : (f : Format) (s : List ℕ) (number place : ℕ) → file_verdict f s ≡ fault number place
-    → checked_as f s ≡ Refused number place
+    → checked_as f s ≡ refused number place
 unfolding checked_as answered
 fault_answered f s number place e = ap (answered (trailer_of f s)) e
 
@@ -112,5 +112,5 @@ version_one_readable =
     record { trailer_holds = omega arith; file_holds_trailer = omega arith; width_holds_row = omega arith; narrow = omega arith }
 
 -- what the check's answer tells of a file
-pub checked_gives : (f : Format) (s : List ℕ) (h : Trailer) → Readable f → checked_as f s ≡ Sound h → SoundFile f s
+pub checked_gives : (f : Format) (s : List ℕ) (h : Trailer) → Readable f → checked_as f s ≡ Ok h → SoundFile f s
 checked_gives f s h readable e = sound_gives f s readable (sound_checked f s h e).0

@@ -1,13 +1,12 @@
 -- Document 01, "Numbers returned on refusal": what the check answers, in the order of the refusals 1 to 5.
-use Rattle.std.specs.Prelude.{ℕ, zero, suc, ◌+◌, ◌*◌, Bool, ◌&&◌, ◌||◌, List, [], ◌∷◌, leb, eqb, length}
-use Rattle.timetable.specs.Verdict.{Verdict, fine, or_else, unless, by_verdict}
+use Rattle.std.specs.Prelude.{ℕ, zero, suc, ◌+◌, ◌*◌, Bool, ◌&&◌, ◌||◌, List, [], ◌∷◌, leb, eqb, length, Result, Ok, Err}
+use Rattle.timetable.specs.Verdict.{Verdict, fine, or_else, unless, by_verdict, refused}
+use Rattle.timetable.specs.declared.Refusal.{Refusal}
 use Rattle.timetable.specs.Classes.{shares_rule}
 use Rattle.timetable.specs.Rows.{rows_verdict}
 use Rattle.timetable.specs.declared.Ranges.{Ranges}
 use Rattle.file_layout.specs.declared.Format.{Format}
 use Rattle.file_layout.specs.declared.Trailer.{Trailer}
-use Rattle.file_layout.specs.declared.Checked.{Checked}
-use Rattle.file_layout.specs.declared.Checked.TheVariants.{Sound, Refused}
 use Rattle.file_layout.specs.Format.{version_one}
 use Rattle.timetable.specs.Limits.{fewest_stops, most_stops, most_rows, fewest_classes, most_classes}
 use Rattle.numbers.specs.Numbers.{u16_at}
@@ -66,13 +65,13 @@ file_verdict f s =
     or_else (sections_verdict f s) rows
 
 -- a sound file's trailer is handed on; a refusal carries its number and place and nothing else
-unfoldable pub answered : Trailer → Verdict → Checked
-answered h v = by_verdict Refused (Sound h) v
+unfoldable pub answered : Trailer → Verdict → Result Trailer (Refusal ℕ)
+answered h v = by_verdict refused (Ok h) v
 
-unfoldable pub checked_as : Format → List ℕ → Checked
+unfoldable pub checked_as : Format → List ℕ → Result Trailer (Refusal ℕ)
 checked_as f s = answered (trailer_of f s) (file_verdict f s)
 
-unfoldable pub checked : List ℕ → Checked
+unfoldable pub checked : List ℕ → Result Trailer (Refusal ℕ)
 checked s = checked_as version_one s
 
 -- A case of an answer by document 01's number, place and values: one that is no refusal has number 0 and place 0
@@ -82,6 +81,6 @@ pub record Answer : Type 0 where
   pub values : List ℕ
 
 -- The check answers a sound file with S, n and K
-unfoldable pub answer_of : Checked → Answer
-answer_of (Sound h) = record { number = 0; place = 0; values = h.stops ∷ h.rows ∷ h.classes ∷ [] }
-answer_of (Refused number place) = record { number = number; place = place; values = [] }
+unfoldable pub answer_of : Result Trailer (Refusal ℕ) → Answer
+answer_of (Ok h) = record { number = 0; place = 0; values = h.stops ∷ h.rows ∷ h.classes ∷ [] }
+answer_of (Err r) = record { number = r.number; place = r.place; values = [] }

@@ -1,4 +1,4 @@
-// Document 01, "The sailing file": where the numbers of a file stand, and what a check answers.
+// Document 01, "The sailing file": where the numbers of a file stand.
 #![tactic(auto)]
 
 ghost use Rattle.std.specs.Prelude.{◌≡◌, ◌+◌, ◌<◌, length};
@@ -41,13 +41,6 @@ pub struct Trailer {
     pub classes: usize,
     pub rowstart: usize,
     pub tablestart: usize,
-}
-
-// What the check answers: a sound file with its trailer, or a refusal with its number and place.
-#[derive(Clone, Copy)]
-pub enum Checked {
-    Sound { trailer: Trailer },
-    Refused { number: usize, place: usize },
 }
 
 // The trailer's numbers, the trailer at `at`.

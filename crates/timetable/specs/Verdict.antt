@@ -1,5 +1,6 @@
 -- Document 01, "Numbers returned on refusal": the first fault, by its number and its place.
-use Rattle.std.specs.Prelude.{ℕ, Bool, true, false}
+use Rattle.std.specs.Prelude.{ℕ, Bool, true, false, Result, Ok, Err}
+use Rattle.timetable.specs.declared.Refusal.{Refusal}
 
 pub data Verdict : Type 0 where
   fine : Verdict
@@ -19,3 +20,12 @@ unless false number place = fault number place
 abbrev pub by_verdict : {A : Type 0} → (ℕ → ℕ → A) → A → Verdict → A
 by_verdict refused answered fine = answered
 by_verdict refused answered (fault number place) = refused number place
+
+-- a refusal of what was to be answered
+abbrev pub refused : {A : Type 0} → (number place : ℕ) → Result A (Refusal ℕ)
+refused number place = Err (record { number = number; place = place })
+
+-- the fault that an answer tells
+abbrev pub told_fault : {A : Type 0} → Result A (Refusal ℕ) → Verdict
+told_fault (Ok answered) = fine
+told_fault (Err refusal) = fault refusal.number refusal.place

@@ -25,6 +25,13 @@ pub struct Ranges {
     pub lastminute: usize,
 }
 
+// A refusal by its number in documents 01 and 02, and the place that it speaks of.
+#[derive(Clone, Copy)]
+pub struct Refusal<N> {
+    pub number: N,
+    pub place: N,
+}
+
 // S is 2 to 200, n is 0 to 2,000, K is 1 to 16; a trip is below 2,000.
 pub const FEWEST_STOPS: usize = 2;
 
