@@ -1,13 +1,12 @@
 -- Document 01, "Case W": what its 92 bytes decode to, and what the check says of them and of edits of them. Assumes nothing.
-use Prim.Native.Nat.{ℕ}
-use mathlib.Core.List.{List, [], ◌∷◌, ◌++◌}
+use mathlib.Core.List.{[], ◌∷◌}
 use mathlib.Core.Path.{◌≡◌, refl}
 use lib.ListN.{length, take, set}
 use Rattle.timetable.specs.Timetable.{Timetable}
+use Rattle.timetable.specs.Verdict.{refused}
 use Rattle.timetable.specs.Classes.{sum, shares_rule}
 use Rattle.timetable.specs.Rows.{own_rule, departure_rule, last_of_trip, follows, trip_rule, row_verdict, rows_verdict}
 use Rattle.timetable.proofs.Pinned.{row}
-use Rattle.file_layout.specs.declared.Checked.TheVariants.{Refused}
 use Rattle.file_layout.specs.Format.{version_one}
 use Rattle.file_layout.specs.CaseW.{case_w, tables_first}
 use Rattle.numbers.specs.Numbers.{u16_at, u32_at, u16_bytes, u32_bytes}
@@ -42,19 +41,19 @@ unfolding answer_of checked checked_as answered
 sound_both_ways = (refl, refl)
 
 -- one fault each: file length, version, S, n, K; a class's M, shares that run past the trailer, sum; a row's own rule, departures
-pub refused_by_number : (checked (take 19 case_w) ≡ Refused 1 0) × (checked (set case_w 76 2) ≡ Refused 1 0)
-    × (checked (set case_w 78 1) ≡ Refused 1 0) × (checked (set case_w 81 8) ≡ Refused 1 0) × (checked (set case_w 82 17) ≡ Refused 1 0)
-    × (checked (set case_w 52 121) ≡ Refused 3 1) × (checked (set case_w 52 11) ≡ Refused 2 0) × (checked (set case_w 50 1) ≡ Refused 3 0)
-    × (checked (set case_w 24 3) ≡ Refused 4 2) × (checked (set case_w 28 119) ≡ Refused 5 2)
+pub refused_by_number : (checked (take 19 case_w) ≡ refused 1 0) × (checked (set case_w 76 2) ≡ refused 1 0)
+    × (checked (set case_w 78 1) ≡ refused 1 0) × (checked (set case_w 81 8) ≡ refused 1 0) × (checked (set case_w 82 17) ≡ refused 1 0)
+    × (checked (set case_w 52 121) ≡ refused 3 1) × (checked (set case_w 52 11) ≡ refused 2 0) × (checked (set case_w 50 1) ≡ refused 3 0)
+    × (checked (set case_w 24 3) ≡ refused 4 2) × (checked (set case_w 28 119) ≡ refused 5 2)
 unfolding checked checked_as answered file_verdict sections_verdict length_rule trailer_rule classes_verdict class_verdict joined sections_join shares_rule sum
     rows_verdict row_verdict own_rule departure_rule trip_rule follows last_of_trip
     decode trailer_start trailer_of trailer_at rows_from row_at tables_from tables_end table_at shares_from block_end u32_at u16_at
 refused_by_number = (refl, refl, refl, refl, refl, refl, refl, refl, refl, refl)
 
 -- two faults each, and the first in the order of refusals decides: 1, then classes, then joining, then row by row
-pub refused_in_order : (checked (set (set case_w 76 2) 50 1) ≡ Refused 1 0) × (checked (set (set case_w 84 1) 50 1) ≡ Refused 3 0)
-    × (checked (set (set case_w 84 1) 24 3) ≡ Refused 2 0) × (checked (set (set case_w 24 3) 40 0) ≡ Refused 4 2)
-    × (checked (set (set case_w 28 119) 36 3) ≡ Refused 5 2)
+pub refused_in_order : (checked (set (set case_w 76 2) 50 1) ≡ refused 1 0) × (checked (set (set case_w 84 1) 50 1) ≡ refused 3 0)
+    × (checked (set (set case_w 84 1) 24 3) ≡ refused 2 0) × (checked (set (set case_w 24 3) 40 0) ≡ refused 4 2)
+    × (checked (set (set case_w 28 119) 36 3) ≡ refused 5 2)
 unfolding checked checked_as answered file_verdict sections_verdict length_rule trailer_rule classes_verdict class_verdict joined sections_join shares_rule sum
     rows_verdict row_verdict own_rule departure_rule trip_rule follows last_of_trip
     decode trailer_start trailer_of trailer_at rows_from row_at tables_from tables_end table_at shares_from block_end u32_at u16_at

@@ -16,7 +16,7 @@ use Rattle.timetable.specs.Classes.{shares_rule}
 use Rattle.timetable.specs.Rows.{rows_verdict}
 use Rattle.file_layout.specs.declared.Format.{Format}
 use Rattle.file_layout.specs.declared.Trailer.{Trailer}
-use Rattle.file_layout.specs.declared.Checked.TheVariants.{Sound}
+use Rattle.std.specs.Prelude.{Ok}
 use Rattle.timetable.specs.Limits.{fewest_stops, most_stops, most_rows, fewest_classes, most_classes}
 use Rattle.numbers.specs.Numbers.{u16_at}
 use Rattle.file_layout.specs.Decode.{trailer_start, trailer_of, table_at, block_end, tables_end}
@@ -168,7 +168,7 @@ check_encode f t w r =
 
 -- a written file is sound exactly if its rows are fine
 pub sound_encode : (f : Format) (t : Timetable) → Writable f t → WithinLimits f t
-    → (checked_as f (encode f t) ≡ Sound (trailer_for f t))
+    → (checked_as f (encode f t) ≡ Ok (trailer_for f t))
     ↔ (rows_verdict (ranges_of f (trailer_for f t)) [] 0 t.rows ≡ fine)
 unfolding answered trailer_for
 sound_encode f t w r = (

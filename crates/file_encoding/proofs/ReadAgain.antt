@@ -7,7 +7,6 @@ use native.Mathlib.Omega.{arith}
 use lib.ListN.{length, drop}
 use lib.Seq.{drop-length}
 use Rattle.timetable.specs.Timetable.{maximum_delay}
-use Rattle.file_layout.specs.declared.Trailer.{Trailer}
 use Rattle.numbers.specs.Bytes.{Bytes}
 use Rattle.numbers.specs.Numbers.{u16_at, u32_at, u16_bytes, u32_bytes}
 use Rattle.file_layout.specs.Decode.{trailer_at, row_at, rows_from, shares_from, table_at, block_end, tables_from, tables_end}

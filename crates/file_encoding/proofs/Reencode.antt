@@ -9,7 +9,7 @@ use lib.ListN.{length, drop}
 use Rattle.timetable.specs.Verdict.{fine}
 use Rattle.file_layout.specs.declared.Format.{Format}
 use Rattle.file_layout.specs.declared.Trailer.{Trailer}
-use Rattle.file_layout.specs.declared.Checked.TheVariants.{Sound}
+use Rattle.std.specs.Prelude.{Ok}
 use Rattle.file_layout.specs.Format.{Readable, version_one}
 use Rattle.file_layout.specs.Check.{joined, sections_verdict, checked_as, checked}
 use Rattle.numbers.specs.Bytes.{Bytes}
@@ -106,7 +106,7 @@ rows_first f s p readable e start =
 
 -- what was read of a sound file, rows first, is written as it was
 pub encode_decode_as : (f : Format) (s : List ℕ) (h : Trailer) → Plain f → Readable f → Bytes s
-    → checked_as f s ≡ Sound h → (trailer_of f s).rowstart ≡ 0 → encode f (decode f s) ≡ s
+    → checked_as f s ≡ Ok h → (trailer_of f s).rowstart ≡ 0 → encode f (decode f s) ≡ s
 encode_decode_as f s h p readable b sound start =
     let sections = (file_tests f s (sound_checked f s h sound).0).0 in
     first_again f s p b (rows_first f s p readable sections start)
@@ -114,7 +114,7 @@ encode_decode_as f s h p readable b sound start =
 pub version_one_plain : Plain version_one
 version_one_plain = record { trailer = refl; width = refl }
 
-pub encode_decode : (s : List ℕ) (h : Trailer) → Bytes s → checked s ≡ Sound h
+pub encode_decode : (s : List ℕ) (h : Trailer) → Bytes s → checked s ≡ Ok h
     → (trailer_of version_one s).rowstart ≡ 0 → encode version_one (decode version_one s) ≡ s
 unfolding checked
 encode_decode s h b sound start =

@@ -16,7 +16,7 @@ use Rattle.timetable.specs.Classes.{sum, share_total, last_share, shares_rule}
 use Rattle.timetable.specs.Rows.{rows_verdict}
 use Rattle.file_layout.specs.declared.Format.{Format}
 use Rattle.file_layout.specs.declared.Trailer.{Trailer}
-use Rattle.file_layout.specs.declared.Checked.TheVariants.{Sound}
+use Rattle.std.specs.Prelude.{Ok}
 use Rattle.file_layout.specs.Format.{Readable}
 use Rattle.file_layout.specs.Small.{SmallRow}
 use Rattle.numbers.specs.Bytes.{Bytes}
@@ -153,7 +153,7 @@ ranges_kept f s sound =
     λ i. record { stops = sound.stops_read i; classes = sound.tables_count i; lastminute = f.lastminute }
 
 -- a sound file, written anew, gets the same answer
-pub sound_again : (f : Format) (s : List ℕ) (h : Trailer) → Plain f → Readable f → Bytes s → checked_as f s ≡ Sound h
+pub sound_again : (f : Format) (s : List ℕ) (h : Trailer) → Plain f → Readable f → Bytes s → checked_as f s ≡ Ok h
     → answer_of (checked_as f (encode f (decode f s))) ≡ answer_of (checked_as f s)
 unfolding answer_of trailer_for
 sound_again f s h p readable b answer =

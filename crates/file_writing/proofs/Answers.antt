@@ -12,11 +12,10 @@ use Rattle.laws.proofs.Tests.{ifb}
 use Rattle.timetable.specs.Timetable.{row_of}
 use Rattle.timetable.specs.Limits.{fewest_stops, most_stops, most_rows, fewest_classes, most_classes}
 use Rattle.timetable.specs.Rows.{rows_verdict}
-use Rattle.timetable.specs.Verdict.{Verdict, fine, fault, or_else, unless}
+use Rattle.timetable.specs.Verdict.{Verdict, fine, fault, or_else, unless, refused}
 use Rattle.timetable.specs.declared.Row.{Row}
 use Rattle.timetable.proofs.Places.{FaultSuch, rows_such}
-use Rattle.file_layout.specs.declared.Checked.{Checked}
-use Rattle.file_layout.specs.declared.Checked.TheVariants.{Sound, Refused}
+use Rattle.std.specs.Prelude.{Ok}
 use Rattle.file_layout.specs.declared.Format.{Format}
 use Rattle.file_layout.specs.declared.Trailer.{Trailer}
 use Rattle.file_layout.specs.Check.{length_rule, trailer_rule, classes_verdict, joined, sections_verdict, ranges_of, file_verdict, answered, checked_as, answer_of}
@@ -37,7 +36,7 @@ outside_first : (b : Bool) (later rows : Verdict) → or_else (or_else (unless b
 outside_first true later rows = refl
 outside_first false later rows = refl
 
-outside_refused : (f : Format) (s : List ℕ) → trailer_rule f (trailer_of f s) ≡ false → checked_as f s ≡ Refused 1 0
+outside_refused : (f : Format) (s : List ℕ) → trailer_rule f (trailer_of f s) ≡ false → checked_as f s ≡ refused 1 0
 unfolding file_verdict sections_verdict
 outside_refused f s e =
     let h = trailer_of f s in
@@ -77,7 +76,7 @@ module _ (stops : ℕ) (rows : List Row) (few : length rows ≤ most_rows) (smal
   check_on_time enough fewer =
       check_encode version_one (on_time stops rows) (writable_on_time stops rows (omega arith) few small) (within_on_time stops rows enough fewer few)
 
-  pub few_stops_refused : stops < fewest_stops → checked_on_time stops rows ≡ Refused 1 0
+  pub few_stops_refused : stops < fewest_stops → checked_on_time stops rows ≡ refused 1 0
   few_stops_refused less =
       let written = trailer_encode version_one (on_time stops rows) (writable_on_time stops rows (omega arith) few small) in
       outside_refused version_one (encode version_one (on_time stops rows))
@@ -98,18 +97,18 @@ module _ (stops : ℕ) (rows : List Row) (few : length rows ≤ most_rows) (smal
         (λ e.
         let less = leb-false fewest_stops stops e in subst (AnsweredOnTime stops rows) (sym (few_stops_refused less)) (few_stops less))
 
-    pub refused_on_time : {number place : ℕ} → checked_on_time stops rows ≡ Refused number place → RefusedOnTime stops (length rows) number place
+    pub refused_on_time : {number place : ℕ} → checked_on_time stops rows ≡ refused number place → RefusedOnTime stops (length rows) number place
     refused_on_time e = subst (AnsweredOnTime stops rows) e answer_on_time
 
     -- 1 exactly if there are too few stops
-    pub one_exactly : (checked_on_time stops rows ≡ Refused 1 0) ↔ (stops < fewest_stops)
+    pub one_exactly : (checked_on_time stops rows ≡ refused 1 0) ↔ (stops < fewest_stops)
     one_exactly = ((λ e. one_few_stops (refused_on_time e) refl), few_stops_refused)
 
-    pub sound_on_time : {h : Trailer} → checked_on_time stops rows ≡ Sound h → (fewest_stops ≤ stops) × (h ≡ on_time_trailer stops (length rows))
+    pub sound_on_time : {h : Trailer} → checked_on_time stops rows ≡ Ok h → (fewest_stops ≤ stops) × (h ≡ on_time_trailer stops (length rows))
     sound_on_time e = let told = subst (AnsweredOnTime stops rows) e answer_on_time in (told.0, told.1 ∙ trailer_on_time stops rows)
 
     -- a sound file is answered with S, n and K
-    pub sound_values : {h : Trailer} → checked_on_time stops rows ≡ Sound h
+    pub sound_values : {h : Trailer} → checked_on_time stops rows ≡ Ok h
         → answer_of (checked_on_time stops rows) ≡ record { number = 0; place = 0; values = stops ∷ length rows ∷ 1 ∷ [] }
     unfolding answer_of
-    sound_values e = ap answer_of (e ∙ ap Sound (sound_on_time e).1)
+    sound_values e = ap answer_of (e ∙ ap Ok (sound_on_time e).1)
