@@ -1,68 +1,46 @@
 -- Laws on class blocks: what reading one answers by its tests, and what reading several answers by the first. Assumes nothing.
-use Prim.Native.Nat.{ℕ, zero, suc, ◌+◌, ◌≤◌, ◌<◌}
-use mathlib.Core.Path.{◌≡◌, refl}
-use mathlib.Core.Bool.{true, false}
+use Prim.Native.Nat.{ℕ, zero, suc, ◌+◌, ◌-◌, ◌≤◌, ◌<◌}
+use mathlib.Core.Path.{◌≡◌, refl, ap, sym}
 use mathlib.Core.List.{List}
 use native.Mathlib.Numerals.{add-one}
 use native.Mathlib.Omega.{arith}
-use borrow.Author.Tests.{le-leb, lt-leb}
-use Rattle.timetable.specs.Verdict.{Verdict, fine, fault}
-use Rattle.timetable.specs.Classes.{shares_rule}
+use Rattle.timetable.specs.Verdict.{Verdict, fine, fault, told_fault}
+use Rattle.timetable.specs.declared.Refusal.{Refusal}
 use Rattle.file_layout.specs.declared.Format.{Format}
-use Rattle.numbers.specs.Numbers.{u16_at}
-use Rattle.file_layout.specs.Decode.{table_at, block_end, tables_end}
+use Rattle.file_layout.specs.Decode.{block_end, tables_end}
 use Rattle.file_layout.specs.Check.{class_verdict, classes_verdict}
-use Rattle.file_sections.specs.declared.Blocks.TheVariants.{End, Fault}
-use Rattle.file_sections.specs.Blocks.{blocks_by, block_read, blocks_read}
-
--- one block, by the tests in their order
-module _ (f : Format) (s : List ℕ) (end k at : ℕ) where
-  pub no_room_lem : end < at + 2 → block_read f s end k at ≡ Fault 2 0
-  unfolding block_read class_verdict
-  no_room_lem short = simp (lt-leb _ _ short)
-
-  pub delay_breaks : at + 2 ≤ end → f.delay < u16_at s at → block_read f s end k at ≡ Fault 3 k
-  unfolding block_read class_verdict
-  delay_breaks room late = simp (le-leb _ _ room, lt-leb _ _ late)
-
-  pub shares_outside : at + 2 ≤ end → u16_at s at ≤ f.delay → end < block_end s at → block_read f s end k at ≡ Fault 2 0
-  unfolding block_read class_verdict
-  shares_outside room delay past = simp (le-leb _ _ room, le-leb _ _ delay, lt-leb _ _ past)
-
-  pub shares_break : at + 2 ≤ end → u16_at s at ≤ f.delay → block_end s at ≤ end → shares_rule (table_at s at) ≡ false → block_read f s end k at ≡ Fault 3 k
-  unfolding block_read class_verdict
-  shares_break room delay inside broken = simp (le-leb _ _ room, le-leb _ _ delay, le-leb _ _ inside, broken)
-
-  pub block_keeps : at + 2 ≤ end → u16_at s at ≤ f.delay → block_end s at ≤ end → shares_rule (table_at s at) ≡ true → block_read f s end k at ≡ End (block_end s at)
-  unfolding block_read class_verdict
-  block_keeps room delay inside kept = simp (le-leb _ _ room, le-leb _ _ delay, le-leb _ _ inside, kept)
+use Rattle.std.specs.Prelude.{Ok, Err}
+use Rattle.file_sections.specs.ReadBy.{read_by}
+use Rattle.file_sections.specs.Blocks.{block_read, blocks_read}
 
 -- what an answer says of the verdict behind it, and of the verdicts behind that one
-pub ends_by : (e next : ℕ) (v : Verdict) → blocks_by e v ≡ End next → (v ≡ fine) × (e ≡ next)
-ends_by e next fine h = (refl, cc)
-ends_by e next (fault number place) h = absurd (let z : ◌≡◌ {A = ℕ} 0 1 = cc in let no' : ⊥ = omega arith in no')
+module _ {A : Type 0} (read : A) where
+  pub ok_by : (told : A) (v : Verdict) → read_by read v ≡ Ok told → (v ≡ fine) × (read ≡ told)
+  ok_by told fine e = (refl, (cc))
+  ok_by told (fault number place) e = absurd (let no' : ⊥ = cc in no')
 
-pub faults_by : (e number place : ℕ) (v : Verdict) → blocks_by e v ≡ Fault number place → v ≡ fault number place
-faults_by e number place fine h = absurd (let z : ◌≡◌ {A = ℕ} 0 1 = cc in let no' : ⊥ = omega arith in no')
-faults_by e number place (fault n p) h = cc
+  pub err_by : (refusal : Refusal ℕ) (v : Verdict) → read_by read v ≡ Err refusal → v ≡ fault refusal.number refusal.place
+  err_by refusal fine e = absurd (let no' : ⊥ = cc in no')
+  err_by refusal (fault n p) e = ap told_fault e
 
 -- the first block keeps its rules: the answer is that of the rest
-pub blocks_on : (f : Format) (s : List ℕ) (end k at left next rest : ℕ) → left ≡ suc rest → block_read f s end k at ≡ End next
-    → blocks_read f s end k at left ≡ blocks_read f s end (k + 1) next rest
+pub blocks_on : (f : Format) (s : List ℕ) (end k at left next : ℕ) → k < left → Ok next ≡ block_read f s end k at
+    → blocks_read f s end k at (left - k) ≡ blocks_read f s end (k + 1) next (left - (k + 1))
 unfolding block_read blocks_read classes_verdict tables_end
-blocks_on f s end k at left next rest h e =
-    let known = ends_by (block_end s at) next (class_verdict f s end k at) e in
-    rw (h, known.0, known.1, add-one k)
+blocks_on f s end k at left next more e =
+    let known = ok_by (block_end s at) next (class_verdict f s end k at) (sym e) in
+    let one : left - k ≡ suc (left - (k + 1)) = omega arith in
+    rw (one, tables_end, known.0, known.1, add-one k)
 
 -- it breaks one: the answer is its fault
-pub blocks_stop : (f : Format) (s : List ℕ) (end k at left number place : ℕ) → 0 < left → block_read f s end k at ≡ Fault number place
-    → blocks_read f s end k at left ≡ Fault number place
+pub blocks_stop : (f : Format) (s : List ℕ) (end k at left : ℕ) (refusal : Refusal ℕ) → k < left → Err refusal ≡ block_read f s end k at
+    → blocks_read f s end k at (left - k) ≡ Err refusal
 unfolding block_read blocks_read classes_verdict tables_end
-blocks_stop f s end k at zero number place h e = absurd (let z : ⊥ = omega arith in z)
-blocks_stop f s end k at (suc left) number place h e =
-    rw (faults_by (block_end s at) number place (class_verdict f s end k at) e)
+blocks_stop f s end k at left refusal more e =
+    let one : left - k ≡ suc (left - (k + 1)) = omega arith in
+    rw (one, err_by (block_end s at) refusal (class_verdict f s end k at) (sym e))
 
-pub blocks_end : (f : Format) (s : List ℕ) (end k at left : ℕ) → left ≤ 0 → blocks_read f s end k at left ≡ End at
+pub blocks_end : (f : Format) (s : List ℕ) (end k at left : ℕ) → left ≤ 0 → blocks_read f s end k at left ≡ Ok at
 unfolding blocks_read classes_verdict tables_end
 blocks_end f s end k at zero h = refl
-blocks_end f s end k at (suc left) h = absurd (let z : ⊥ = omega arith in z)
+blocks_end f s end k at (suc left) h = absurd (omega arith)

@@ -6,7 +6,6 @@ use mathlib.Core.Bool.{false}
 use native.Mathlib.Omega.{arith}
 use borrow.Author.Tests.{eq-eqb, ne_eqb}
 use lib.Dec.{leb}
-use lib.ListN.{length, get_or}
 use Rattle.timetable.specs.Classes.{share_total, sum, last_share, shares_rule}
 use Rattle.numbers.specs.Numbers.{u16_at}
 use Rattle.file_layout.specs.Decode.{shares_from, table_at}

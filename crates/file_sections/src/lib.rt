@@ -14,21 +14,9 @@ ghost use Rattle.file_sections.specs.Blocks.{block_read, blocks_read};
 
 use file_layout::{Format, Trailer, trailer_at};
 use numbers::u16_at;
-use timetable::{FEWEST_CLASSES, FEWEST_STOPS, MOST_CLASSES, MOST_ROWS, MOST_STOPS, SHARE_TOTAL};
-
-// A trailer whose sections join and keep the rules, or the refusal with its place.
-#[derive(Clone, Copy)]
-pub enum Sections {
-    Joined { trailer: Trailer },
-    Fault { number: usize, place: usize },
-}
-
-// Class blocks that keep their rules, with the byte where they end, or the refusal with its place.
-#[derive(Clone, Copy)]
-pub enum Blocks {
-    End { at: usize },
-    Fault { number: usize, place: usize },
-}
+use timetable::{
+    FEWEST_CLASSES, FEWEST_STOPS, MOST_CLASSES, MOST_ROWS, MOST_STOPS, Refusal, SHARE_TOTAL,
+};
 
 // Where a section of the file starts and ends.
 #[derive(Clone, Copy)]
@@ -37,40 +25,37 @@ struct Section {
     end: usize,
 }
 
+// Refusal 1: the length, the version, S, n or K is out of its range.
+const OUTSIDE: Refusal<usize> = Refusal {
+    number: 1,
+    place: 0,
+};
+
+// Refusal 2: the sections do not join, or a class block runs past them.
+const UNJOINED: Refusal<usize> = Refusal {
+    number: 2,
+    place: 0,
+};
+
 // Length, version, S, n and K; then the class blocks; then the joining of the sections.
-pub fn read_sections(file: &[u8], f: Format) -> Sections
+pub fn read_sections(file: &[u8], f: Format) -> Result<Trailer, Refusal<usize>>
     requires { Readable f }
     ensures { result ≡ sections_read f file.now }
 {
     let size = file.len();
     if !length_in_range(f, size) {
-        return Sections::Fault {
-            number: 1,
-            place: 0,
-        };
+        return Err(OUTSIDE);
     }
     let end = size - f.trailer;
     let trailer = trailer_at(file, end);
     if !in_ranges(f, trailer) {
-        return Sections::Fault {
-            number: 1,
-            place: 0,
-        };
+        return Err(OUTSIDE);
     }
-    let blocks = class_blocks(file, f, end, trailer.tablestart, trailer.classes);
-    match blocks {
-        Blocks::Fault { number, place } => Sections::Fault { number, place },
-        Blocks::End { at } => {
-            if joined(f, trailer, at, end) {
-                Sections::Joined { trailer }
-            } else {
-                Sections::Fault {
-                    number: 2,
-                    place: 0,
-                }
-            }
-        }
+    let at = class_blocks(file, f, end, trailer.tablestart, trailer.classes)?;
+    if !joined(f, trailer, at, end) {
+        return Err(UNJOINED);
     }
+    Ok(trailer)
 }
 
 // The file length is in its range.
@@ -133,62 +118,57 @@ fn classes_rule(trailer: Trailer) -> bool
     trailer.classes <= MOST_CLASSES
 }
 
-// Class by class: `count` blocks from `start` on, none of which may run past `end`.
-pub fn class_blocks(file: &[u8], f: Format, end: usize, start: usize, count: usize) -> Blocks
+// Class by class: `count` blocks from `start` on, none of which may run past `end`, and where the last one ends.
+pub fn class_blocks(
+    file: &[u8],
+    f: Format,
+    end: usize,
+    start: usize,
+    count: usize,
+) -> Result<usize, Refusal<usize>>
     requires { end ≤ length file.now }
     ensures { result ≡ blocks_read f file.now end 0 start count }
 {
     let mut at = start;
-    let mut class = 0;
-    while class < count {
-        let block = class_block(file, f, end, class, at);
-        class += 1;
-        match block {
-            Blocks::Fault { number, place } => {
-                return Blocks::Fault { number, place };
-            }
-            Blocks::End { at: next } => {
-                at = next;
-            }
-        }
+    for class in 0..count {
+        at = class_block(file, f, end, class, at)?;
     }
-    Blocks::End { at }
+    Ok(at)
 }
 
-// One class block: M's two bytes fit, M, the shares fit, their sum and the last.
-fn class_block(file: &[u8], f: Format, end: usize, class: usize, at: usize) -> Blocks
+// One class block: M's two bytes fit, M, the shares fit, their sum and the last; and where it ends.
+#[tactic(auto, unfolding(crate::specs::Blocks::block_read, file_layout::specs::Check::class_verdict, file_layout::specs::Decode::block_end))]
+fn class_block(
+    file: &[u8],
+    f: Format,
+    end: usize,
+    class: usize,
+    at: usize,
+) -> Result<usize, Refusal<usize>>
     requires { end ≤ length file.now }
     ensures { result ≡ block_read f file.now end class at }
 {
-    let room = bytes_between(at, end);
+    let room = end.saturating_sub(at);
     if room < 2 {
-        return Blocks::Fault {
-            number: 2,
-            place: 0,
-        };
+        return Err(UNJOINED);
     }
     let delay = u16_at(file, at);
     if !delay_rule(f, delay) {
-        return Blocks::Fault {
+        return Err(Refusal {
             number: 3,
             place: class,
-        };
+        });
     }
     if room < 4 + 2 * delay {
-        return Blocks::Fault {
-            number: 2,
-            place: 0,
-        };
+        return Err(UNJOINED);
     }
     if !shares_keep(file, at, delay) {
-        return Blocks::Fault {
+        return Err(Refusal {
             number: 3,
             place: class,
-        };
+        });
     }
-    Blocks::End {
-        at: at + 4 + 2 * delay,
-    }
+    Ok(at + 4 + 2 * delay)
 }
 
 // M is not above the version's longest delay.
@@ -196,16 +176,6 @@ pub fn delay_rule(f: Format, delay: usize) -> bool
     ensures { result ≡ leb delay f.delay }
 {
     delay <= f.delay
-}
-
-// The bytes from `at` up to `end`, none where `end` is not past `at`.
-fn bytes_between(at: usize, end: usize) -> usize
-    ensures { result ≡ end - at }
-{
-    if end < at {
-        return 0;
-    }
-    end - at
 }
 
 // The shares of the block at `at`, whose maximum delay is `delay`: their sum and the last.

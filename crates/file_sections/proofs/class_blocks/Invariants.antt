@@ -1,11 +1,8 @@
-use Prim.Native.Nat.{◌-◌, ◌≤◌}
+use Prim.Native.Nat.{◌-◌}
 use mathlib.Core.Path.{◌≡◌}
 use Rattle.file_sections.specs.Blocks.{blocks_read}
 use Rattle.file_sections.proofs.class_blocks.Given as goal
 
 abbrev pub invariant-loop-class : goal.invariant-loop-class
 invariant-loop-class l =
-    (blocks_read l.f l.file l.end 0 l.start l.count ≡ blocks_read l.f l.file l.end l.class l.at (l.count - l.class)) × (l.class ≤ l.count)
-
-abbrev pub decreases-loop-class : goal.decreases-loop-class
-decreases-loop-class l = l.count - l.class
+    blocks_read l.f l.file l.end 0 l.start l.count ≡ blocks_read l.f l.file l.end l.class l.at (l.count - l.class)
