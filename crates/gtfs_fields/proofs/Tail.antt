@@ -1,18 +1,16 @@
 -- What the rule of a time's last six bytes asks of each of them. Assumes nothing.
 use Prim.Native.Nat.{ℕ, ◌+◌, ◌*◌, ◌≤◌, ◌<◌}
-use mathlib.Core.Bool.{Bool, true, cond, ◌&&◌}
+use mathlib.Core.Bool.{Bool, true, ◌&&◌}
 use mathlib.Core.List.{List}
-use mathlib.Core.Path.{◌≡◌, refl, sym}
+use mathlib.Core.Path.{◌≡◌}
 use native.Mathlib.Omega.{arith}
 use lib.Dec.{ltb, eqb}
 use lib.ListN.{get_or}
 use borrow.Author.Tests.{ltb-true, eqb-true, lt-ltb, eq-eqb}
-use Rattle.laws.proofs.Tests.{ifb, both, both_left, both_right, cond_true}
+use Rattle.laws.proofs.Tests.{both, both_left, both_right}
 use Rattle.text.specs.Decimal.{digit_of, digit_in}
-use Rattle.gtfs_fields.specs.declared.Number.{Number}
-use Rattle.gtfs_fields.specs.declared.Number.TheVariants.{Is, Wrong}
 use Rattle.gtfs_fields.specs.Whole.{is_digit}
-use Rattle.gtfs_fields.specs.Time.{colon, minutes_an_hour, minutes_in, tail_rule, tail_minutes}
+use Rattle.gtfs_fields.specs.Time.{colon, minutes_an_hour, minutes_in, tail_rule}
 use Rattle.gtfs_fields.proofs.Digits.{digit_from, digit_to, digit_holds}
 
 pub record Tail (tail : List ℕ) : Type 0 where
@@ -71,13 +69,3 @@ module _ (tail : List ℕ) where
       let ones = digit_holds (get_or tail 2 0) t.ones_from t.ones_to in
       let minutes = both (both (both (eq-eqb _ _ t.ahead_of_minutes) tens) ones) (lt-ltb (minutes_in tail) minutes_an_hour (omega arith)) in
       both (both (both minutes (eq-eqb _ _ t.ahead_of_seconds)) (eq-eqb _ _ t.seconds_tens)) (eq-eqb _ _ t.seconds_ones)
-
-  pub tail_wrong : (Tail tail → ⊥) → Wrong ≡ tail_minutes tail
-  unfolding tail_minutes
-  tail_wrong breaks =
-      ifb (λ b. ◌≡◌ {A = Number} Wrong (cond b (Is (minutes_in tail)) Wrong)) (tail_rule tail)
-      (λ holds. absurd (breaks (tail_told holds))) (λ fails. refl)
-
-  pub tail_right : Tail tail → Is (minutes_in tail) ≡ tail_minutes tail
-  unfolding tail_minutes
-  tail_right t = sym (cond_true (Is (minutes_in tail)) Wrong (tail_holds t))

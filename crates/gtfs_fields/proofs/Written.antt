@@ -10,7 +10,7 @@ use borrow.Author.Tests.{le-leb}
 use Rattle.laws.proofs.Tests.{ifb, both, cond_true}
 use Rattle.text.specs.Decimal.{digit_of, digits_onto, decimal, number_text, value_behind, value_of}
 use Rattle.text.proofs.Decimals.{reads_back, only_digits}
-use Rattle.gtfs_fields.specs.declared.Number.TheVariants.{Is, Wrong}
+use Rattle.std.specs.Prelude.{Some, None}
 use Rattle.gtfs_fields.specs.Time.{minutes_an_hour, is_time, time_minutes, time_within}
 use Rattle.gtfs_fields.proofs.Words.{words_pass, words_minutes}
 use Rattle.gtfs_fields.specs.Words.{ClockTime, time_text}
@@ -55,9 +55,9 @@ module _ (hours minutes : ℕ) (below : minutes < minutes_an_hour) where
       ∙ ap (λ n. minutes_an_hour * hours + n) last
 
   pub written_within : (most : ℕ) → minutes_an_hour * hours + minutes ≤ most
-      → time_within most (time_text hours minutes) ≡ Is (minutes_an_hour * hours + minutes)
+      → time_within most (time_text hours minutes) ≡ Some (minutes_an_hour * hours + minutes)
   unfolding time_within
   written_within most within =
-      cond_true (Is (time_minutes (time_text hours minutes))) Wrong
+      cond_true (Some (time_minutes (time_text hours minutes))) None
       (both written_passes (ap (λ n. leb n most) written_minutes ∙ le-leb (minutes_an_hour * hours + minutes) most within))
-      ∙ ap Is written_minutes
+      ∙ ap Some written_minutes

@@ -1,8 +1,7 @@
 -- Document 02, E2: times: hours of one digit or more, a colon, two digits of minutes, a colon, two digits of seconds.
 use Rattle.std.specs.Prelude.{ℕ, ◌+◌, ◌*◌, ◌-◌, Bool, cond, ◌&&◌, List, leb, ltb, eqb, length, take, drop, get_or}
 use Rattle.text.specs.Decimal.{digit_of, digit_in, value_of}
-use Rattle.gtfs_fields.specs.declared.Number.{Number}
-use Rattle.gtfs_fields.specs.declared.Number.TheVariants.{Is, Wrong}
+use Rattle.std.specs.Prelude.{Option, Some, None}
 use Rattle.gtfs_fields.specs.Whole.{is_digit, is_whole}
 
 abbrev pub colon : ℕ
@@ -33,8 +32,8 @@ tail_rule tail =
     && eqb (get_or tail 3 0) colon && eqb (get_or tail 4 0) (digit_of 0) && eqb (get_or tail 5 0) (digit_of 0)
 
 -- what a time's last six bytes say by themselves
-unfoldable pub tail_minutes : List ℕ → Number
-tail_minutes tail = cond (tail_rule tail) (Is (minutes_in tail)) Wrong
+unfoldable pub tail_minutes : List ℕ → Option ℕ
+tail_minutes tail = cond (tail_rule tail) (Some (minutes_in tail)) None
 
 -- well formed, and seconds 00
 unfoldable pub is_time : List ℕ → Bool
@@ -45,5 +44,5 @@ unfoldable pub time_minutes : List ℕ → ℕ
 time_minutes field = minutes_an_hour * value_of (hours_in field) + minutes_in (tail_in field)
 
 -- a time of at most so many minutes
-unfoldable pub time_within : ℕ → List ℕ → Number
-time_within most field = cond (is_time field && leb (time_minutes field) most) (Is (time_minutes field)) Wrong
+unfoldable pub time_within : ℕ → List ℕ → Option ℕ
+time_within most field = cond (is_time field && leb (time_minutes field) most) (Some (time_minutes field)) None

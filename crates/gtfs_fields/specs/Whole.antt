@@ -1,8 +1,7 @@
 -- Document 02, E2: whole numbers, of any number of digits.
 use Rattle.std.specs.Prelude.{ℕ, Bool, true, cond, ◌&&◌, List, [], ◌∷◌, leb, ltb, length}
 use Rattle.text.specs.Decimal.{digit_of, value_of}
-use Rattle.gtfs_fields.specs.declared.Number.{Number}
-use Rattle.gtfs_fields.specs.declared.Number.TheVariants.{Is, Wrong}
+use Rattle.std.specs.Prelude.{Option, Some, None}
 
 abbrev pub is_digit : ℕ → Bool
 is_digit character = leb (digit_of 0) character && leb character (digit_of 9)
@@ -16,5 +15,5 @@ unfoldable pub is_whole : List ℕ → Bool
 is_whole field = ltb 0 (length field) && are_digits field
 
 -- a whole number below the limit
-unfoldable pub whole_below : ℕ → List ℕ → Number
-whole_below limit field = cond (is_whole field && ltb (value_of field) limit) (Is (value_of field)) Wrong
+unfoldable pub whole_below : ℕ → List ℕ → Option ℕ
+whole_below limit field = cond (is_whole field && ltb (value_of field) limit) (Some (value_of field)) None

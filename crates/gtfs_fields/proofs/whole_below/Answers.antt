@@ -1,70 +1,40 @@
 -- `gtfs_fields::whole_below` meets its contract: what is told of the field is what is told of the characters left. Assumes nothing.
+use mathlib.Core.Bool.{true, false}
 use mathlib.Core.Path.{sym, ◌∙◌}
 use native.Mathlib.Omega.{arith}
-use lib.ListN.{drop}
-use Rattle.gtfs_fields.proofs.Onward.{whole_empty, whole_starts}
-use Rattle.gtfs_fields.proofs.Onward.{rest_digit, rest_low, rest_high, rest_skip, rest_below_lem, rest_past}
+use borrow.Author.Tests.{eqb-true, eqb-false}
+use Rattle.gtfs_fields.proofs.Onward.{whole_empty, whole_starts, rest_next, rest_skip, rest_ends, told_where}
 use Rattle.gtfs_fields.proofs.whole_below.Goals as goal
+use Rattle.gtfs_fields.proofs.whole_below.Goals.{then-value-limit, else-value-limit}
 
-pub returns-then-field-eq0 : goal.returns-then-field-eq0
-returns-then-field-eq0 c = sym (whole_empty c.args.limit c.args.field.now c.if-field-eq0.true)
+pub returns-then-is_empty : goal.returns-then-is_empty
+returns-then-is_empty c = sym (whole_empty c.args.limit c.args.field.now (eqb-true _ _ (sym c.if-is_empty.ensures)))
 
-pub loop-at-init : goal.loop-at-init
-loop-at-init c = (omega arith, whole_starts c.args.limit c.args.field.now (omega arith))
+pub loop-character-init : goal.loop-character-init
+loop-character-init c =
+    let some = eqb-false _ _ (sym c.if-is_empty.ensures) in
+    whole_starts c.args.limit c.args.field.now (omega arith)
 
-pub bounds-field-at : goal.bounds-field-at
-bounds-field-at c = omega arith
-
-pub overflow_add-at : goal.overflow_add-at
-overflow_add-at c = omega arith
-
-pub returns-then-character-lt48 : goal.returns-then-character-lt48
-returns-then-character-lt48 c =
+pub returns-then-not-is_ascii_digit : goal.returns-then-not-is_ascii_digit
+returns-then-not-is_ascii_digit c =
     let a = c.args in
-    let l = c.loop-at in
-    sym (l.invariant.1 ∙ rest_low a.limit a.field.now l.at l.value (omega arith) (omega arith))
+    let l = c.loop-character in
+    sym (l.invariant ∙ rest_next a.limit a.field.now l.character-index l.value (omega arith) false (sym c.if-not-is_ascii_digit.ensures.value))
 
-pub returns-then-character-gt57 : goal.returns-then-character-gt57
-returns-then-character-gt57 c =
+pub loop-character-preserved : goal.loop-character-preserved
+loop-character-preserved c =
     let a = c.args in
-    let l = c.loop-at in
-    sym (l.invariant.1 ∙ rest_high a.limit a.field.now l.at l.value (omega arith) (omega arith))
-
-pub overflow_mul-value : goal.overflow_mul-value
-overflow_mul-value c = omega arith
-
-pub overflow_cast-value : goal.overflow_cast-value
-overflow_cast-value c = omega arith
-
-pub overflow_add-value : goal.overflow_add-value
-overflow_add-value c = omega arith
-
-pub loop-at-smaller-then-value-limit : goal.loop-at-smaller-then-value-limit
-loop-at-smaller-then-value-limit c = omega arith
-
-pub loop-at-preserved-then-value-limit : goal.loop-at-preserved-then-value-limit
-loop-at-preserved-then-value-limit c =
-    let a = c.args in
-    let l = c.loop-at in
-    (omega arith, l.invariant.1 ∙ rest_digit a.limit a.field.now l.at l.value (omega arith) (omega arith) (omega arith))
-
-pub loop-at-smaller : goal.loop-at-smaller
-loop-at-smaller c = omega arith
-
-pub loop-at-preserved : goal.loop-at-preserved
-loop-at-preserved c =
-    let a = c.args in
-    let l = c.loop-at in
-    (omega arith, l.invariant.1 ∙ rest_skip a.limit a.field.now l.at l.value (omega arith) (omega arith))
-
-pub returns-then-limit-value : goal.returns-then-limit-value
-returns-then-limit-value c =
-    let a = c.args in
-    let l = c.loop-at in
-    sym (l.invariant.1 ∙ rest_past a.limit l.value (drop l.at a.field.now) c.if-limit-value.true)
+    let l = c.loop-character in
+    let digit = rest_next a.limit a.field.now l.character-index l.value (omega arith) true (sym c.if-not-is_ascii_digit.ensures.value) in
+    elim c.if-value-limit.branch [
+      | then-value-limit w ↦ cc
+      | else-value-limit w ↦
+          let skip = rest_skip a.limit a.field.now l.character-index l.value (omega arith) (omega arith) in cc
+    ]
 
 pub returns : goal.returns
 returns c =
     let a = c.args in
-    let l = c.loop-at in
-    sym (l.invariant.1 ∙ rest_below_lem a.limit a.field.now l.at l.value (omega arith) c.if-limit-value.false)
+    let l = c.loop-character in
+    c.then_some.ensures ∙ told_where _ l.value
+    ∙ sym (l.invariant ∙ rest_ends a.limit a.field.now l.character-index l.value (omega arith))
