@@ -13,6 +13,7 @@
 
 ghost use Rattle.std.specs.Prelude.{◌≡◌, ◌+◌, ◌≤◌, ◌<◌, length};
 ghost use Rattle.plan_cells.specs.Cells.{filled};
+
 // The first cell of each region.
 pub const TRIP_CELLS: usize = 0;
 
@@ -30,10 +31,5 @@ pub fn fill(work: &mut [u32], at: usize, count: usize, value: u32)
     requires { at + count ≤ length work.old }
     ensures { work.new ≡ filled work.old at count value }
 {
-    let mut i = at;
-    let end = at + count;
-    while i < end {
-        work[i] = value;
-        i += 1;
-    }
+    work[at..at + count].fill(value);
 }

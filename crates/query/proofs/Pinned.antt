@@ -1,5 +1,4 @@
 -- Refusal 6 and a query's bytes, at both sides of each line. Each statement holds by computing. Assumes nothing.
-use Prim.Native.Nat.{ℕ}
 use mathlib.Core.Bool.{true, false}
 use mathlib.Core.List.{[], ◌∷◌}
 use mathlib.Core.Path.{◌≡◌, refl}

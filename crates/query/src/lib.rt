@@ -52,29 +52,26 @@ pub fn query_of(source: u32, target: u32, minute: u32, code: u32, margin: u32, g
 }
 
 // The query in its bytes; bytes of any other length ask from a stop to itself.
+#[tactic(auto, unfolding(crate::specs::Query::query_in))]
 pub fn query_in(bytes: &[u8]) -> Query
     ensures { result ≡ query_in bytes.now }
 {
-    if bytes.len() == QUERY_BYTES {
-        return read_with(bytes, LEAST_MARGIN, 0);
-    }
-    if bytes.len() == MARGIN_BYTES {
-        return read_with(bytes, u16_at(bytes, QUERY_BYTES), 0);
-    }
-    if bytes.len() == GATE_BYTES {
-        return read_with(
+    match bytes.len() {
+        QUERY_BYTES => read_with(bytes, LEAST_MARGIN, 0),
+        MARGIN_BYTES => read_with(bytes, u16_at(bytes, QUERY_BYTES), 0),
+        GATE_BYTES => read_with(
             bytes,
             u16_at(bytes, QUERY_BYTES),
             u16_at(bytes, MARGIN_BYTES),
-        );
-    }
-    Query {
-        source: 0,
-        target: 0,
-        minute: 0,
-        code: 0,
-        margin: LEAST_MARGIN,
-        gate: 0,
+        ),
+        _ => Query {
+            source: 0,
+            target: 0,
+            minute: 0,
+            code: 0,
+            margin: LEAST_MARGIN,
+            gate: 0,
+        },
     }
 }
 
@@ -94,61 +91,39 @@ fn read_with(bytes: &[u8], margin: usize, gate: usize) -> Query
 }
 
 // The rule of a query in a file of so many stops, whose last minute is `last`.
+#[tactic(auto, unfolding(crate::specs::Query::query_rule))]
 pub fn query_rule(q: Query, stops: usize, last: usize) -> bool
     ensures { result ≡ query_rule stops last q }
 {
-    if !journey_rule(q, stops, last) {
-        return false;
-    }
-    if !code_rule(q) {
-        return false;
-    }
-    if !margin_rule(q) {
-        return false;
-    }
-    gate_rule(q)
+    journey_rule(q, stops, last) && code_rule(q) && margin_rule(q) && gate_rule(q)
 }
 
 // Two stops of the file that differ, and a minute that is not past the last.
+#[tactic(auto, unfolding(crate::specs::Query::journey_rule))]
 fn journey_rule(q: Query, stops: usize, last: usize) -> bool
     ensures { result ≡ journey_rule stops last q }
 {
-    if stops <= q.source {
-        return false;
-    }
-    if stops <= q.target {
-        return false;
-    }
-    if q.source == q.target {
-        return false;
-    }
-    q.minute <= last
+    q.source < stops && q.target < stops && q.source != q.target && q.minute <= last
 }
 
 // The bound code is 0 or 4 to 16.
+#[tactic(auto, unfolding(crate::specs::Query::code_rule))]
 pub fn code_rule(q: Query) -> bool
     ensures { result ≡ code_rule q }
 {
-    if q.code == 0 {
-        return true;
-    }
-    if q.code < FEWEST_QUARTERS {
-        return false;
-    }
-    q.code <= MOST_QUARTERS
+    q.code == 0 || (FEWEST_QUARTERS..=MOST_QUARTERS).contains(&q.code)
 }
 
 // The margin is 1 to 2,560.
+#[tactic(auto, unfolding(crate::specs::Query::margin_rule))]
 pub fn margin_rule(q: Query) -> bool
     ensures { result ≡ margin_rule q }
 {
-    if q.margin < LEAST_MARGIN {
-        return false;
-    }
-    q.margin <= MOST_MARGIN
+    (LEAST_MARGIN..=MOST_MARGIN).contains(&q.margin)
 }
 
 // The gate time is 0 to 30.
+#[tactic(auto, unfolding(crate::specs::Query::gate_rule))]
 pub fn gate_rule(q: Query) -> bool
     ensures { result ≡ gate_rule q }
 {
