@@ -14,8 +14,5 @@ pub fn say_gate(out: &Output, words: &[u8], gate: usize) {
 pub fn closing(departure: usize, gate: usize) -> usize
     ensures { result ≡ departure - gate }
 {
-    if departure < gate {
-        return 0;
-    }
-    departure - gate
+    departure.saturating_sub(gate)
 }

@@ -16,6 +16,20 @@ use timetable::Row;
 struct Ride {
     board: Row,
     leave: Row,
+    ghost board_small: { SmallRow board },
+    ghost leave_small: { SmallRow leave },
+}
+
+// A plan's rides, the file whose rows they name, and when gates close.
+#[derive(Clone, Copy)]
+struct Followed<'a> {
+    file: &'a [u8],
+    format: Format,
+    rowstart: usize,
+    plan: &'a [u32],
+    rides: usize,
+    gate: usize,
+    ghost readable: { Readable format },
 }
 
 // When gates close, the first ride of a plan, then for each stop what to take there.
@@ -34,91 +48,64 @@ pub fn print_plan(
         say_gate(out, b"Gates close ", gate);
         say(out, b".\n");
     }
-    let first = ride_in(file, f, trailer.rowstart, plan, 0);
+    let followed = Followed {
+        file,
+        format: f,
+        rowstart: trailer.rowstart,
+        plan,
+        rides,
+        gate,
+    };
+    let first = followed.ride(0);
     say_number(out, b"From stop ", first.board.board);
     print_ride(out, first);
     say(out, b".\n");
-    print_landings(
-        out,
-        file,
-        f,
-        trailer.rowstart,
-        plan,
-        rides,
-        trailer.stops,
-        gate,
-    );
-}
-
-// Ride number `place` of the plan.
-fn ride_in(file: &[u8], f: Format, start: usize, plan: &[u32], place: usize) -> Ride
-    requires { Readable f }
-    ensures { SmallRow result.board × SmallRow result.leave }
-{
-    if place < plan.len() / 3 {
-        let board = row_in(file, f, start, number(board_of(plan, place)));
-        let leave = row_in(file, f, start, number(leave_of(plan, place)));
-        return Ride { board, leave };
-    }
-    let none = row_in(file, f, start, 0);
-    Ride {
-        board: none,
-        leave: none,
+    for stop in 0..trailer.stops {
+        followed.print_landing(out, stop);
     }
 }
 
-// Stop by stop, the rides that a passenger who lands there can take.
-fn print_landings(
-    out: &Output,
-    file: &[u8],
-    f: Format,
-    start: usize,
-    plan: &[u32],
-    rides: usize,
-    stops: usize,
-    gate: usize,
-)
-    requires { Readable f }
-{
-    let mut stop = 0;
-    while stop < stops {
-        print_landing(out, file, f, start, plan, rides, stop, gate);
-        stop += 1;
-    }
-}
-
-// The rides behind the first that board at `stop`, each for those who land by the minute when its gate closes.
-fn print_landing(
-    out: &Output,
-    file: &[u8],
-    f: Format,
-    start: usize,
-    plan: &[u32],
-    rides: usize,
-    stop: usize,
-    gate: usize,
-)
-    requires { Readable f }
-{
-    let mut found = false;
-    let mut place = 1;
-    while place < rides {
-        let ride = ride_in(file, f, start, plan, place);
-        place += 1;
-        if ride.board.board == stop {
-            print_choice(out, stop, found, ride, gate);
-            found = true;
+impl Followed<'_> {
+    // Ride number `place` of the plan.
+    fn ride(self, place: usize) -> Ride {
+        if place < self.plan.len() / 3 {
+            Ride {
+                board: self.row(board_of(self.plan, place)),
+                leave: self.row(leave_of(self.plan, place)),
+            }
+        } else {
+            let none = self.row(0);
+            Ride {
+                board: none,
+                leave: none,
+            }
         }
     }
-    if found {
-        say(out, b".\n");
+
+    fn row(self, cell: u32) -> Row
+        ensures { SmallRow result }
+    {
+        row_in(self.file, self.format, self.rowstart, number(cell))
+    }
+
+    // The rides behind the first that board at `stop`, each for those who land by the minute when its gate closes.
+    fn print_landing(self, out: &Output, stop: usize) {
+        let mut found = false;
+        for place in 1..self.rides {
+            let ride = self.ride(place);
+            if ride.board.board == stop {
+                print_choice(out, stop, found, ride, self.gate);
+                found = true;
+            }
+        }
+        if found {
+            say(out, b".\n");
+        }
     }
 }
 
 // A ride to take at a stop, the first that is named there or a further one.
-fn print_choice(out: &Output, stop: usize, further: bool, ride: Ride, gate: usize)
-    requires { SmallRow ride.board × SmallRow ride.leave }
-{
+fn print_choice(out: &Output, stop: usize, further: bool, ride: Ride, gate: usize) {
     if further {
         say(out, b";");
     } else {
@@ -129,9 +116,7 @@ fn print_choice(out: &Output, stop: usize, further: bool, ride: Ride, gate: usiz
     print_ride(out, ride);
 }
 
-fn print_ride(out: &Output, ride: Ride)
-    requires { SmallRow ride.board × SmallRow ride.leave }
-{
+fn print_ride(out: &Output, ride: Ride) {
     say_time(out, b" take the ", ride.board.departure);
     say_number(out, b" (trip ", ride.board.trip);
     say_number(out, b") to stop ", ride.leave.land);
