@@ -3,17 +3,18 @@ use Prim.Native.Nat.{ℕ, zero, suc, ◌+◌, ◌*◌}
 use mathlib.Core.Bool.{Bool, true, false, cond}
 use mathlib.Core.List.{List, ◌∷◌}
 use mathlib.Core.Option.{Option, none, some}
-use mathlib.Core.Path.{◌≡◌, refl, ap, sym, subst, subst⁻¹, ◌∙◌}
+use mathlib.Core.Path.{◌≡◌, refl, ap, sym, subst, ◌∙◌}
 use native.Mathlib.Omega.{arith}
 use borrow.Author.Tests.{eq-eqb, ne_eqb}
 use lib.Dec.{eqb}
-use Rattle.laws.proofs.Tests.{cond_true, cond_false}
+use Rattle.laws.proofs.Tests.{cond_false}
 use Rattle.timetable.specs.declared.Row.{Row}
 use Rattle.timetable.specs.Rows.{last_of_trip}
 use Rattle.timetable.proofs.Behind.{last_further}
 use Rattle.file_layout.specs.Decode.{row_at}
 use Rattle.file_check.specs.declared.Found.{Found}
-use Rattle.file_check.specs.declared.Found.TheVariants.{At, Nothing}
+use Rattle.std.specs.Prelude.{Some, None}
+use Rattle.std.specs.Prelude as std
 use Rattle.file_check.specs.Behind.{rows_behind, found_behind, row_found}
 
 -- one row more is its bytes more
@@ -30,20 +31,20 @@ module _ (width : ℕ) (s : List ℕ) (start : ℕ) where
         (ap (λ n. row_at s n ∷ rows_behind width s start fewer) (sym place))
 
     -- the search stops at a row of the trip
-    pub found_here : (trip : ℕ) → (row_at s at).trip ≡ trip → found_behind trip width s start count ≡ At (row_at s at) fewer
+    pub found_here : (trip : ℕ) (row : Row) → row ≡ row_at s at → row.trip ≡ trip
+        → found_behind trip width s start count ≡ Some (record { row = row; place = fewer })
     unfolding found_behind
-    found_here trip same =
-        subst (λ n. found_behind trip width s start n ≡ At (row_at s at) fewer) one
-        (subst⁻¹ (λ a. found_behind trip width s start (suc fewer) ≡ At (row_at s a) fewer) place
-        (cond_true (At (row_at s (start + width * fewer)) fewer) (found_behind trip width s start fewer)
-        (eq-eqb _ trip (ap (λ a. (row_at s a).trip) (sym place) ∙ same))))
+    found_here trip row read same =
+        let there : row_at s (start + width * fewer) ≡ row = ap (row_at s) (sym place) ∙ sym read in
+        subst (λ n. found_behind trip width s start n ≡ Some (record { row = row; place = fewer })) one
+        (simp (there, eq-eqb _ trip same))
 
     -- else it goes on behind that row
     pub found_further : (trip : ℕ) → ((row_at s at).trip ≡ trip → ⊥) → found_behind trip width s start count ≡ found_behind trip width s start fewer
     unfolding found_behind
     found_further trip other =
         subst (λ n. found_behind trip width s start n ≡ found_behind trip width s start fewer) one
-        (cond_false (At (row_at s (start + width * fewer)) fewer) (found_behind trip width s start fewer)
+        (cond_false (Some (record { row = row_at s (start + width * fewer); place = fewer })) (found_behind trip width s start fewer)
         (ne_eqb _ trip (λ same. other (ap (λ a. (row_at s a).trip) place ∙ same))))
 
     -- and so does looking back over the rows themselves
@@ -52,7 +53,7 @@ module _ (width : ℕ) (s : List ℕ) (start : ℕ) where
     last_behind trip other = ap (last_of_trip trip) nearest ∙ last_further trip (row_at s at) (rows_behind width s start fewer) other
 
   -- and ends where no row is left
-  pub found_none : (trip count : ℕ) → count ≡ 0 → found_behind trip width s start count ≡ Nothing
+  pub found_none : (trip count : ℕ) → count ≡ 0 → found_behind trip width s start count ≡ None
   unfolding found_behind
   found_none trip count e = ap (found_behind trip width s start) e
 
@@ -64,14 +65,14 @@ module _ (width : ℕ) (s : List ℕ) (start : ℕ) where
       by_test (eqb (row_at s (start + width * count)).trip trip) (row_at s (start + width * count)) count
       (found_behind trip width s start count) (last_of_trip trip (rows_behind width s start count)) (row_found_lem trip count)
     where
-      by_test : (b : Bool) (row : Row) (place : ℕ) (further : Found) (last : Option Row) → row_found further ≡ last
-          → row_found (cond b (At row place) further) ≡ cond b (some row) last
+      by_test : (b : Bool) (row : Row) (place : ℕ) (further : std.Option Found) (last : Option Row) → row_found further ≡ last
+          → row_found (cond b (Some (record { row = row; place = place })) further) ≡ cond b (some row) last
       by_test true row place further last e = refl
       by_test false row place further last e = e
 
-  pub nothing_found : (trip count : ℕ) → found_behind trip width s start count ≡ Nothing → last_of_trip trip (rows_behind width s start count) ≡ none
+  pub nothing_found : (trip count : ℕ) → found_behind trip width s start count ≡ None → last_of_trip trip (rows_behind width s start count) ≡ none
   nothing_found trip count e = sym (row_found_lem trip count) ∙ ap row_found e
 
-  pub last_found : (trip count : ℕ) (row : Row) (place : ℕ) → found_behind trip width s start count ≡ At row place
-      → last_of_trip trip (rows_behind width s start count) ≡ some row
-  last_found trip count row place e = sym (row_found_lem trip count) ∙ ap row_found e
+  pub last_found : (trip count : ℕ) (found : Found) → found_behind trip width s start count ≡ Some found
+      → last_of_trip trip (rows_behind width s start count) ≡ some found.row
+  last_found trip count found e = sym (row_found_lem trip count) ∙ ap row_found e

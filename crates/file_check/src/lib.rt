@@ -8,45 +8,44 @@ ghost use Rattle.file_layout.specs.Decode.{rows_from};
 ghost use Rattle.file_layout.specs.Check.{answered, checked_as, checked};
 ghost use Rattle.file_check.specs.Behind.{rows_behind, found_behind, RowsInside};
 
-use file_layout::{Checked, Format, Trailer};
-use file_sections::Sections;
-use timetable::{MOST_TRIPS, Ranges, Row};
+use file_layout::{Format, Trailer};
+use timetable::{MOST_TRIPS, Ranges, Refusal, Row};
 
-// The nearest earlier row of a trip and its number, if there is one.
+// The nearest earlier row of a trip and its number.
 #[derive(Clone, Copy)]
-pub enum Found {
-    At { row: Row, place: usize },
-    Nothing,
+pub struct Found {
+    pub row: Row,
+    pub place: usize,
 }
 
 // The check of a file of version 1.
-pub fn check(file: &[u8]) -> Checked
+pub fn check(file: &[u8]) -> Result<Trailer, Refusal<usize>>
     ensures { result ≡ checked file.now }
 {
     check_as(file, file_layout::VERSION_ONE)
 }
 
 // The check of a file of a version: trailer and sections, then the rows.
-pub fn check_as(file: &[u8], f: Format) -> Checked
+pub fn check_as(file: &[u8], f: Format) -> Result<Trailer, Refusal<usize>>
     requires { Readable f }
     ensures { result ≡ checked_as f file.now }
 {
-    let sections = file_sections::read_sections(file, f);
-    match sections {
-        Sections::Fault { number, place } => Checked::Refused { number, place },
-        Sections::Joined { trailer } => {
-            let ranges = Ranges {
-                stops: trailer.stops,
-                classes: trailer.classes,
-                lastminute: f.lastminute,
-            };
-            check_rows(file, trailer, f.width, ranges)
-        }
-    }
+    let trailer = file_sections::read_sections(file, f)?;
+    let ranges = Ranges {
+        stops: trailer.stops,
+        classes: trailer.classes,
+        lastminute: f.lastminute,
+    };
+    check_rows(file, trailer, f.width, ranges)
 }
 
 // Row by row, 4 before 5. `seen` has, for each trip, the number of rows up to its last one so far.
-fn check_rows(file: &[u8], trailer: Trailer, width: usize, ranges: Ranges) -> Checked
+fn check_rows(
+    file: &[u8],
+    trailer: Trailer,
+    width: usize,
+    ranges: Ranges,
+) -> Result<Trailer, Refusal<usize>>
     requires { RowsInside width trailer (length file.now) }
     ensures { result ≡ answered trailer (rows_verdict ranges [] 0 (rows_from width file.now trailer.rowstart trailer.rows)) }
 {
@@ -59,24 +58,24 @@ fn check_rows(file: &[u8], trailer: Trailer, width: usize, ranges: Ranges) -> Ch
     while i < count {
         let row = file_layout::row_at(file, at);
         if !timetable::own_rule(row, ranges) {
-            return Checked::Refused {
+            return Err(Refusal {
                 number: 4,
                 place: i,
-            };
+            });
         }
         let trip = row.trip;
         if !in_order(file, start, width, seen[trip] as usize, departure, row) {
-            return Checked::Refused {
+            return Err(Refusal {
                 number: 5,
                 place: i,
-            };
+            });
         }
         departure = row.departure;
         at += width;
         i += 1;
         seen[trip] = i as u16;
     }
-    Checked::Sound { trailer }
+    Ok(trailer)
 }
 
 // The rule of departures, then that of the trip, whose earlier rows are among the first `count`.
@@ -94,19 +93,20 @@ fn in_order(
     if !timetable::departure_rule(departure, row) {
         return false;
     }
-    let found = look_back(file, start, width, count, row.trip);
-    let Found::At {
-        row: previous,
-        place: _,
-    } = found
-    else {
+    let Some(previous) = look_back(file, start, width, count, row.trip) else {
         return true;
     };
-    timetable::follows(previous, row)
+    timetable::follows(previous.row, row)
 }
 
 // The nearest row of `trip` among the first `count`, found by looking back and stopping at the first.
-pub fn look_back(file: &[u8], start: usize, width: usize, count: usize, trip: usize) -> Found
+pub fn look_back(
+    file: &[u8],
+    start: usize,
+    width: usize,
+    count: usize,
+    trip: usize,
+) -> Option<Found>
     requires { (12 ≤ width) × (start + width * count ≤ length file.now) }
     ensures { result ≡ found_behind trip width file.now start count }
 {
@@ -117,8 +117,8 @@ pub fn look_back(file: &[u8], start: usize, width: usize, count: usize, trip: us
         at -= width;
         let row = file_layout::row_at(file, at);
         if row.trip == trip {
-            return Found::At { row, place: left };
+            return Some(Found { row, place: left });
         }
     }
-    Found::Nothing
+    None
 }
