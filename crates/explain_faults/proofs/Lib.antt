@@ -1,3 +1,2 @@
--- What a reading of a broken file settles, and how many rows are there.
-pub mod Fitting
+-- What a reading of a broken file settles.
 pub mod Settled

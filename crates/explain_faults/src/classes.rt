@@ -6,7 +6,7 @@ ghost use Rattle.file_layout.specs.Small.{SmallTrailer};
 use crate::broken::{number_at, shares_in, trailer_start};
 use explain_words::{say, say_count, say_number};
 use file_layout::{Format, Trailer};
-use file_sections::{Blocks, class_blocks, delay_rule, rows_end};
+use file_sections::{class_blocks, delay_rule, rows_end};
 use files::Output;
 use timetable::SHARE_TOTAL;
 
@@ -57,29 +57,19 @@ fn block_at_fault(file: &[u8], f: Format, end: usize, start: usize, count: usize
     requires { end ≤ length file.now }
 {
     let mut at = start;
-    let mut class = 0;
-    while class < count {
-        let blocks = class_blocks(file, f, end, start, class + 1);
-        match blocks {
-            Blocks::Fault {
-                number: _,
-                place: _,
-            } => {
-                return Block { class, at };
-            }
-            Blocks::End { at: next } => {
-                at = next;
-            }
-        }
-        class += 1;
+    for class in 0..count {
+        let Ok(next) = class_blocks(file, f, end, at, 1) else {
+            return Block { class, at };
+        };
+        at = next;
     }
-    Block { class, at }
+    Block { class: count, at }
 }
 
 // 3: maximum delay, sum or last share of a class.
 pub fn print_class_fault(out: &Output, file: &[u8], f: Format, trailer: Trailer, class: usize) {
-    let blocks = class_blocks(file, f, trailer_start(file, f), trailer.tablestart, class);
-    let Blocks::End { at } = blocks else {
+    let end = trailer_start(file, f);
+    let Ok(at) = class_blocks(file, f, end, trailer.tablestart, class) else {
         return;
     };
     say_number(out, b"Class ", class);

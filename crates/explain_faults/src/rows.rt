@@ -130,12 +130,7 @@ fn print_departure_fault(out: &Output, place: usize, row: Row, ahead: Row)
 fn print_trip_fault(out: &Output, file: &[u8], f: Format, start: usize, place: usize, row: Row)
     requires { Readable f × SmallRow row }
 {
-    let found = last_in(file, f, start, place, row.trip);
-    let Found::At {
-        row: _,
-        place: last,
-    } = found
-    else {
+    let Some(Found { place: last, .. }) = last_in(file, f, start, place, row.trip) else {
         return;
     };
     let earlier = row_in(file, f, start, last);

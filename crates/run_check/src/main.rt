@@ -1,7 +1,6 @@
 // Files at both sides of every line of the check (tests/run_check/make.py packs them): prints what `check` answers to each.
 #![tactic(auto)]
 
-use file_layout::Checked;
 use files::{Output, ended, fail, open_out, write_number, write_out};
 use rooms::{SAILINGS, sailings_room};
 use std::fs::File;
@@ -13,18 +12,19 @@ fn print_number(out: &Output, n: usize) {
     write_number(out, n);
 }
 
-fn print_answer(out: &Output, answer: Checked) {
-    match answer {
-        Checked::Sound { trailer } => {
+// What the check answers to the file.
+fn print_answer(out: &Output, file: &[u8]) {
+    match file_check::check(file) {
+        Ok(trailer) => {
             write_out(out, b" sound");
             print_number(out, trailer.stops);
             print_number(out, trailer.rows);
             print_number(out, trailer.classes);
         }
-        Checked::Refused { number, place } => {
+        Err(refusal) => {
             write_out(out, b" refused");
-            print_number(out, number);
-            print_number(out, place);
+            print_number(out, refusal.number);
+            print_number(out, refusal.place);
         }
     }
     write_out(out, b"\n");
@@ -38,7 +38,7 @@ fn print_next(out: &Output, from: &mut impl Read, place: usize) -> bool {
         return false;
     }
     write_number(out, place);
-    print_answer(out, file_check::check(&file[..long]));
+    print_answer(out, &file[..long]);
     true
 }
 
