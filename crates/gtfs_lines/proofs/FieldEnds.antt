@@ -9,9 +9,9 @@ use lib.ListN.{length, drop, get_or, drop_of_length-le}
 use lib.Seq.{slice, drop-cons, length-slice}
 use Rattle.gtfs_lines.specs.declared.Columns.{Columns}
 use Rattle.gtfs_lines.specs.declared.Fields.{Fields}
-use Rattle.gtfs_lines.specs.declared.Line.TheVariants.{Quoted, Cut}
+use Rattle.std.specs.Prelude.{None}
 use Rattle.gtfs_lines.specs.Lines.{line_feed, quote_mark, comma, without_return, fields_of, has_quote}
-use Rattle.gtfs_lines.specs.Cut.{ahead_of_feed, first_line, behind_line, with_field, last_end, cut_from}
+use Rattle.gtfs_lines.specs.Cut.{cut, ahead_of_feed, first_line, behind_line, with_field, last_end, cut_from}
 use Rattle.gtfs_lines.specs.Joined.{Without}
 use Rattle.gtfs_lines.proofs.Parts.{one_part, first_part}
 use Rattle.gtfs_lines.proofs.Returns.{without_return_lem}
@@ -30,7 +30,7 @@ pub record LastField (text : List ℕ) (from to next : ℕ) : Type 0 where
   pub unquoted : has_quote (first_line (drop from text)) ≡ false
   pub behind : behind_line (drop from text) ≡ drop next text
   pub cuts : (columns : Columns) (column : ℕ) (fields : Fields)
-      → cut_from text columns column from from fields (drop from text) ≡ Cut (with_field columns column (record { from = from; to = to }) fields) next
+      → cut_from text columns column from from fields (drop from text) ≡ cut (with_field columns column (record { from = from; to = to }) fields) next
 
 -- the same, in other words
 pub last_as : {text : List ℕ} {from to to' next next' : ℕ} → LastField text from to next → to' ≡ to → next' ≡ next → LastField text from to' next'
@@ -51,7 +51,7 @@ pub record NextField (text : List ℕ) (from at : ℕ) : Type 0 where
 -- a quote mark stands in the field
 pub record QuotedField (text : List ℕ) (from : ℕ) : Type 0 where
   pub quoted : has_quote (first_line (drop from text)) ≡ true
-  pub cuts : (columns : Columns) (column : ℕ) (fields : Fields) → cut_from text columns column from from fields (drop from text) ≡ Quoted
+  pub cuts : (columns : Columns) (column : ℕ) (fields : Fields) → cut_from text columns column from from fields (drop from text) ≡ None
 
 module _ (text : List ℕ) (columns : Columns) (column from at : ℕ) (fields : Fields) where
   -- a byte that is no mark belongs to the field

@@ -7,24 +7,24 @@ use native.Mathlib.Omega.{arith}
 use lib.ListN.{length, drop, length-drop}
 use lib.Seq.{slice}
 use Rattle.gtfs_lines.specs.declared.Columns.{Columns}
-use Rattle.gtfs_lines.specs.declared.Header.{Header}
-use Rattle.gtfs_lines.specs.declared.Header.TheVariants.{Quoted, Named}
+use Rattle.gtfs_lines.specs.declared.Heading.{Heading}
+use Rattle.std.specs.Prelude.{Option, None}
 use Rattle.gtfs_lines.specs.Columns.{columns_of}
 use Rattle.gtfs_lines.specs.Lines.{fields_of, has_quote}
-use Rattle.gtfs_lines.specs.Cut.{first_line, behind_line, header_of}
+use Rattle.gtfs_lines.specs.Cut.{named, first_line, behind_line, header_of}
 use Rattle.gtfs_lines.specs.Naming.{with_name}
 use Rattle.gtfs_lines.proofs.Naming.{named_in, named_all, named_none, named_next}
 use Rattle.gtfs_lines.proofs.FieldEnds.{LastField, NextField, QuotedField}
 
 -- what is told of a header, by its quote marks, its columns and the text behind it
-unfoldable pub told : (text : List ℕ) (quoted : Bool) → Columns → (behind : List ℕ) → Header
-told text quoted columns behind = cond quoted Quoted (Named columns (length text - length behind))
+unfoldable pub told : (text : List ℕ) (quoted : Bool) → Columns → (behind : List ℕ) → Option Heading
+told text quoted columns behind = cond quoted None (named columns (length text - length behind))
 
 told_as : (text : List ℕ) {quoted quoted' : Bool} {columns columns' : Columns} {behind behind' : List ℕ}
     → quoted ≡ quoted' → columns ≡ columns' → behind ≡ behind' → told text quoted columns behind ≡ told text quoted' columns' behind'
 told_as text p q r = cc
 
-told_quoted : (text : List ℕ) (columns : Columns) (behind : List ℕ) → told text true columns behind ≡ Quoted
+told_quoted : (text : List ℕ) (columns : Columns) (behind : List ℕ) → told text true columns behind ≡ None
 unfolding told
 told_quoted text columns behind = refl
 
@@ -33,7 +33,7 @@ unfolding header_of told
 header_told text = refl
 
 -- the header, of which the fields ahead of `from` are read
-unfoldable pub header_from : (text : List ℕ) → (column : ℕ) → Columns → (from : ℕ) → Header
+unfoldable pub header_from : (text : List ℕ) → (column : ℕ) → Columns → (from : ℕ) → Option Heading
 header_from text column columns from =
     let line = first_line (drop from text) in
     told text (has_quote line) (named_in column columns (fields_of line)) (behind_line (drop from text))
@@ -45,13 +45,13 @@ module _ (text : List ℕ) where
 
   module _ (column : ℕ) (columns : Columns) (from : ℕ) where
     pub header_last : 0 < column → {to next : ℕ} → LastField text from to next
-        → header_from text column columns from ≡ Named (with_name (slice from to text) column columns) next
+        → header_from text column columns from ≡ named (with_name (slice from to text) column columns) next
     unfolding header_from told
     header_last some {to} {next} last =
         let here = with_name (slice from to text) column columns in
         let place : length text - length (drop next text) ≡ next = omega (arith, length-drop next text, last.inside) in
-        let named = named_next column columns (slice from to text) [] some ∙ named_none (suc column) here in
-        told_as text last.unquoted (ap (named_in column columns) last.fields ∙ named) last.behind ∙ ap (Named here) place
+        let all = named_next column columns (slice from to text) [] some ∙ named_none (suc column) here in
+        told_as text last.unquoted (ap (named_in column columns) last.fields ∙ all) last.behind ∙ ap (named here) place
 
     pub header_next : 0 < column → {at : ℕ} → NextField text from at
         → header_from text column columns from ≡ header_from text (suc column) (with_name (slice from at text) column columns) (suc at)
@@ -61,6 +61,6 @@ module _ (text : List ℕ) where
         told_as text next.quotes
         (ap (named_in column columns) next.fields ∙ named_next column columns (slice from at text) further some) next.behind
 
-    pub header_quoted : QuotedField text from → header_from text column columns from ≡ Quoted
+    pub header_quoted : QuotedField text from → header_from text column columns from ≡ None
     unfolding header_from
     header_quoted q = told_as text q.quoted refl refl ∙ told_quoted text _ _

@@ -10,10 +10,11 @@ use lib.Seq.{drop-length}
 use borrow.Author.Tests.{leb-true, leb-false}
 use Rattle.laws.proofs.Tests.{ifb}
 use Rattle.gtfs_lines.specs.declared.Columns.{Columns}
-use Rattle.gtfs_lines.specs.declared.Header.TheVariants.{Quoted, Named}
+use Rattle.std.specs.Prelude.{Some, None}
+use Rattle.gtfs_lines.specs.declared.Heading.{Heading}
 use Rattle.gtfs_lines.specs.Columns.{columns_of}
 use Rattle.gtfs_lines.specs.Lines.{has_quote}
-use Rattle.gtfs_lines.specs.Cut.{ahead_of_feed, first_line, behind_line, header_of, HeaderCut}
+use Rattle.gtfs_lines.specs.Cut.{named, ahead_of_feed, first_line, behind_line, header_of, HeaderCut}
 
 -- what is left is found again by its length
 drop_left : (text : List ℕ) (n : ℕ) → drop (length text - length (drop n text)) text ≡ drop n text
@@ -27,22 +28,25 @@ drop_left text n =
     let all : length text - length (drop n text) ≡ length text = omega (arith, ap length none) in
     ap (λ k. drop k text) all ∙ drop-length text ∙ sym none)
 
-named_columns : {columns columns' : Columns} {next next' : ℕ} → Named columns next ≡ Named columns' next' → columns ≡ columns'
-named_columns e = cc
+same_heading : {one other : Heading} → Some one ≡ Some other → one ≡ other
+same_heading e = cc
 
-named_next : {columns columns' : Columns} {next next' : ℕ} → Named columns next ≡ Named columns' next' → next ≡ next'
-named_next e = cc
+named_columns : {columns columns' : Columns} {next next' : ℕ} → named columns next ≡ named columns' next' → columns ≡ columns'
+named_columns e = ap (λ h. h.columns) (same_heading e)
 
-not_both : {P : Type 0} {columns : Columns} {next : ℕ} → Quoted ≡ Named columns next → P
+named_next : {columns columns' : Columns} {next next' : ℕ} → named columns next ≡ named columns' next' → next ≡ next'
+named_next e = ap (λ h. h.next) (same_heading e)
+
+not_both : {P : Type 0} {columns : Columns} {next : ℕ} → None ≡ named columns next → P
 not_both e = absurd (let z : ◌≡◌ {A = ℕ} 0 1 = cc in let y : ⊥ = omega arith in y)
 
 -- a header that was read
-pub header_cut : (text : List ℕ) (columns : Columns) (next : ℕ) → header_of text ≡ Named columns next → HeaderCut text columns next
+pub header_cut : (text : List ℕ) (columns : Columns) (next : ℕ) → header_of text ≡ named columns next → HeaderCut text columns next
 unfolding header_of behind_line
 header_cut text columns next told = by_quote (has_quote (first_line text)) refl told
   where
     by_quote : (b : Bool) → has_quote (first_line text) ≡ b
-        → cond b Quoted (Named (columns_of (first_line text)) (length text - length (behind_line text))) ≡ Named columns next
+        → cond b None (named (columns_of (first_line text)) (length text - length (behind_line text))) ≡ named columns next
         → HeaderCut text columns next
     by_quote true e named = not_both named
     by_quote false e named =
@@ -55,10 +59,10 @@ header_cut text columns next told = by_quote (has_quote (first_line text)) refl 
         }
 
 -- a header that was refused
-pub header_refused : (text : List ℕ) → header_of text ≡ Quoted → has_quote (first_line text) ≡ true
+pub header_refused : (text : List ℕ) → header_of text ≡ None → has_quote (first_line text) ≡ true
 unfolding header_of
 header_refused text told = by_quote (has_quote (first_line text)) told
   where
-    by_quote : (b : Bool) → cond b Quoted (Named (columns_of (first_line text)) (length text - length (behind_line text))) ≡ Quoted → b ≡ true
+    by_quote : (b : Bool) → cond b None (named (columns_of (first_line text)) (length text - length (behind_line text))) ≡ None → b ≡ true
     by_quote true quote = refl
     by_quote false named = not_both (sym named)

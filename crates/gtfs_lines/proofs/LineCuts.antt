@@ -10,20 +10,24 @@ use lib.Seq.{slice}
 use Rattle.gtfs_lines.specs.declared.Span.{Span}
 use Rattle.gtfs_lines.specs.declared.Columns.{Columns}
 use Rattle.gtfs_lines.specs.declared.Fields.{Fields}
-use Rattle.gtfs_lines.specs.declared.Line.TheVariants.{Quoted, Cut}
+use Rattle.std.specs.Prelude.{Some, None}
+use Rattle.gtfs_lines.specs.declared.Cut.{Cut}
 use Rattle.gtfs_lines.specs.Lines.{fields_of, has_quote}
-use Rattle.gtfs_lines.specs.Cut.{first_line, behind_line, no_span, no_fields, kept, with_field, cut_from, cut_at, FieldCut, LineCut}
+use Rattle.gtfs_lines.specs.Cut.{cut, first_line, behind_line, no_span, no_fields, kept, with_field, cut_from, cut_at, FieldCut, LineCut}
 use Rattle.gtfs_lines.proofs.FieldWalk.{Walk, last, more, quoted, walk}
 use Rattle.gtfs_lines.proofs.KeptFields.{Kept, kept_last, kept_more, field_cut}
 
-not_quoted : {P : Type 0} {fields : Fields} {next : ℕ} → Cut fields next ≡ Quoted → P
+not_quoted : {P : Type 0} {fields : Fields} {next : ℕ} → cut fields next ≡ None → P
 not_quoted e = absurd (let z : ◌≡◌ {A = ℕ} 0 1 = cc in let y : ⊥ = omega arith in y)
 
-cut_fields : {fields fields' : Fields} {next next' : ℕ} → Cut fields next ≡ Cut fields' next' → fields ≡ fields'
-cut_fields e = cc
+same_cut : {one other : Cut} → Some one ≡ Some other → one ≡ other
+same_cut e = cc
 
-cut_next : {fields fields' : Fields} {next next' : ℕ} → Cut fields next ≡ Cut fields' next' → next ≡ next'
-cut_next e = cc
+cut_fields : {fields fields' : Fields} {next next' : ℕ} → cut fields next ≡ cut fields' next' → fields ≡ fields'
+cut_fields e = ap (λ c. c.fields) (same_cut e)
+
+cut_next : {fields fields' : Fields} {next next' : ℕ} → cut fields next ≡ cut fields' next' → next ≡ next'
+cut_next e = ap (λ c. c.next) (same_cut e)
 
 -- the line from `from` on, and where the next one starts
 record Onward (text : List ℕ) (from next : ℕ) : Type 0 where
@@ -36,7 +40,7 @@ record Onward (text : List ℕ) (from next : ℕ) : Type 0 where
 module _ (text : List ℕ) (columns : Columns) where
   -- a line is refused for a quote mark that it has
   quote_met : {from : ℕ} → Walk text from → (column : ℕ) (fields : Fields)
-      → cut_from text columns column from from fields (drop from text) ≡ Quoted → has_quote (first_line (drop from text)) ≡ true
+      → cut_from text columns column from from fields (drop from text) ≡ None → has_quote (first_line (drop from text)) ≡ true
   quote_met (last to next l) column fields e = not_quoted (sym (l.cuts columns column fields) ∙ e)
   quote_met {from} (more at n further) column fields e =
       let kept_so_far = with_field columns column (record { from = from; to = at }) fields in
@@ -45,7 +49,7 @@ module _ (text : List ℕ) (columns : Columns) where
 
   module _ (out : Fields) (end : ℕ) where
     line_met : {from : ℕ} → Walk text from → (column : ℕ) (fields : Fields)
-        → cut_from text columns column from from fields (drop from text) ≡ Cut out end → Onward text from end
+        → cut_from text columns column from from fields (drop from text) ≡ cut out end → Onward text from end
     line_met {from} (last to next l) column fields e =
         subst (Onward text from) (cut_next (sym (l.cuts columns column fields) ∙ e))
         (record { unquoted = l.unquoted; least = le_trans l.rises l.ahead; onward = l.onward; inside = l.inside; behind = sym l.behind })
@@ -66,7 +70,7 @@ module _ (text : List ℕ) (columns : Columns) where
         (keeps : (column : ℕ) (span : Span) (fields : Fields)
         → part (with_field columns column span fields) ≡ kept wanted column (part fields) span) where
       field_met : {from : ℕ} → Walk text from → (column : ℕ) (fields : Fields)
-          → cut_from text columns column from from fields (drop from text) ≡ Cut out end
+          → cut_from text columns column from from fields (drop from text) ≡ cut out end
           → Kept text (fields_of (first_line (drop from text))) wanted column (part fields) (part out)
       field_met {from} (last to next l) column fields e =
           let span : Span = record { from = from; to = to } in
@@ -85,7 +89,7 @@ module _ (text : List ℕ) (columns : Columns) where
           (kept_more text wanted column (part fields) span n.rises (omega (arith, n.inside)) behind)
       field_met (quoted q) column fields e = not_quoted (sym e ∙ q.cuts columns column fields)
 
-      pub field_of : (start : ℕ) → start ≤ length text → part no_fields ≡ no_span → cut_at text columns start ≡ Cut out end
+      pub field_of : (start : ℕ) → start ≤ length text → part no_fields ≡ no_span → cut_at text columns start ≡ cut out end
           → FieldCut text (first_line (drop start text)) wanted (part out)
       unfolding cut_at
       field_of start starts none e =
@@ -95,7 +99,7 @@ module _ (text : List ℕ) (columns : Columns) where
 
 -- a line that was cut
 pub line_cut : (text : List ℕ) (columns : Columns) (start : ℕ) (fields : Fields) (next : ℕ) → start < length text
-    → cut_at text columns start ≡ Cut fields next → LineCut text columns start fields next
+    → cut_at text columns start ≡ cut fields next → LineCut text columns start fields next
 unfolding cut_at with_field
 line_cut text columns start fields next some e =
     let starts : start ≤ length text = omega arith in
@@ -115,6 +119,6 @@ line_cut text columns start fields next some e =
 
 -- a line that was refused
 pub line_quoted : (text : List ℕ) (columns : Columns) (start : ℕ) → start < length text
-    → cut_at text columns start ≡ Quoted → has_quote (first_line (drop start text)) ≡ true
+    → cut_at text columns start ≡ None → has_quote (first_line (drop start text)) ≡ true
 unfolding cut_at
 line_quoted text columns start some e = quote_met text columns (walk text start (omega arith)) 1 no_fields e

@@ -1,13 +1,11 @@
 -- The first line of a text, what is behind it, and where its fields lie: the forms that the code computes.
-use Rattle.std.specs.Prelude.{ℕ, suc, ◌-◌, ◌≤◌, ◌<◌, Bool, true, false, cond, ◌&&◌, List, [], ◌∷◌, ◌≡◌, eqb, ltb, length, drop, get_or}
+use Rattle.std.specs.Prelude.{ℕ, suc, ◌-◌, ◌≤◌, ◌<◌, Bool, true, false, cond, ◌&&◌, List, [], ◌∷◌, Option, Some, None, ◌≡◌, eqb, ltb, length, drop, get_or}
 use Rattle.std.proofs.Math.Seq.{slice}
 use Rattle.gtfs_lines.specs.declared.Span.{Span}
 use Rattle.gtfs_lines.specs.declared.Fields.{Fields}
 use Rattle.gtfs_lines.specs.declared.Columns.{Columns}
-use Rattle.gtfs_lines.specs.declared.Line.{Line}
-use Rattle.gtfs_lines.specs.declared.Line.TheVariants.{Quoted, Cut}
-use Rattle.gtfs_lines.specs.declared.Header.{Header}
-use Rattle.gtfs_lines.specs.declared.Header.TheVariants.{Quoted as HeaderQuoted, Named}
+use Rattle.gtfs_lines.specs.declared.Cut.{Cut}
+use Rattle.gtfs_lines.specs.declared.Heading.{Heading}
 use Rattle.gtfs_lines.specs.Columns.{columns_of}
 use Rattle.gtfs_lines.specs.Lines.{line_feed, carriage_return, quote_mark, comma, without_return, field_of, has_quote}
 
@@ -34,6 +32,13 @@ no_span = record { from = 0; to = 0 }
 abbrev pub no_fields : Fields
 no_fields = record { trip = no_span; arrival = no_span; departure = no_span; stop = no_span; sequence = no_span }
 
+-- a line that was cut, and a header that was read: none is where a quote mark stands in it
+abbrev pub cut : Fields → (next : ℕ) → Option Cut
+cut fields next = Some (record { fields = fields; next = next })
+
+abbrev pub named : Columns → (next : ℕ) → Option Heading
+named columns next = Some (record { columns = columns; next = next })
+
 -- a field of a column that is wanted is kept
 abbrev pub kept : (wanted column : ℕ) → (old new : Span) → Span
 kept wanted column old new = cond (eqb wanted column) new old
@@ -53,23 +58,23 @@ unfoldable pub last_end : (text : List ℕ) (from at : ℕ) → ℕ
 last_end text from at = cond (ltb from at && eqb (get_or text (at - 1) 0) carriage_return) (at - 1) at
 
 -- the line's fields, byte by byte: `rest` is the text from `at` on, and the field of `column` starts at `from`
-unfoldable pub cut_from : (text : List ℕ) → Columns → (column from at : ℕ) → Fields → (rest : List ℕ) → Line
-cut_from text columns column from at fields [] = Cut (with_field columns column (record { from = from; to = at }) fields) at
+unfoldable pub cut_from : (text : List ℕ) → Columns → (column from at : ℕ) → Fields → (rest : List ℕ) → Option Cut
+cut_from text columns column from at fields [] = cut (with_field columns column (record { from = from; to = at }) fields) at
 cut_from text columns column from at fields (byte ∷ rest) =
-    let feed = Cut (with_field columns column (record { from = from; to = last_end text from at }) fields) (suc at) in
+    let feed = cut (with_field columns column (record { from = from; to = last_end text from at }) fields) (suc at) in
     let next = cut_from text columns (suc column) (suc at) (suc at) (with_field columns column (record { from = from; to = at }) fields) rest in
     let on = cut_from text columns column from (suc at) fields rest in
-    cond (eqb byte line_feed) feed (cond (eqb byte quote_mark) Quoted (cond (eqb byte comma) next on))
+    cond (eqb byte line_feed) feed (cond (eqb byte quote_mark) None (cond (eqb byte comma) next on))
 
 -- the line that starts at `start`
-unfoldable pub cut_at : List ℕ → Columns → (start : ℕ) → Line
+unfoldable pub cut_at : List ℕ → Columns → (start : ℕ) → Option Cut
 cut_at text columns start = cut_from text columns 1 start start no_fields (drop start text)
 
 -- the header is line 1: its columns and where the next line starts; a text that has no line has no column
-unfoldable pub header_of : List ℕ → Header
+unfoldable pub header_of : List ℕ → Option Heading
 header_of text =
-    cond (has_quote (first_line text)) HeaderQuoted
-    (Named (columns_of (first_line text)) (length text - length (behind_line text)))
+    cond (has_quote (first_line text)) None
+    (named (columns_of (first_line text)) (length text - length (behind_line text)))
 
 -- a field of a line that was cut: its bytes lie within the text, and are those of its column
 pub record FieldCut (text line : List ℕ) (column : ℕ) (span : Span) : Type 0 where

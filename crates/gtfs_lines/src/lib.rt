@@ -8,13 +8,13 @@ ghost use Rattle.gtfs_lines.specs.Cut.{cut_at, header_of, kept as kept_span, wit
 ghost use Rattle.gtfs_lines.specs.Marks.{marked_by, plain_ahead};
 ghost use Rattle.gtfs_lines.specs.Naming.{found as found_column, with_name};
 
-const LINE_FEED: u8 = 10;
+const LINE_FEED: u8 = b'\n';
 
-const CARRIAGE_RETURN: u8 = 13;
+const CARRIAGE_RETURN: u8 = b'\r';
 
-const QUOTE_MARK: u8 = 34;
+const QUOTE_MARK: u8 = b'"';
 
-const COMMA: u8 = 44;
+const COMMA: u8 = b',';
 
 // Where a field lies: from its first byte to the one behind its last.
 #[derive(Clone, Copy)]
@@ -43,18 +43,18 @@ pub struct Fields {
     pub sequence: Span,
 }
 
-// A line with a quote mark, or its fields and where the next line starts.
+// The fields of a line, and where the next line starts.
 #[derive(Clone, Copy)]
-pub enum Line {
-    Quoted,
-    Cut { fields: Fields, next: usize },
+pub struct Cut {
+    pub fields: Fields,
+    pub next: usize,
 }
 
-// The columns that a header names, and where the next line starts; or a header with a quote mark.
+// The columns that a header names, and where the next line starts.
 #[derive(Clone, Copy)]
-pub enum Header {
-    Quoted,
-    Named { columns: Columns, next: usize },
+pub struct Heading {
+    pub columns: Columns,
+    pub next: usize,
 }
 
 const NO_SPAN: Span = Span { from: 0, to: 0 };
@@ -75,8 +75,8 @@ const NO_COLUMNS: Columns = Columns {
     sequence: 0,
 };
 
-// The line that starts at `start`.
-pub fn line_at(text: &[u8], start: usize, columns: Columns) -> Line
+// The line that starts at `start`, unless a quote mark stands in it.
+pub fn line_at(text: &[u8], start: usize, columns: Columns) -> Option<Cut>
     requires { start ≤ length text.now }
     ensures { result ≡ cut_at text.now columns start }
 {
@@ -89,27 +89,27 @@ pub fn line_at(text: &[u8], start: usize, columns: Columns) -> Line
         let next = at + 1;
         if byte == LINE_FEED {
             let to = last_end(text, from, at);
-            return Line::Cut {
+            return Some(Cut {
                 fields: with_field(columns, column, from, to, fields),
                 next,
-            };
+            });
         }
         if byte == QUOTE_MARK {
-            return Line::Quoted;
+            return None;
         }
         fields = with_field(columns, column, from, at, fields);
         column += 1;
         from = next;
         at = mark_from(text, from);
     }
-    Line::Cut {
+    Some(Cut {
         fields: with_field(columns, column, from, at, fields),
         next: at,
-    }
+    })
 }
 
-// The columns of the header, which starts at byte 0, and where the line behind it starts.
-pub fn header_columns(text: &[u8]) -> Header
+// The columns of the header, which starts at byte 0, unless a quote mark stands in it.
+pub fn header_columns(text: &[u8]) -> Option<Heading>
     ensures { result ≡ header_of text.now }
 {
     let mut columns = NO_COLUMNS;
@@ -121,23 +121,23 @@ pub fn header_columns(text: &[u8]) -> Header
         let next = at + 1;
         if byte == LINE_FEED {
             let to = last_end(text, from, at);
-            return Header::Named {
+            return Some(Heading {
                 columns: with_name(text, from, to, column, columns),
                 next,
-            };
+            });
         }
         if byte == QUOTE_MARK {
-            return Header::Quoted;
+            return None;
         }
         columns = with_name(text, from, at, column, columns);
         column += 1;
         from = next;
         at = mark_from(text, from);
     }
-    Header::Named {
+    Some(Heading {
         columns: with_name(text, from, at, column, columns),
         next: at,
-    }
+    })
 }
 
 // The first byte from `from` on that is an LF, a quote mark or a comma, or the text's end.

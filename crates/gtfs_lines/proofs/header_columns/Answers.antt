@@ -6,19 +6,20 @@ use native.Mathlib.Nat.{le_trans}
 use native.Mathlib.Numerals.{add-one}
 use native.Mathlib.Omega.{arith}
 use Rattle.gtfs_lines.specs.declared.Columns.{Columns}
-use Rattle.gtfs_lines.specs.declared.Header.{Header}
-use Rattle.gtfs_lines.specs.declared.Header.TheVariants.{Named}
+use Rattle.gtfs_lines.specs.declared.Heading.{Heading}
+use Rattle.std.specs.Prelude.{Option}
+use Rattle.gtfs_lines.specs.Cut.{named}
 use Rattle.gtfs_lines.proofs.Marked.{Marked, mark_at}
 use Rattle.gtfs_lines.proofs.FieldEnds.{last_as, at_end, at_feed, at_quote, at_comma}
 use Rattle.gtfs_lines.proofs.HeaderSteps.{header_from, header_starts, header_last, header_next, header_quoted}
 use Rattle.gtfs_lines.proofs.header_columns.Goals as goal
 
 -- what is told is the header, if its columns are
-named_told : {whole : Header} {columns told : Columns} {next : ℕ} → whole ≡ Named columns next → told ≡ columns → Named told next ≡ whole
+named_told : {whole : Option Heading} {columns told : Columns} {next : ℕ} → whole ≡ named columns next → told ≡ columns → named told next ≡ whole
 named_told e f = cc
 
 -- and so is what is still to be read
-named_on : {whole : Header} {columns told : Columns} (text : List ℕ) (column at : ℕ)
+named_on : {whole : Option Heading} {columns told : Columns} (text : List ℕ) (column at : ℕ)
     → whole ≡ header_from text column columns at → told ≡ columns → whole ≡ header_from text column told at
 named_on text column at e f = cc
 

@@ -5,21 +5,21 @@ use mathlib.Core.Path.{◌≡◌, refl, sym, subst⁻¹, ◌∙◌}
 use native.Mathlib.Numerals.{add-one}
 use native.Mathlib.Omega.{arith}
 use lib.ListN.{drop}
-use Rattle.gtfs_lines.specs.Cut.{cut_at, cut_from}
+use Rattle.gtfs_lines.specs.Cut.{cut, cut_at, cut_from}
 use Rattle.gtfs_lines.specs.declared.Columns.{Columns}
 use Rattle.gtfs_lines.specs.declared.Fields.{Fields}
-use Rattle.gtfs_lines.specs.declared.Line.{Line}
-use Rattle.gtfs_lines.specs.declared.Line.TheVariants.{Cut}
+use Rattle.gtfs_lines.specs.declared.Cut.{Cut}
+use Rattle.std.specs.Prelude.{Option}
 use Rattle.gtfs_lines.proofs.Marked.{Marked, mark_at}
 use Rattle.gtfs_lines.proofs.FieldEnds.{last_as, at_end, at_feed, at_quote, at_comma}
 use Rattle.gtfs_lines.proofs.line_at.Goals as goal
 
 -- what is told is the line, if its fields are
-cut_told : {whole : Line} {fields told : Fields} {next : ℕ} → whole ≡ Cut fields next → told ≡ fields → Cut told next ≡ whole
+cut_told : {whole : Option Cut} {fields told : Fields} {next : ℕ} → whole ≡ cut fields next → told ≡ fields → cut told next ≡ whole
 cut_told e f = cc
 
 -- and so is what is still to be cut
-cut_on : {whole : Line} {fields told : Fields} (text : List ℕ) (columns : Columns) (column at : ℕ) (rest : List ℕ)
+cut_on : {whole : Option Cut} {fields told : Fields} (text : List ℕ) (columns : Columns) (column at : ℕ) (rest : List ℕ)
     → whole ≡ cut_from text columns column at at fields rest → told ≡ fields → whole ≡ cut_from text columns column at at told rest
 cut_on text columns column at rest e f = cc
 
