@@ -9,21 +9,21 @@ use Rattle.gtfs_lines.specs.declared.Fields.{Fields}
 use Rattle.gtfs_ids.specs.declared.Key.{Key}
 use Rattle.gtfs_ids.specs.Keys.{key_of}
 use Rattle.gtfs_stop_time.specs.declared.Call.{Call}
-use Rattle.gtfs_stop_time.specs.declared.Said.TheVariants.{Call as SaysCall, Wrong}
+use Rattle.std.specs.Prelude.{Ok}
 use Rattle.gtfs_stop_time.specs.StopTime.{stop_time_of}
 use Rattle.gtfs_stop_time.specs.Faults.{own_verdict}
-use Rattle.gtfs_stop_time.specs.Said.{text_at, texts_at, call_of, said_of}
+use Rattle.gtfs_stop_time.specs.Said.{wrong, text_at, texts_at, call_of, said_of}
 
 module _ (start : ℕ) (text : List ℕ) (fields : Fields) where
   pub refused_said : {number column : ℕ} → own_verdict start (texts_at text fields) ≡ fault number column
-      → Wrong number column ≡ said_of start text fields
+      → wrong number column ≡ said_of start text fields
   unfolding said_of
-  refused_said e = sym (ap (by_verdict Wrong (SaysCall (call_of start (texts_at text fields) fields))) e)
+  refused_said e = sym (ap (by_verdict wrong (Ok (call_of start (texts_at text fields) fields))) e)
 
   pub fine_said : own_verdict start (texts_at text fields) ≡ fine
-      → SaysCall (call_of start (texts_at text fields) fields) ≡ said_of start text fields
+      → Ok (call_of start (texts_at text fields) fields) ≡ said_of start text fields
   unfolding said_of
-  fine_said e = sym (ap (by_verdict Wrong (SaysCall (call_of start (texts_at text fields) fields))) e)
+  fine_said e = sym (ap (by_verdict wrong (Ok (call_of start (texts_at text fields) fields))) e)
 
   pub call_made : {trip stop : Key} {arrival departure sequence : ℕ}
       → trip ≡ key_of (text_at text fields.trip) → stop ≡ key_of (text_at text fields.stop)

@@ -8,17 +8,17 @@ use lib.Dec.{leb}
 use borrow.Author.Tests.{leb-true, leb-false, ltb-true, le-leb, lt-leb}
 use Rattle.laws.proofs.Tests.{ifb, both_right}
 use Rattle.text.specs.Decimal.{value_of}
-use Rattle.gtfs_fields.specs.declared.Number.TheVariants.{Is, Wrong}
+use Rattle.std.specs.Prelude.{Some, None}
 use Rattle.gtfs_fields.specs.Whole.{is_whole, whole_below}
 use Rattle.gtfs_fields.specs.Time.{is_time, time_minutes, time_within}
 use Rattle.gtfs_stop_time.specs.StopTime.{last_minute, sequence_limit, time_rule, sequence_rule}
 
 -- a number that is told passed its rule, and is the field's
-told : (rule : Bool) (value number : ℕ) → cond rule (Is value) Wrong ≡ Is number → (rule ≡ true) × (number ≡ value)
+told : (rule : Bool) (value number : ℕ) → cond rule (Some value) None ≡ Some number → (rule ≡ true) × (number ≡ value)
 told true value number e = (refl, (cc))
 told false value number e = absurd (let z : ◌≡◌ {A = ℕ} 0 1 = cc in omega arith)
 
-untold : (rule : Bool) (value : ℕ) → cond rule (Is value) Wrong ≡ Wrong → rule ≡ false
+untold : (rule : Bool) (value : ℕ) → cond rule (Some value) None ≡ None → rule ≡ false
 untold true value e = absurd (let z : ◌≡◌ {A = ℕ} 0 1 = cc in omega arith)
 untold false value e = refl
 
@@ -45,7 +45,7 @@ pub record TimeTold (start : ℕ) (field : List ℕ) (minutes : ℕ) : Type 0 wh
   pub holds : time_rule start field ≡ true
   pub says : minutes ≡ time_minutes field
 
-pub time_told : (start : ℕ) (field : List ℕ) (minutes : ℕ) → start ≤ last_minute → time_within (last_minute - start) field ≡ Is minutes
+pub time_told : (start : ℕ) (field : List ℕ) (minutes : ℕ) → start ≤ last_minute → time_within (last_minute - start) field ≡ Some minutes
     → TimeTold start field minutes
 unfolding time_within
 time_told start field minutes h e =
@@ -56,7 +56,7 @@ time_told start field minutes h e =
 pub told_in_week : {start minutes : ℕ} {field : List ℕ} → TimeTold start field minutes → start + minutes ≤ last_minute
 told_in_week {start} {minutes} {field} t = omega (arith, time_in_week start field t.holds, t.says)
 
-pub time_wrong : (start : ℕ) (field : List ℕ) → start ≤ last_minute → time_within (last_minute - start) field ≡ Wrong
+pub time_wrong : (start : ℕ) (field : List ℕ) → start ≤ last_minute → time_within (last_minute - start) field ≡ None
     → time_rule start field ≡ false
 unfolding time_within
 time_wrong start field h e = time_test start field h ∙ untold _ (time_minutes field) e
@@ -65,11 +65,11 @@ pub sequence_small : (field : List ℕ) → sequence_rule field ≡ true → val
 unfolding sequence_rule
 sequence_small field e = ltb-true (value_of field) sequence_limit (both_right (is_whole field) _ e)
 
-pub sequence_told : (field : List ℕ) (number : ℕ) → whole_below sequence_limit field ≡ Is number
+pub sequence_told : (field : List ℕ) (number : ℕ) → whole_below sequence_limit field ≡ Some number
     → (sequence_rule field ≡ true) × (number ≡ value_of field)
 unfolding whole_below sequence_rule
 sequence_told field number e = told _ (value_of field) number e
 
-pub sequence_wrong : (field : List ℕ) → whole_below sequence_limit field ≡ Wrong → sequence_rule field ≡ false
+pub sequence_wrong : (field : List ℕ) → whole_below sequence_limit field ≡ None → sequence_rule field ≡ false
 unfolding whole_below sequence_rule
 sequence_wrong field e = untold _ (value_of field) e

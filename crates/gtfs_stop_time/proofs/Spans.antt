@@ -7,8 +7,9 @@ use native.Mathlib.Omega.{arith}
 use lib.Dec.{leb, ltb}
 use lib.ListN.{length, take, drop, get_or}
 use lib.Seq.{slice, get_or-drop, get_or-take, length-slice, length-take-le, take-add, drop_at}
-use borrow.Author.Tests.{leb-true, eq-eqb, ne_eqb}
-use Rattle.laws.proofs.Tests.{both_right, cond_true, cond_false}
+use borrow.Author.Tests.{leb-true}
+use Rattle.std.specs.Prelude.{Some, None}
+use Rattle.laws.proofs.Tests.{both_right}
 use Rattle.numbers.specs.Bytes.{Bytes}
 use Rattle.timetable.specs.Verdict.{fine, fault, or_else, unless}
 use Rattle.gtfs_lines.specs.declared.Span.{Span}
@@ -65,7 +66,7 @@ module _ (text : List ℕ) (span : Span) (inside : Inside (length text) span) wh
 first_column : (trip arrival departure stop sequence : Bool)
     → or_else (unless trip 11 1)
     (or_else (unless arrival 11 2) (or_else (unless departure 11 3) (or_else (unless stop 11 4) (unless sequence 11 5))))
-    ≡ in_column 11 (cond trip (cond arrival (cond departure (cond stop (cond sequence 0 5) 4) 3) 2) 1)
+    ≡ in_column 11 (cond trip (cond arrival (cond departure (cond stop (cond sequence None (Some 5)) (Some 4)) (Some 3)) (Some 2)) (Some 1))
 first_column false arrival departure stop sequence = refl
 first_column true false departure stop sequence = refl
 first_column true true false stop sequence = refl
@@ -87,15 +88,13 @@ filled_verdict_lem text fields inside =
     (first_column (span_id fields.trip) (span_filled fields.arrival) (span_filled fields.departure) (span_id fields.stop)
     (span_filled fields.sequence))
 
--- a column that was told is the fault's, and 0 is none
-module _ (text : List ℕ) (fields : Fields) (inside : AllInside (length text) fields) (column : ℕ) (told : column ≡ unfilled_column fields) where
-  pub unfilled_fault : (column ≡ 0 → ⊥) → filled_verdict (texts_at text fields) ≡ fault 11 column
-  unfilled_fault some =
-      filled_verdict_lem text fields inside ∙ ap (in_column 11) (sym told) ∙ cond_false fine (fault 11 column) (ne_eqb column 0 some)
+-- a column that was told is the fault's
+module _ (text : List ℕ) (fields : Fields) (inside : AllInside (length text) fields) where
+  pub unfilled_fault : {column : ℕ} → Some column ≡ unfilled_column fields → filled_verdict (texts_at text fields) ≡ fault 11 column
+  unfilled_fault told = filled_verdict_lem text fields inside ∙ ap (in_column 11) (sym told)
 
-  pub filled_fine : column ≡ 0 → filled_verdict (texts_at text fields) ≡ fine
-  filled_fine none =
-      filled_verdict_lem text fields inside ∙ ap (in_column 11) (sym told) ∙ cond_true fine (fault 11 column) (eq-eqb column 0 none)
+  pub filled_fine : None ≡ unfilled_column fields → filled_verdict (texts_at text fields) ≡ fine
+  filled_fine told = filled_verdict_lem text fields inside ∙ ap (in_column 11) (sym told)
 
 -- an id that lies there is short
 pub short_there : (text : List ℕ) (span : Span) → Inside (length text) span → id_rule (text_at text span) ≡ true

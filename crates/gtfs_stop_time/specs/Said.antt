@@ -1,5 +1,5 @@
 -- What a line's fields say, by where they lie in the text, and the call that they make.
-use Rattle.std.specs.Prelude.{ℕ, ◌-◌, ◌≤◌, ◌<◌, Bool, true, cond, ◌&&◌, List, ◌≡◌, eqb, leb, ltb, length}
+use Rattle.std.specs.Prelude.{ℕ, ◌-◌, ◌≤◌, ◌<◌, Bool, true, cond, ◌&&◌, List, Option, Some, None, Result, Ok, Err, ◌≡◌, leb, ltb}
 use Rattle.std.proofs.Math.Seq.{slice}
 use Rattle.numbers.specs.Bytes.{Bytes}
 use Rattle.timetable.specs.Verdict.{Verdict, fine, fault, by_verdict}
@@ -9,8 +9,7 @@ use Rattle.gtfs_ids.specs.Ids.{id_rule, longest_id}
 use Rattle.gtfs_ids.specs.Keys.{key_of}
 use Rattle.gtfs_ids.specs.Book.{LiesAt}
 use Rattle.gtfs_stop_time.specs.declared.Call.{Call}
-use Rattle.gtfs_stop_time.specs.declared.Said.{Said}
-use Rattle.gtfs_stop_time.specs.declared.Said.TheVariants.{Call as SaysCall, Wrong}
+use Rattle.gtfs_stop_time.specs.declared.FieldFault.{FieldFault}
 use Rattle.gtfs_stop_time.specs.StopTime.{FieldTexts, StopTime, stop_time_of, last_minute, sequence_limit}
 use Rattle.gtfs_stop_time.specs.Faults.{own_verdict}
 
@@ -47,15 +46,20 @@ span_id span = leb 1 (span.to - span.from) && leb (span.to - span.from) longest_
 abbrev pub span_filled : Span → Bool
 span_filled span = ltb 0 (span.to - span.from)
 
--- the first column whose field is missing, empty, or an id too long; 0 where none is
-unfoldable pub unfilled_column : Fields → ℕ
+-- the first column whose field is missing, empty, or an id too long
+unfoldable pub unfilled_column : Fields → Option ℕ
 unfilled_column fields =
     cond (span_id fields.trip) (cond (span_filled fields.arrival) (cond (span_filled fields.departure)
-    (cond (span_id fields.stop) (cond (span_filled fields.sequence) 0 5) 4) 3) 2) 1
+    (cond (span_id fields.stop) (cond (span_filled fields.sequence) None (Some 5)) (Some 4)) (Some 3)) (Some 2)) (Some 1)
 
--- a column that a fault is in; 0 is none
-abbrev pub in_column : (number column : ℕ) → Verdict
-in_column number column = cond (eqb column 0) fine (fault number column)
+-- the fault that is in a column, if one is
+abbrev pub in_column : (number : ℕ) → (column : Option ℕ) → Verdict
+in_column number None = fine
+in_column number (Some column) = fault number column
+
+-- a line that is refused for a fault in its fields
+abbrev pub wrong : (number column : ℕ) → Result Call FieldFault
+wrong number column = Err (record { number = number; column = column })
 
 -- the call of fields without a fault
 abbrev pub call_of : (start : ℕ) → FieldTexts → Fields → Call
@@ -71,9 +75,9 @@ call_of start texts fields =
       sequence = says.sequence;
     }
 
-unfoldable pub said_of : (start : ℕ) → List ℕ → Fields → Said
+unfoldable pub said_of : (start : ℕ) → List ℕ → Fields → Result Call FieldFault
 said_of start text fields =
-    by_verdict Wrong (SaysCall (call_of start (texts_at text fields) fields)) (own_verdict start (texts_at text fields))
+    by_verdict wrong (Ok (call_of start (texts_at text fields) fields)) (own_verdict start (texts_at text fields))
 
 -- a call of the text without a fault of its own, and what it says
 pub record Says (text : List ℕ) (call : Call) (says : StopTime) : Type 0 where

@@ -9,7 +9,7 @@ ghost use Rattle.gtfs_ids.specs.Keys.{key_of};
 ghost use Rattle.gtfs_stop_time.specs.StopTime.{last_minute, sequence_limit};
 ghost use Rattle.gtfs_stop_time.specs.Said.{AllInside, Inside, said_of, span_filled, span_id, text_at, unfilled_column};
 
-use gtfs_fields::{Number, time_within, whole_below};
+use gtfs_fields::{time_within, whole_below};
 use gtfs_ids::{Key, key_of};
 use gtfs_lines::{Fields, Span};
 
@@ -25,11 +25,11 @@ pub struct Call {
     pub sequence: usize,
 }
 
-// A call, or the fault of a line's fields by themselves.
+// The fault of a line's fields by themselves: its number, and the column that it is in; 0 for the line as a whole.
 #[derive(Clone, Copy)]
-pub enum Said {
-    Call { call: Call },
-    Wrong { number: usize, column: usize },
+pub struct FieldFault {
+    pub number: usize,
+    pub column: usize,
 }
 
 // Minutes go to 10,079.
@@ -47,10 +47,7 @@ fn is_id(span: Span) -> bool
     ensures { result ≡ span_id span }
 {
     let size = span.to - span.from;
-    if size < 1 {
-        return false;
-    }
-    size <= LONGEST_ID
+    1 <= size && size <= LONGEST_ID
 }
 
 // Whether anything lies there.
@@ -61,31 +58,32 @@ fn is_filled(span: Span) -> bool
     0 < span.to - span.from
 }
 
-// The first column whose field is missing, empty, or an id too long; 0 where none is.
-fn unfilled(fields: Fields, bytes: usize) -> usize
+// The first column whose field is missing, empty, or an id too long.
+#[tactic(auto, unfolding(crate::specs::Said::unfilled_column))]
+fn unfilled(fields: Fields, bytes: usize) -> Option<usize>
     requires { AllInside bytes fields }
     ensures { result ≡ unfilled_column fields }
 {
     if !is_id(fields.trip) {
-        return 1;
+        return Some(1);
     }
     if !is_filled(fields.arrival) {
-        return 2;
+        return Some(2);
     }
     if !is_filled(fields.departure) {
-        return 3;
+        return Some(3);
     }
     if !is_id(fields.stop) {
-        return 4;
+        return Some(4);
     }
     if !is_filled(fields.sequence) {
-        return 5;
+        return Some(5);
     }
-    0
+    None
 }
 
 // The time that a field says, in minutes from the service day's start.
-fn time_at(text: &[u8], span: Span, most: usize) -> Number
+fn time_at(text: &[u8], span: Span, most: usize) -> Option<usize>
     requires { Inside (length text.now) span × (most ≤ last_minute) }
     ensures { result ≡ time_within most (text_at text.now span) }
 {
@@ -95,7 +93,7 @@ fn time_at(text: &[u8], span: Span, most: usize) -> Number
 }
 
 // The stop_sequence that a field says.
-fn sequence_at(text: &[u8], span: Span) -> Number
+fn sequence_at(text: &[u8], span: Span) -> Option<usize>
     requires { Inside (length text.now) span }
     ensures { result ≡ whole_below sequence_limit (text_at text.now span) }
 {
@@ -114,39 +112,34 @@ fn key_at(text: &[u8], span: Span) -> Key
     key_of(&text[from..to])
 }
 
-// A line with a fault in its fields.
-fn wrong(number: usize, column: usize) -> Said
-    ensures { result ≡ Said.Wrong number column }
-{
-    Said::Wrong { number, column }
-}
-
 // What the fields of a line say, on a service day that starts at minute `start`.
-pub fn call_of(text: &[u8], fields: Fields, start: usize) -> Said
+pub fn call_of(text: &[u8], fields: Fields, start: usize) -> Result<Call, FieldFault>
     requires { AllInside (length text.now) fields × (start ≤ last_minute) }
     ensures { result ≡ said_of start text.now fields }
 {
-    let column = unfilled(fields, text.len());
-    if column != 0 {
-        return wrong(11, column);
+    if let Some(column) = unfilled(fields, text.len()) {
+        return Err(FieldFault { number: 11, column });
     }
     let most = LAST_MINUTE - start;
-    let arrives = time_at(text, fields.arrival, most);
-    let Number::Is { value: arrival } = arrives else {
-        return wrong(12, 2);
-    };
-    let departs = time_at(text, fields.departure, most);
-    let Number::Is { value: departure } = departs else {
-        return wrong(12, 3);
-    };
+    let arrival = time_at(text, fields.arrival, most).ok_or(FieldFault {
+        number: 12,
+        column: 2,
+    })?;
+    let departure = time_at(text, fields.departure, most).ok_or(FieldFault {
+        number: 12,
+        column: 3,
+    })?;
     if departure < arrival {
-        return wrong(12, 0);
+        return Err(FieldFault {
+            number: 12,
+            column: 0,
+        });
     }
-    let follows = sequence_at(text, fields.sequence);
-    let Number::Is { value: sequence } = follows else {
-        return wrong(13, 5);
-    };
-    let call = Call {
+    let sequence = sequence_at(text, fields.sequence).ok_or(FieldFault {
+        number: 13,
+        column: 5,
+    })?;
+    Ok(Call {
         trip: key_at(text, fields.trip),
         tripplace: fields.trip.from,
         stop: key_at(text, fields.stop),
@@ -154,6 +147,5 @@ pub fn call_of(text: &[u8], fields: Fields, start: usize) -> Said
         arrival: start + arrival,
         departure: start + departure,
         sequence,
-    };
-    Said::Call { call }
+    })
 }
