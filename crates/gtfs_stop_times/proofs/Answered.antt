@@ -4,6 +4,7 @@ use mathlib.Core.List.{List, [], ◌∷◌, ◌++◌}
 use mathlib.Core.Path.{◌≡◌, refl, sym, ap, subst, ◌∙◌}
 use native.Mathlib.Omega.{arith}
 use lib.ListN.{length, take, drop, replicate, length-replicate, take-append-drop}
+use Rattle.std.specs.Prelude.{Ok, Err}
 use Rattle.timetable.specs.Limits.{most_stops, most_rows, most_trips}
 use Rattle.file_layout.specs.Decode.{rows_from}
 use Rattle.file_encoding.specs.Encode.{rows_bytes}
@@ -12,19 +13,27 @@ use Rattle.gtfs_ids.specs.Book.{book_cells}
 use Rattle.gtfs_ids.proofs.Held.{holds_none}
 use Rattle.gtfs_stop_time.specs.StopTime.{StopTime}
 use Rattle.gtfs_stop_times.specs.declared.Counts.{Counts}
+use Rattle.gtfs_stop_times.specs.declared.Notes.{Notes}
 use Rattle.gtfs_stop_times.specs.declared.Wanted.{Wanted}
-use Rattle.gtfs_stop_times.specs.declared.Lines.{Lines}
-use Rattle.gtfs_stop_times.specs.declared.Lines.TheVariants.{Whole, Wrong as WrongLine}
-use Rattle.gtfs_stop_times.specs.declared.Read.TheVariants.{Calls, Wrong}
 use Rattle.gtfs_calls.specs.Calls.{trips_of, stops_of, last_call, rows_of}
 use Rattle.gtfs_calls.specs.Reading.{Reading, said, wrong}
-use Rattle.gtfs_stop_times.specs.Held.{Held, NotesRoom}
-use Rattle.gtfs_stop_times.specs.Steps.{LinesRead, told, whole, no_counts}
+use Rattle.gtfs_stop_times.specs.Held.{Held}
 use Rattle.gtfs_stop_times.specs.Answers.{counts_of, read_answer, out_after}
-use Rattle.gtfs_stop_times.specs.Putting.{HeldFor, WantedPut}
+use Rattle.gtfs_stop_times.specs.Putting.{WantedPut}
 
--- before the first line the notes hold no call
-pub held_none : (text : List ℕ) → Held text [] (replicate (book_cells most_trips) 0) (replicate (book_cells most_stops) 0) (replicate (3 * most_trips) 0) (replicate (12 * most_rows) 0) no_counts
+-- the notes before the first line
+abbrev pub no_notes : Notes
+no_notes =
+    record {
+      trips = replicate (book_cells most_trips) 0;
+      stops = replicate (book_cells most_stops) 0;
+      last = replicate (3 * most_trips) 0;
+      rows = replicate (12 * most_rows) 0;
+      counts = record { trips = 0; stops = 0; rows = 0 };
+    }
+
+-- they hold no call
+pub held_none : (text : List ℕ) → Held text [] no_notes
 unfolding trips_of stops_of rows_of rows_bytes
 held_none text =
     record {
@@ -53,50 +62,31 @@ same_counts : {a b c d e f : ℕ} → a ≡ d → b ≡ e → c ≡ f
 same_counts p q r = cc
 
 -- the counts are those of the calls
-counted : {text : List ℕ} (back : List StopTime) (trips stops last rows : List ℕ) (counts : Counts) → Held text back trips stops last rows counts → counts ≡ counts_of back
-counted back trips stops last rows counts held = same_counts held.trip_count held.stop_count held.row_count
+counted : {text : List ℕ} (back : List StopTime) (notes : Notes) → Held text back notes → notes.counts ≡ counts_of back
+counted back notes held = same_counts held.trip_count held.stop_count held.row_count
 
 -- the rows that the notes hold
-pub rows_held : {text : List ℕ} (back : List StopTime) (trips stops last rows : List ℕ) (counts : Counts) → Held text back trips stops last rows counts
-    → rows_from 12 rows 0 counts.rows ≡ rows_of back
-rows_held back trips stops last rows counts held =
-    ap (rows_from 12 rows 0) held.row_count
-    ∙ rows_written (rows_of back) rows 0 (drop (12 * counts.rows) rows) (λ i inside. held.small i (omega (arith, held.row_count)))
-    (sym (take-append-drop (12 * counts.rows) rows) ∙ ap (λ l. l ++ drop (12 * counts.rows) rows) held.read)
+pub rows_held : {text : List ℕ} (back : List StopTime) (notes : Notes) → Held text back notes → rows_from 12 notes.rows 0 notes.counts.rows ≡ rows_of back
+rows_held back notes held =
+    ap (rows_from 12 notes.rows 0) held.row_count
+    ∙ rows_written (rows_of back) notes.rows 0 (drop (12 * notes.counts.rows) notes.rows) (λ i inside. held.small i (omega (arith, held.row_count)))
+    (sym (take-append-drop (12 * notes.counts.rows) notes.rows) ∙ ap (λ l. l ++ drop (12 * notes.counts.rows) notes.rows) held.read)
 
-module _ {text : List ℕ} {reading : Reading} {lines : Lines} {trips stops last rows : List ℕ} (read : LinesRead text reading lines trips stops last rows) where
-  module _ {counts : Counts} (e : lines ≡ Whole counts) where
-    -- the notes hold the calls of all lines
-    pub held_for : HeldFor text trips stops rows counts
-    held_for = by read
-      where
-        by : LinesRead text reading lines trips stops last rows → HeldFor text trips stops rows counts
-        by (told number line column f g) = absurd (let z : ◌≡◌ {A = ℕ} 0 1 = cc in let y : ⊥ = omega arith in y)
-        by (whole back with f g held) =
-            let same : with ≡ counts = cc in (back, last, subst (λ (k : Counts). Held text back trips stops last rows k) same held)
+-- all lines are read, and what is wanted is written
+pub wanted_answered : {text : List ℕ} {reading : Reading} {notes : Notes} (wanted : Wanted) (out after : List ℕ) (bytes : ℕ)
+    → (back : List StopTime) × (reading ≡ said back) × Held text back notes → WantedPut wanted text notes out after bytes
+    → (Ok (record { counts = notes.counts; bytes = bytes }) ≡ read_answer wanted reading) × (after ≡ out_after wanted reading out)
+unfolding read_answer out_after
+wanted_answered {notes = notes} wanted out after bytes read put =
+    let says = put read.0 read.2 in
+    let counts = counted read.0 notes read.2 in (
+      ap (λ (k : Counts). Ok (record { counts = k; bytes = bytes })) counts ∙ ap (λ n. Ok (record { counts = counts_of read.0; bytes = n })) says.1
+          ∙ ap (read_answer wanted) (sym read.1),
+      says.0 ∙ ap (λ r. out_after wanted r out) (sym read.1),
+    )
 
-    pub wanted_answered : (wanted : Wanted) (out after : List ℕ) (bytes : ℕ) → WantedPut wanted text trips stops rows counts out after bytes
-        → (Calls counts bytes ≡ read_answer wanted reading) × (after ≡ out_after wanted reading out)
-    unfolding read_answer out_after
-    wanted_answered wanted out after bytes put = by read
-      where
-        by : LinesRead text reading lines trips stops last rows
-            → (Calls counts bytes ≡ read_answer wanted reading) × (after ≡ out_after wanted reading out)
-        by (told number line column f g) = absurd (let z : ◌≡◌ {A = ℕ} 0 1 = cc in let y : ⊥ = omega arith in y)
-        by (whole back with f g held) =
-            let same : with ≡ counts = cc in
-            let says = put back last (subst (λ (k : Counts). Held text back trips stops last rows k) same held) in (
-              ap (λ k. Calls k bytes) (sym same ∙ counted back trips stops last rows with held) ∙ ap (Calls (counts_of back)) says.1
-                  ∙ ap (read_answer wanted) (sym f),
-              says.0 ∙ ap (λ r. out_after wanted r out) (sym f),
-            )
-
-  pub fault_answered : {number line column : ℕ} → lines ≡ WrongLine number line column → (wanted : Wanted) (out : List ℕ)
-      → (Wrong number line column ≡ read_answer wanted reading) × (out ≡ out_after wanted reading out)
-  unfolding read_answer out_after
-  fault_answered {number} {line} {column} e wanted out = by read
-    where
-      by : LinesRead text reading lines trips stops last rows → (Wrong number line column ≡ read_answer wanted reading) × (out ≡ out_after wanted reading out)
-      by (told n l c f g) =
-          let same : Wrong number line column ≡ Wrong n l c = cc in (same ∙ ap (read_answer wanted) (sym f), ap (λ r. out_after wanted r out) (sym f))
-      by (whole back with f g held) = absurd (let z : ◌≡◌ {A = ℕ} 0 1 = cc in let y : ⊥ = omega arith in y)
+-- the first fault
+pub fault_answered : {reading : Reading} (wanted : Wanted) (out : List ℕ) (number line column : ℕ) → reading ≡ wrong number line column
+    → (Err (record { number = number; line = line; column = column }) ≡ read_answer wanted reading) × (out ≡ out_after wanted reading out)
+unfolding read_answer out_after
+fault_answered wanted out number line column e = (ap (read_answer wanted) (sym e), ap (λ r. out_after wanted r out) (sym e))

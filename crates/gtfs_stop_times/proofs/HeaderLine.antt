@@ -4,10 +4,11 @@ use mathlib.Core.Bool.{Bool, true, false, cond, not}
 use mathlib.Core.List.{List, [], ◌∷◌}
 use mathlib.Core.Path.{◌≡◌, refl, sym, ap, subst, ◌∙◌}
 use native.Mathlib.Omega.{arith}
-use borrow.Author.Tests.{eq-eqb, ne_eqb, eqb-true, eqb-false, lt-ltb, le-ltb}
+use borrow.Author.Tests.{eqb-true, eqb-false, lt-ltb, le-ltb}
 use lib.Dec.{eqb, ltb}
 use lib.ListN.{length, drop, get_or, length-drop}
-use Rattle.laws.proofs.Tests.{ifb, cond_false}
+use Rattle.laws.proofs.Tests.{ifb}
+use Rattle.std.specs.Prelude.{Option, Some, None}
 use Rattle.timetable.specs.Verdict.{Verdict, fine, fault, or_else, unless, by_verdict}
 use Rattle.gtfs_lines.specs.declared.Columns.{Columns}
 use Rattle.gtfs_lines.specs.Lines.{lines_of, fields_of, parts, has_quote}
@@ -15,7 +16,6 @@ use Rattle.text.specs.Same.{same_bytes}
 use Rattle.gtfs_lines.specs.Columns.{columns_of, column_of, column_from}
 use Rattle.gtfs_lines.specs.Cut.{first_line, behind_line, ahead_of_feed, has_feed}
 use Rattle.gtfs_lines.proofs.TextLines.{lines_none, lines_first}
-use Rattle.gtfs_stop_time.specs.Said.{in_column}
 use Rattle.gtfs_stop_times.specs.declared.Service.{Service}
 use Rattle.gtfs_calls.specs.Faults.{header_verdict}
 use Rattle.gtfs_calls.specs.Reading.{Reading, wrong, read_from, stop_times}
@@ -43,6 +43,10 @@ by_first start text =
     ∙ ap (λ (l : List (List ℕ)). by_verdict (λ fault column. wrong fault 1 column) (read_from (columns_of (first_line text)) start [] 2 l)
     (header_verdict (has_quote (first_line text)) (columns_of (first_line text)))) (lines_behind text)
 
+abbrev in_column : (number : ℕ) → (column : Option ℕ) → Verdict
+in_column number None = fine
+in_column number (Some column) = fault number column
+
 -- a column that is there is not 0
 there : (column : ℕ) → ltb 0 column ≡ not (eqb column 0)
 there column =
@@ -63,7 +67,7 @@ unquoted_verdict columns =
   where
     cases : (a b c d e : Bool)
         → or_else (unless (not a) 11 1) (or_else (unless (not b) 11 2) (or_else (unless (not c) 11 3) (or_else (unless (not d) 11 4) (unless (not e) 11 5))))
-        ≡ in_column 11 (cond a 1 (cond b 2 (cond c 3 (cond d 4 (cond e 5 0)))))
+        ≡ in_column 11 (cond a (Some 1) (cond b (Some 2) (cond c (Some 3) (cond d (Some 4) (cond e (Some 5) None)))))
     cases true b c d e = refl
     cases false true c d e = refl
     cases false false true d e = refl
@@ -73,7 +77,7 @@ unquoted_verdict columns =
 
     by : (a b c d e a' b' c' d' e' : Bool) → a ≡ not a' → b ≡ not b' → c ≡ not c' → d ≡ not d' → e ≡ not e'
         → or_else (unless a 11 1) (or_else (unless b 11 2) (or_else (unless c 11 3) (or_else (unless d 11 4) (unless e 11 5))))
-        ≡ in_column 11 (cond a' 1 (cond b' 2 (cond c' 3 (cond d' 4 (cond e' 5 0)))))
+        ≡ in_column 11 (cond a' (Some 1) (cond b' (Some 2) (cond c' (Some 3) (cond d' (Some 4) (cond e' (Some 5) None)))))
     by a b c d e a' b' c' d' e' p q r s t =
         ap (λ x. or_else (unless x 11 1) (or_else (unless b 11 2) (or_else (unless c 11 3) (or_else (unless d 11 4) (unless e 11 5))))) p
         ∙ ap (λ x. or_else (unless (not a') 11 1) (or_else (unless x 11 2) (or_else (unless c 11 3) (or_else (unless d 11 4) (unless e 11 5))))) q
@@ -83,7 +87,7 @@ unquoted_verdict columns =
         ∙ cases a' b' c' d' e'
 
 -- a text without bytes names no column
-empty_lacks : missing_column (columns_of (first_line [])) ≡ 1
+empty_lacks : missing_column (columns_of (first_line [])) ≡ Some 1
 unfolding missing_column columns_of column_of column_from fields_of parts same_bytes first_line has_feed
 empty_lacks = refl
 
@@ -121,27 +125,27 @@ module _ (start : ℕ) (text : List ℕ) (columns : Columns) (next : ℕ) (unquo
       ∙ ap (by_verdict (λ fault column. wrong fault 1 column) (read_behind text next (record { columns = columns; start = start })))
       (unquoted_verdict columns)
 
-  pub column_missing : (column : ℕ) → column ≡ missing_column columns → (column ≡ 0 → ⊥) → stop_times start text ≡ wrong 11 1 column
-  column_missing column e some =
+  pub column_missing : (column : ℕ) → Some column ≡ missing_column columns → stop_times start text ≡ wrong 11 1 column
+  column_missing column e =
       by_missing
-      ∙ ap (by_verdict (λ fault column. wrong fault 1 column) (read_behind text next (record { columns = columns; start = start })))
-      (ap (in_column 11) (sym e) ∙ cond_false fine (fault 11 column) (ne_eqb column 0 some))
+      ∙ ap (λ k. by_verdict (λ fault column. wrong fault 1 column) (read_behind text next (record { columns = columns; start = start })) (in_column 11 k)) (sym e)
 
-  pub columns_named : missing_column columns ≡ 0 → stop_times start text ≡ read_behind text next (record { columns = columns; start = start })
-  columns_named none =
-      by_missing
-      ∙ ap (λ k. by_verdict (λ fault column. wrong fault 1 column) (read_behind text next (record { columns = columns; start = start })) (in_column 11 k)) none
+  module _ (none : None ≡ missing_column columns) where
+    pub columns_named : stop_times start text ≡ read_behind text next (record { columns = columns; start = start })
+    columns_named =
+        by_missing
+        ∙ ap (λ k. by_verdict (λ fault column. wrong fault 1 column) (read_behind text next (record { columns = columns; start = start })) (in_column 11 k)) (sym none)
 
-  -- the header has bytes
-  pub header_some : missing_column columns ≡ 0 → 1 ≤ next
-  header_some none = go next behind
-    where
-      go : (n : ℕ) → drop n text ≡ behind_line text → 1 ≤ n
-      go (suc n) e = omega arith
-      go zero e =
-          absurd (by_bytes text (λ empty. let z : ⊥ = omega (
-            arith,
-            none,
-            ap missing_column named ∙ ap (λ (t : List ℕ). missing_column (columns_of (first_line t))) empty
-                ∙ empty_lacks,
-          ) in z) (λ some. let z : ⊥ = omega (arith, ap length e, shorter text some) in z))
+    -- the header has bytes
+    pub header_some : 1 ≤ next
+    header_some = go next behind
+      where
+        go : (n : ℕ) → drop n text ≡ behind_line text → 1 ≤ n
+        go (suc n) e = omega arith
+        go zero e =
+            absurd (by_bytes text (λ empty.
+            let some : None ≡ Some 1 =
+            none ∙ ap missing_column named ∙ ap (λ (t : List ℕ). missing_column (columns_of (first_line t))) empty ∙ empty_lacks
+            in
+            let z : ◌≡◌ {A = ℕ} 0 1 = cc in let y : ⊥ = omega arith in y)
+            (λ some. let z : ⊥ = omega (arith, ap length e, shorter text some) in z))

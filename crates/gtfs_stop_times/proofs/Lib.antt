@@ -4,8 +4,8 @@ pub mod RowsRead
 pub mod Entered
 pub mod Behind
 pub mod WithCall
-pub mod Ending
 pub mod Ready
+pub mod Ending
 pub mod LineSteps
 pub mod AllLines
 pub mod HeaderLine

@@ -4,7 +4,9 @@ use mathlib.Core.Bool.{true, false, not}
 use mathlib.Core.List.{List, ◌∷◌}
 use mathlib.Core.Path.{◌≡◌, refl, sym, ap, subst, subst⁻¹, ◌∙◌}
 use native.Mathlib.Omega.{arith}
-use lib.ListN.{length, drop}
+use mir.Val.{Fits}
+use mir.Syntax.{w8}
+use lib.ListN.{length, drop, get_or}
 use Rattle.timetable.specs.Verdict.{Verdict, fine, fault, or_else, unless}
 use Rattle.gtfs_lines.specs.declared.Fields.{Fields}
 use Rattle.gtfs_lines.specs.declared.Line.TheVariants.{Quoted, Cut}
@@ -13,29 +15,28 @@ use Rattle.gtfs_lines.specs.Cut.{first_line, behind_line, cut_at, LineCut}
 use Rattle.gtfs_lines.proofs.LineCuts.{line_cut, line_quoted}
 use Rattle.gtfs_stop_time.specs.StopTime.{StopTime, FieldTexts, texts_on, stop_time_of}
 use Rattle.gtfs_stop_time.specs.Faults.{own_verdict}
-use Rattle.gtfs_stop_time.specs.Said.{texts_at, Inside, AllInside}
-use Rattle.gtfs_stop_times.specs.declared.Counts.{Counts}
+use Rattle.gtfs_stop_time.specs.Said.{texts_at, Inside, AllInside, Says, said_of}
+use Rattle.gtfs_stop_time.specs.declared.Said.TheVariants.{Call as SaysCall}
+use Rattle.gtfs_stop_time.specs.declared.Call.{Call}
+use Rattle.gtfs_stop_time.proofs.Told.{said_call}
+use Rattle.gtfs_stop_times.specs.declared.Notes.{Notes}
 use Rattle.gtfs_stop_times.specs.declared.Service.{Service}
-use Rattle.gtfs_stop_times.specs.declared.Step.TheVariants.{On, Wrong}
-use Rattle.gtfs_stop_times.specs.declared.Taken.{Taken}
-use Rattle.gtfs_stop_times.specs.declared.Taken.TheVariants.{On as TakenOn, Wrong as TakenWrong}
 use Rattle.gtfs_calls.specs.Faults.{line_verdict, next_verdict}
-use Rattle.gtfs_stop_times.specs.Held.{Held, CallTaken, refused, kept}
-use Rattle.gtfs_stop_times.specs.Steps.{LineRead, faulty, sound}
+use Rattle.gtfs_stop_times.specs.Held.{Held}
+use Rattle.gtfs_stop_times.specs.Steps.{LineSound}
 
 module _ (text : List ℕ) (at : ℕ) (service : Service) (inside : at < length text) where
   abbrev line : List ℕ
   line = first_line (drop at text)
 
-  module _ (back : List StopTime) (trips stops last rows : List ℕ) where
-    -- a quote mark
-    pub line_refused : cut_at text service.columns at ≡ Quoted → LineRead text at service back (Wrong 11 0) trips stops last rows
-    unfolding line_verdict
-    line_refused e =
-        faulty 11 0
-        (ap (λ q. or_else (unless (not q) 11 0) (or_else (own_verdict service.start (texts_on service.columns line))
-        (next_verdict back (stop_time_of service.start (texts_on service.columns line)))))
-        (line_quoted text service.columns at inside e)) refl
+  -- a quote mark
+  pub line_refused : (back : List StopTime) → cut_at text service.columns at ≡ Quoted
+      → line_verdict service.columns service.start back line ≡ fault 11 0
+  unfolding line_verdict
+  line_refused back e =
+      ap (λ q. or_else (unless (not q) 11 0) (or_else (own_verdict service.start (texts_on service.columns line))
+      (next_verdict back (stop_time_of service.start (texts_on service.columns line)))))
+      (line_quoted text service.columns at inside e)
 
   module _ (fields : Fields) (next : ℕ) (cut : cut_at text service.columns at ≡ Cut fields next) where
     line_lies : LineCut text service.columns at fields next
@@ -70,36 +71,31 @@ module _ (text : List ℕ) (at : ℕ) (service : Service) (inside : at < length 
         line_lies.unquoted
         ∙ ap (λ (t : FieldTexts). or_else (own_verdict service.start t) (next_verdict back (stop_time_of service.start t))) (sym same_texts)
 
-    module _ (back : List StopTime) (trips stops last rows : List ℕ) where
-      -- a fault of the fields by themselves
-      pub own_refused : (number column : ℕ) → own_verdict service.start (texts_at text fields) ≡ fault number column
-          → LineRead text at service back (Wrong number column) trips stops last rows
-      own_refused number column e =
-          faulty number column
-          (verdict_unquoted back ∙ ap (λ v. or_else v (next_verdict back (stop_time_of service.start (texts_at text fields)))) e) refl
+    -- what the fields say
+    pub line_says : {call : Call} → said_of service.start text fields ≡ SaysCall call → ((i : ℕ) → Fits w8 (get_or text i 0))
+        → (own_verdict service.start (texts_at text fields) ≡ fine) × Says text call (stop_time_of service.start (texts_at text fields))
+    line_says e bytes = said_call service.start text fields e (record { byte = λ i h. omega (arith, bytes i) }) fields_inside
 
-      module _ (own : own_verdict service.start (texts_at text fields) ≡ fine) where
-        next_decides : line_verdict service.columns service.start back line ≡ next_verdict back (stop_time_of service.start (texts_at text fields))
-        next_decides = verdict_unquoted back ∙ ap (λ v. or_else v (next_verdict back (stop_time_of service.start (texts_at text fields)))) own
+    -- a fault of the fields by themselves
+    pub own_refused : (back : List StopTime) (number column : ℕ) → own_verdict service.start (texts_at text fields) ≡ fault number column
+        → line_verdict service.columns service.start back line ≡ fault number column
+    own_refused back number column e =
+        verdict_unquoted back ∙ ap (λ v. or_else v (next_verdict back (stop_time_of service.start (texts_at text fields)))) e
 
-        -- a fault behind the calls read so far
-        pub next_refused : {taken : Taken} {number column : ℕ} → taken ≡ TakenWrong number column
-            → CallTaken text back (stop_time_of service.start (texts_at text fields)) taken trips stops last rows
-            → LineRead text at service back (Wrong number column) trips stops last rows
-        next_refused {number = number} {column} told (refused n c e f) =
-            let same_number : number ≡ n = cc in
-            let same_column : column ≡ c = cc in
-            subst⁻¹ (λ k. LineRead text at service back (Wrong k column) trips stops last rows) same_number
-            (subst⁻¹ (λ k. LineRead text at service back (Wrong n k) trips stops last rows) same_column (faulty n c (next_decides ∙ e) refl))
-        next_refused told (kept counts e f held) = absurd (let z : ◌≡◌ {A = ℕ} 0 1 = cc in let y : ⊥ = omega arith in y)
+    module _ (own : own_verdict service.start (texts_at text fields) ≡ fine) (back : List StopTime) where
+      -- behind the calls read so far the call decides
+      pub next_decides : line_verdict service.columns service.start back line ≡ next_verdict back (stop_time_of service.start (texts_at text fields))
+      next_decides = verdict_unquoted back ∙ ap (λ v. or_else v (next_verdict back (stop_time_of service.start (texts_at text fields)))) own
 
-        -- a call more
-        pub next_read : {taken : Taken} {counts : Counts} → taken ≡ TakenOn counts
-            → CallTaken text back (stop_time_of service.start (texts_at text fields)) taken trips stops last rows
-            → LineRead text at service back (On next counts) trips stops last rows
-        next_read told (refused n c e f) = absurd (let z : ◌≡◌ {A = ℕ} 0 1 = cc in let y : ⊥ = omega arith in y)
-        next_read {counts = counts} told (kept with e f held) =
-            let same : counts ≡ with = cc in
-            sound next counts (next_decides ∙ e) refl line_lies.onward line_lies.inside line_lies.behind
-            (subst⁻¹ (λ k. Held text (stop_time_of service.start (texts_on service.columns line) ∷ back) trips stops last rows k) same
-            (subst (λ (t : FieldTexts). Held text (stop_time_of service.start t ∷ back) trips stops last rows with) same_texts held))
+      -- a call more
+      pub next_read : (notes : Notes) → next_verdict back (stop_time_of service.start (texts_at text fields)) ≡ fine
+          → Held text (stop_time_of service.start (texts_at text fields) ∷ back) notes → LineSound text at service back next notes
+      next_read notes e held =
+          let lies = line_lies in
+          record {
+            sound = next_decides ∙ e;
+            onward = lies.onward;
+            inside = lies.inside;
+            behind = lies.behind;
+            held = subst (λ (t : FieldTexts). Held text (stop_time_of service.start t ∷ back) notes) same_texts held;
+          }

@@ -20,40 +20,56 @@ use Rattle.gtfs_ids.proofs.Stores.{length_book}
 use Rattle.gtfs_stop_time.specs.declared.Call.{Call}
 use Rattle.gtfs_stop_time.specs.StopTime.{StopTime, last_minute}
 use Rattle.gtfs_stop_time.specs.Said.{Says}
-use Rattle.gtfs_stop_times.specs.declared.Counts.{Counts}
+use Rattle.gtfs_stop_times.specs.declared.Notes.{Notes}
 use Rattle.gtfs_calls.specs.Calls.{trips_of, stops_of, last_call, rows_of}
-use Rattle.gtfs_stop_times.specs.Held.{Held, NotesRoom, CallHeld, entered, count_with}
+use Rattle.gtfs_stop_times.specs.Held.{Held, NotesRoom, CallHeld, entered, count_with, with_call}
 use Rattle.gtfs_stop_times.proofs.Entered.{count_entered, holds_entered, holds_entry, entered_length, short_id}
 use Rattle.gtfs_stop_times.proofs.KeptCalls.{call_written, written_length, calls_held}
 use Rattle.gtfs_stop_times.proofs.RowsRead.{read_more, small_more}
 use Rattle.gtfs_stop_times.proofs.Behind.{row_to, same_trips, row_more, rows_same}
 
-module _ {text : List ℕ} (back : List StopTime) (says : StopTime) (call : Call) (trips stops last rows : List ℕ) (counts : Counts)
-    (held : Held text back trips stops last rows counts) (said : Says text call says) (trip stop : ℕ)
+-- the notes with the row that ends at a call
+abbrev pub with_row : Notes → Call → (trip stop : ℕ) → Notes
+with_row notes call trip stop =
+    record notes {
+      rows = sets notes.rows (12 * notes.counts.rows) (row_bytes (row_to notes.last trip stop call.arrival));
+      counts = record notes.counts { rows = notes.counts.rows + 1 };
+    }
+
+-- the notes with a call's trip
+abbrev pub with_trip : Notes → Call → Notes
+with_trip notes call =
+    record notes {
+      trips = book_with notes.trips notes.counts.trips call.trip call.tripplace;
+      counts = record notes.counts { trips = notes.counts.trips + 1 };
+    }
+
+module _ {text : List ℕ} (back : List StopTime) (says : StopTime) (call : Call) (notes : Notes)
+    (held : Held text back notes) (said : Says text call says) (trip stop : ℕ)
     (own_trip : trip ≡ number_of (trips_of back) says.trip) (own_stop : stop ≡ number_of (stops_of back) says.stop)
-    (stop_room : count_with counts.stops stop ≤ most_stops)
+    (stop_room : count_with notes.counts.stops stop ≤ most_stops)
   where
     -- the stop
     abbrev stops_after : List ℕ
-    stops_after = entered stops counts.stops stop call.stop call.stopplace
+    stops_after = entered notes.stops notes.counts.stops stop call.stop call.stopplace
 
-    stop_counted : count_with counts.stops stop ≡ length (stops_of (says ∷ back))
+    stop_counted : count_with notes.counts.stops stop ≡ length (stops_of (says ∷ back))
     unfolding stops_of
     stop_counted =
-        count_entered stops (stops_of back) says.stop call.stop call.stopplace counts.stops stop held.stop_count own_stop
+        count_entered notes.stops (stops_of back) says.stop call.stop call.stopplace notes.counts.stops stop held.stop_count own_stop
 
     stops_held : HoldsIds text stops_after (stops_of (says ∷ back))
     unfolding stops_of
     stops_held =
-        holds_entered stops (stops_of back) says.stop call.stop call.stopplace counts.stops stop held.stop_count own_stop
+        holds_entered notes.stops (stops_of back) says.stop call.stop call.stopplace notes.counts.stops stop held.stop_count own_stop
         held.stop_ids said.stop said.stop_bytes (short_id says.stop said.stop_id) said.stop_lies
-        (let z : cell_of (count_with counts.stops stop) ≤ length stops = omega (arith, held.room.stop_cells) in z)
+        (let z : cell_of (count_with notes.counts.stops stop) ≤ length notes.stops = omega (arith, held.room.stop_cells) in z)
 
     -- the trip's cells
     abbrev last_after : List ℕ
-    last_after = call_written last trip stop call.departure call.sequence
+    last_after = call_written notes.last trip stop call.departure call.sequence
 
-    last_as_said : call_written last trip stop says.departure says.sequence ≡ last_after
+    last_as_said : call_written notes.last trip stop says.departure says.sequence ≡ last_after
     last_as_said = cc (said.departure, said.sequence)
 
     calls_after : trip < most_trips → (t : ℕ) → t < length (trips_of (says ∷ back))
@@ -61,19 +77,16 @@ module _ {text : List ℕ} (back : List StopTime) (says : StopTime) (call : Call
     calls_after room t inside =
         subst (λ l. (c : StopTime) × (last_call (get_or (trips_of (says ∷ back)) t []) (says ∷ back) ≡ some c) × CallHeld l (stops_of (says ∷ back)) t c)
         last_as_said
-        (calls_held back says last trip stop own_trip own_stop (omega (arith, held.room.call_cells)) said.departs
+        (calls_held back says notes.last trip stop own_trip own_stop (omega (arith, held.room.call_cells)) said.departs
         (λ k known. held.calls k (omega (arith, held.trip_count))) t inside)
 
     -- a trip that has a call
-    module _ (known : trip < counts.trips) (row_room : counts.rows < most_rows) where
-      abbrev pub counts_known : Counts
-      counts_known = record { trips = counts.trips; stops = count_with counts.stops stop; rows = counts.rows + 1 }
-
+    module _ (known : trip < notes.counts.trips) (row_room : notes.counts.rows < most_rows) where
       trip_known : trip < length (trips_of back)
       trip_known = omega (arith, held.trip_count)
 
       abbrev row : Row
-      row = row_to last trip stop call.arrival
+      row = row_to notes.last trip stop call.arrival
 
       row_small : SmallRow row
       row_small =
@@ -89,25 +102,25 @@ module _ {text : List ℕ} (back : List StopTime) (says : StopTime) (call : Call
 
       rows_after : rows_of (says ∷ back) ≡ rows_of back ++ (row ∷ [])
       rows_after =
-          row_more back says trip stop own_trip own_stop last trip_known (held.calls trip known)
-          ∙ ap (λ k. rows_of back ++ (row_to last trip stop k ∷ [])) (sym said.arrival)
+          row_more back says trip stop own_trip own_stop notes.last trip_known (held.calls trip known)
+          ∙ ap (λ k. rows_of back ++ (row_to notes.last trip stop k ∷ [])) (sym said.arrival)
 
       trips_after : trips_of (says ∷ back) ≡ trips_of back
-      trips_after = same_trips back says trip stop own_trip own_stop last trip_known (held.calls trip known)
+      trips_after = same_trips back says trip stop own_trip own_stop notes.last trip_known (held.calls trip known)
 
-      pub held_known : Held text (says ∷ back) trips stops_after last_after (sets rows (12 * counts.rows) (row_bytes row)) counts_known
+      pub held_known : Held text (says ∷ back) (with_call (with_row notes call trip stop) call trip stop)
       held_known =
           record {
             room =
                 record {
                   trip_cells = held.room.trip_cells;
                   stop_cells =
-                      entered_length stops (stops_of back) says.stop call.stop call.stopplace counts.stops stop held.stop_count own_stop
+                      entered_length notes.stops (stops_of back) says.stop call.stop call.stopplace notes.counts.stops stop held.stop_count own_stop
                       ∙ held.room.stop_cells;
-                  call_cells = written_length last trip stop call.departure call.sequence ∙ held.room.call_cells;
-                  rows_length = length-sets rows (12 * counts.rows) (row_bytes row) ∙ held.room.rows_length;
+                  call_cells = written_length notes.last trip stop call.departure call.sequence ∙ held.room.call_cells;
+                  rows_length = length-sets notes.rows (12 * notes.counts.rows) (row_bytes row) ∙ held.room.rows_length;
                 };
-            trip_ids = subst (HoldsIds text trips) (sym trips_after) held.trip_ids;
+            trip_ids = subst (HoldsIds text notes.trips) (sym trips_after) held.trip_ids;
             stop_ids = stops_held;
             trip_count = held.trip_count ∙ ap (λ (l : List (List ℕ)). length l) (sym trips_after);
             stop_count = stop_counted;
@@ -118,7 +131,7 @@ module _ {text : List ℕ} (back : List StopTime) (says : StopTime) (call : Call
             calls = λ t inside. calls_after (omega (arith, held.few_trips)) t
                 (let z : t < length (trips_of (says ∷ back)) = omega (arith, held.trip_count, ap (λ (l : List (List ℕ)). length l) trips_after) in z);
             read =
-                read_more rows (rows_of back) row counts.rows held.row_count (omega (arith, held.room.rows_length)) held.read
+                read_more notes.rows (rows_of back) row notes.counts.rows held.row_count (omega (arith, held.room.rows_length)) held.read
                 ∙ ap rows_bytes (sym rows_after);
             small = λ i inside.
                 subst (λ (l : List Row). SmallRow (row_of l i)) (sym rows_after)
@@ -127,37 +140,34 @@ module _ {text : List ℕ} (back : List StopTime) (says : StopTime) (call : Call
           }
 
     -- a trip that is new
-    module _ (new : trip ≡ counts.trips) (trip_room : counts.trips < most_trips) where
-      abbrev pub counts_new : Counts
-      counts_new = record { trips = counts.trips + 1; stops = count_with counts.stops stop; rows = counts.rows }
-
+    module _ (new : trip ≡ notes.counts.trips) (trip_room : notes.counts.trips < most_trips) where
       trip_new : number_of (trips_of back) says.trip ≡ length (trips_of back)
       trip_new = omega (arith, held.trip_count)
 
       rows_kept : rows_of (says ∷ back) ≡ rows_of back
       rows_kept = rows_same back says trip stop own_trip own_stop (omega (arith, held.trip_count))
 
-      trips_more : length (trips_of (says ∷ back)) ≡ counts.trips + 1
+      trips_more : length (trips_of (says ∷ back)) ≡ notes.counts.trips + 1
       unfolding trips_of
       trips_more = length_new (trips_of back) says.trip trip_new ∙ omega (arith, held.trip_count)
 
-      trips_held : HoldsIds text (book_with trips counts.trips call.trip call.tripplace) (trips_of (says ∷ back))
+      trips_held : HoldsIds text (book_with notes.trips notes.counts.trips call.trip call.tripplace) (trips_of (says ∷ back))
       unfolding trips_of
       trips_held =
-          subst (λ k. HoldsIds text (book_with trips k call.trip call.tripplace) (with_id (trips_of back) says.trip)) (sym held.trip_count)
-          (holds_entry trips (trips_of back) says.trip call.trip call.tripplace held.trip_ids said.trip said.trip_bytes
+          subst (λ k. HoldsIds text (book_with notes.trips k call.trip call.tripplace) (with_id (trips_of back) says.trip)) (sym held.trip_count)
+          (holds_entry notes.trips (trips_of back) says.trip call.trip call.tripplace held.trip_ids said.trip said.trip_bytes
           (short_id says.trip said.trip_id) said.trip_lies trip_new (omega (arith, held.room.trip_cells, held.trip_count)))
 
-      pub held_new : Held text (says ∷ back) (book_with trips counts.trips call.trip call.tripplace) stops_after last_after rows counts_new
+      pub held_new : Held text (says ∷ back) (with_call (with_trip notes call) call trip stop)
       held_new =
           record {
             room =
                 record {
-                  trip_cells = length_book trips counts.trips call.trip call.tripplace ∙ held.room.trip_cells;
+                  trip_cells = length_book notes.trips notes.counts.trips call.trip call.tripplace ∙ held.room.trip_cells;
                   stop_cells =
-                      entered_length stops (stops_of back) says.stop call.stop call.stopplace counts.stops stop held.stop_count own_stop
+                      entered_length notes.stops (stops_of back) says.stop call.stop call.stopplace notes.counts.stops stop held.stop_count own_stop
                       ∙ held.room.stop_cells;
-                  call_cells = written_length last trip stop call.departure call.sequence ∙ held.room.call_cells;
+                  call_cells = written_length notes.last trip stop call.departure call.sequence ∙ held.room.call_cells;
                   rows_length = held.room.rows_length;
                 };
             trip_ids = trips_held;

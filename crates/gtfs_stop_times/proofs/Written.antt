@@ -16,14 +16,14 @@ use Rattle.gtfs_ids.specs.Book.{HoldsIds}
 use Rattle.gtfs_order.specs.Order.{in_order}
 use Rattle.gtfs_order.proofs.AsRead.{in_order_length}
 use Rattle.gtfs_stop_time.specs.StopTime.{StopTime}
-use Rattle.gtfs_stop_times.specs.declared.Counts.{Counts}
+use Rattle.gtfs_stop_times.specs.declared.Notes.{Notes}
 use Rattle.gtfs_stop_times.specs.declared.Wanted.{Wanted}
 use Rattle.gtfs_stop_times.specs.declared.Wanted.TheVariants.{Rows, Names}
 use Rattle.gtfs_calls.specs.Calls.{trips_of, stops_of, rows_of}
-use Rattle.gtfs_stop_times.specs.Held.{Held}
+use Rattle.gtfs_stop_times.specs.Held.{Held, Holding}
 use Rattle.gtfs_calls.specs.Names.{stop_word, trip_word, id_lines, names_text, line_room, names_room}
 use Rattle.gtfs_stop_times.specs.Answers.{written_of, wanted_room}
-use Rattle.gtfs_stop_times.specs.Putting.{HeldFor, IdsHeld, IdsPut, WantedPut}
+use Rattle.gtfs_stop_times.specs.Putting.{IdsHeld, IdsPut, WantedPut}
 use Rattle.gtfs_stop_times.proofs.Answered.{rows_held}
 use Rattle.gtfs_stop_times.proofs.NameLines.{put_then, lines_short}
 
@@ -37,50 +37,50 @@ over_first out text fits =
 room_for : {wanted one : Wanted} (out : List ℕ) → wanted ≡ one → wanted_room wanted ≤ length out → wanted_room one ≤ length out
 room_for out e room = subst (λ (w : Wanted). wanted_room w ≤ length out) e room
 
-module _ {text trips stops rows : List ℕ} {counts : Counts} where
-  module _ (held : HeldFor text trips stops rows counts) where
-    pub stops_for : IdsHeld text stops counts.stops
-    stops_for = (stops_of held.0, held.2.stop_ids, held.2.stop_count, (let z : counts.stops < 65536 = omega (arith, held.2.few_stops) in z))
+module _ {text : List ℕ} {notes : Notes} where
+  module _ (held : Holding text notes) where
+    pub stops_for : IdsHeld text notes.stops notes.counts.stops
+    stops_for = (stops_of held.0, held.1.stop_ids, held.1.stop_count, (let z : notes.counts.stops < 65536 = omega (arith, held.1.few_stops) in z))
 
-    pub trips_for : IdsHeld text trips counts.trips
-    trips_for = (trips_of held.0, held.2.trip_ids, held.2.trip_count, (let z : counts.trips < 65536 = omega (arith, held.2.few_trips) in z))
+    pub trips_for : IdsHeld text notes.trips notes.counts.trips
+    trips_for = (trips_of held.0, held.1.trip_ids, held.1.trip_count, (let z : notes.counts.trips < 65536 = omega (arith, held.1.few_trips) in z))
 
     pub rows_fit : {wanted : Wanted} (out : List ℕ) → wanted ≡ Rows → wanted_room wanted ≤ length out
-        → (counts.rows ≤ most_rows) × (12 * counts.rows ≤ length rows) × (12 * counts.rows ≤ length out)
+        → (notes.counts.rows ≤ most_rows) × (12 * notes.counts.rows ≤ length notes.rows) × (12 * notes.counts.rows ≤ length out)
     rows_fit out e lent =
-        let few = held.2.few_rows in
+        let few = held.1.few_rows in
         let room = room_for out e lent in
-        (few, (let z : 12 * counts.rows ≤ length rows = omega (arith, held.2.room.rows_length) in z), (let z : 12 * counts.rows ≤ length out = omega arith in z))
+        (few, (let z : 12 * notes.counts.rows ≤ length notes.rows = omega (arith, held.1.room.rows_length) in z), (let z : 12 * notes.counts.rows ≤ length out = omega arith in z))
 
-    pub stops_fit : {wanted : Wanted} (out : List ℕ) → wanted ≡ Names → wanted_room wanted ≤ length out → 0 + line_room * counts.stops ≤ length out
-    stops_fit out e lent = omega (arith, held.2.few_stops, room_for out e lent)
+    pub stops_fit : {wanted : Wanted} (out : List ℕ) → wanted ≡ Names → wanted_room wanted ≤ length out → 0 + line_room * notes.counts.stops ≤ length out
+    stops_fit out e lent = omega (arith, held.1.few_stops, room_for out e lent)
 
     -- behind the stops there is room for the trips
-    pub trips_fit : {wanted : Wanted} (out after : List ℕ) (next : ℕ) → wanted ≡ Names → wanted_room wanted ≤ length out → IdsPut text stops counts.stops stop_word out 0 after next
-        → length after ≡ length out → next + line_room * counts.trips ≤ length after
+    pub trips_fit : {wanted : Wanted} (out after : List ℕ) (next : ℕ) → wanted ≡ Names → wanted_room wanted ≤ length out → IdsPut text notes.stops notes.counts.stops stop_word out 0 after next
+        → length after ≡ length out → next + line_room * notes.counts.trips ≤ length after
     trips_fit out after next e lent put same =
         let room = room_for out e lent in
         let back = held.0 in
-        let notes = held.2 in
-        let line = put (stops_of back) notes.stop_ids notes.stop_count in
-        omega (arith, line.ends, lines_short stop_word (stops_of back) (omega arith) notes.stop_ids.short, notes.stop_count, notes.few_stops, notes.few_trips, same)
+        let known = held.1 in
+        let line = put (stops_of back) known.stop_ids known.stop_count in
+        omega (arith, line.ends, lines_short stop_word (stops_of back) (omega arith) known.stop_ids.short, known.stop_count, known.few_stops, known.few_trips, same)
 
-  pub rows_put : {wanted : Wanted} (out after : List ℕ) → wanted ≡ Rows → after ≡ over (rows_bytes (in_order (rows_from 12 rows 0 counts.rows))) out
-      → WantedPut wanted text trips stops rows counts out after (12 * counts.rows)
+  pub rows_put : {wanted : Wanted} (out after : List ℕ) → wanted ≡ Rows → after ≡ over (rows_bytes (in_order (rows_from 12 notes.rows 0 notes.counts.rows))) out
+      → WantedPut wanted text notes out after (12 * notes.counts.rows)
   unfolding written_of
   rows_put {wanted} out after e put =
-      subst⁻¹ (λ (w : Wanted). WantedPut w text trips stops rows counts out after (12 * counts.rows)) e λ back last held. (
-        put ∙ ap (λ (l : List Row). over (rows_bytes (in_order l)) out) (rows_held back trips stops last rows counts held),
-        (let z : 12 * counts.rows ≡ length (rows_bytes (in_order (rows_of back))) =
+      subst⁻¹ (λ (w : Wanted). WantedPut w text notes out after (12 * notes.counts.rows)) e λ back held. (
+        put ∙ ap (λ (l : List Row). over (rows_bytes (in_order l)) out) (rows_held back notes held),
+        (let z : 12 * notes.counts.rows ≡ length (rows_bytes (in_order (rows_of back))) =
             omega (arith, rows_size (in_order (rows_of back)), in_order_length (rows_of back), held.row_count) in z),
       )
 
-  pub names_put : {wanted : Wanted} (out middle after : List ℕ) (next bytes : ℕ) → wanted ≡ Names → wanted_room wanted ≤ length out → IdsPut text stops counts.stops stop_word out 0 middle next
-      → IdsPut text trips counts.trips trip_word middle next after bytes → WantedPut wanted text trips stops rows counts out after bytes
+  pub names_put : {wanted : Wanted} (out middle after : List ℕ) (next bytes : ℕ) → wanted ≡ Names → wanted_room wanted ≤ length out → IdsPut text notes.stops notes.counts.stops stop_word out 0 middle next
+      → IdsPut text notes.trips notes.counts.trips trip_word middle next after bytes → WantedPut wanted text notes out after bytes
   unfolding written_of names_text
   names_put {wanted} out middle after next bytes e lent first second =
       let room = room_for out e lent in
-      subst⁻¹ (λ (w : Wanted). WantedPut w text trips stops rows counts out after bytes) e λ back last held.
+      subst⁻¹ (λ (w : Wanted). WantedPut w text notes out after bytes) e λ back held.
       let whole = put_then (first (stops_of back) held.stop_ids held.stop_count) (second (trips_of back) held.trip_ids held.trip_count) in
       let all = id_lines stop_word (stops_of back) ++ id_lines trip_word (trips_of back) in (
         whole.says ∙ over_first out all

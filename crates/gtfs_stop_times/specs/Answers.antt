@@ -1,5 +1,5 @@
 -- What reading answers, and what it writes of the calls: their rows in order, or the names of their ids.
-use Rattle.std.specs.Prelude.{ℕ, List, length}
+use Rattle.std.specs.Prelude.{ℕ, List, length, Result, Ok, Err}
 use Rattle.numbers.specs.Over.{over}
 use Rattle.file_encoding.specs.Encode.{rows_bytes}
 use Rattle.gtfs_order.specs.Order.{in_order}
@@ -7,8 +7,8 @@ use Rattle.gtfs_stop_time.specs.StopTime.{StopTime}
 use Rattle.gtfs_stop_times.specs.declared.Counts.{Counts}
 use Rattle.gtfs_stop_times.specs.declared.Wanted.{Wanted}
 use Rattle.gtfs_stop_times.specs.declared.Wanted.TheVariants.{Rows, Names}
-use Rattle.gtfs_stop_times.specs.declared.Read.{Read}
-use Rattle.gtfs_stop_times.specs.declared.Read.TheVariants.{Calls, Wrong}
+use Rattle.gtfs_stop_times.specs.declared.Listed.{Listed}
+use Rattle.gtfs_stop_times.specs.declared.LineFault.{LineFault}
 use Rattle.gtfs_calls.specs.Calls.{trips_of, stops_of, rows_of}
 use Rattle.gtfs_calls.specs.Reading.{Reading, said, wrong}
 use Rattle.gtfs_calls.specs.Names.{names_text, names_room}
@@ -22,9 +22,9 @@ written_of Rows calls = rows_bytes (in_order (rows_of calls))
 written_of Names calls = names_text calls
 
 -- how many trips, stops and rows there are, and how many bytes are written; or the first fault with its line and column
-unfoldable pub read_answer : Wanted → Reading → Read
-read_answer wanted (said calls) = Calls (counts_of calls) (length (written_of wanted calls))
-read_answer wanted (wrong number line column) = Wrong number line column
+unfoldable pub read_answer : Wanted → Reading → Result Listed LineFault
+read_answer wanted (said calls) = Ok (record { counts = counts_of calls; bytes = length (written_of wanted calls) })
+read_answer wanted (wrong number line column) = Err (record { number = number; line = line; column = column })
 
 -- it goes over the first bytes; a fault changes nothing
 unfoldable pub out_after : Wanted → Reading → List ℕ → List ℕ

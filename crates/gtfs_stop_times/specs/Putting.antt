@@ -4,7 +4,7 @@ use Rattle.numbers.specs.Over.{over}
 use Rattle.text.specs.Put.{Put}
 use Rattle.gtfs_ids.specs.Book.{HoldsIds}
 use Rattle.gtfs_stop_time.specs.StopTime.{StopTime}
-use Rattle.gtfs_stop_times.specs.declared.Counts.{Counts}
+use Rattle.gtfs_stop_times.specs.declared.Notes.{Notes}
 use Rattle.gtfs_stop_times.specs.declared.Wanted.{Wanted}
 use Rattle.gtfs_calls.specs.Names.{id_lines}
 use Rattle.gtfs_stop_times.specs.Answers.{written_of}
@@ -19,12 +19,8 @@ abbrev pub IdsPut : (text book : List ℕ) → (count : ℕ) → (word out : Lis
 IdsPut text book count word out at after next =
     (ids : List (List ℕ)) → HoldsIds text book ids → count ≡ length ids → Put out at (id_lines word ids) after next
 
--- the notes hold some calls
-abbrev pub HeldFor : (text trips stops rows : List ℕ) → Counts → Type 0
-HeldFor text trips stops rows counts = (back : List StopTime) × (last : List ℕ) × Held text back trips stops last rows counts
-
 -- whatever calls the notes hold, what is wanted of them is written
-abbrev pub WantedPut : Wanted → (text trips stops rows : List ℕ) → Counts → (out after : List ℕ) → (bytes : ℕ) → Type 0
-WantedPut wanted text trips stops rows counts out after bytes =
-    (back : List StopTime) → (last : List ℕ) → Held text back trips stops last rows counts
+abbrev pub WantedPut : Wanted → (text : List ℕ) → Notes → (out after : List ℕ) → (bytes : ℕ) → Type 0
+WantedPut wanted text notes out after bytes =
+    (back : List StopTime) → Held text back notes
     → (after ≡ over (written_of wanted back) out) × (bytes ≡ length (written_of wanted back))

@@ -2,31 +2,27 @@
 use mathlib.Core.Path.{sym, ap, ◌∙◌}
 use Rattle.gtfs_lines.proofs.Headers.{header_cut, header_refused}
 use Rattle.gtfs_stop_times.specs.Answers.{read_answer, out_after}
+use Rattle.gtfs_stop_times.proofs.Answered.{fault_answered}
 use Rattle.gtfs_stop_times.proofs.HeaderLine.{header_quoted, column_missing, columns_named, header_some}
 use Rattle.gtfs_stop_times.proofs.stop_times.Goals as goal
 
 pub returns-in_default : goal.returns-in_default
-unfolding read_answer out_after
 returns-in_default c =
     let a = c.args in
-    let quoted = header_quoted a.start a.text.now (header_refused a.text.now (sym c.header_columns-header.ensures ∙ c.in_default.is)) in
-    (ap (read_answer a.wanted) (sym quoted), ap (λ r. out_after a.wanted r a.out.now) (sym quoted))
+    fault_answered a.wanted a.out.now _ _ _ (header_quoted a.start a.text.now (header_refused a.text.now (sym c.header_columns-header.ensures ∙ c.in_default.is)))
 
-pub returns-then-column-ne0 : goal.returns-then-column-ne0
-unfolding read_answer out_after
-returns-then-column-ne0 c =
+pub returns-in-Some : goal.returns-in-Some
+returns-in-Some c =
     let a = c.args in
-    let cut = header_cut a.text.now c.in-Named.columns c.in-Named.next (sym c.header_columns-header.ensures ∙ c.in-Named.is) in
-    let missing = column_missing a.start a.text.now c.in-Named.columns c.in-Named.next cut.unquoted cut.named cut.behind
-    c.missing_column-column.result c.missing_column-column.ensures c.if-column-ne0.true in
-    (ap (read_answer a.wanted) (sym missing), ap (λ r. out_after a.wanted r a.out.now) (sym missing))
+    let cut = header_cut a.text.now c.in-Named.columns c.in-Named.next (sym c.in-Named.ensures) in
+    fault_answered a.wanted a.out.now _ _ _
+    (column_missing a.start a.text.now c.in-Named.columns c.in-Named.next cut.unquoted cut.named cut.behind c.in-Some.column c.in-Some.ensures)
 
 pub wanted_behind-requires : goal.wanted_behind-requires
 wanted_behind-requires c =
     let a = c.args in
-    let cut = header_cut a.text.now c.in-Named.columns c.in-Named.next (sym c.header_columns-header.ensures ∙ c.in-Named.is) in (
-      header_some a.start a.text.now c.in-Named.columns c.in-Named.next cut.unquoted cut.named cut.behind
-          (sym c.missing_column-column.ensures ∙ c.if-column-ne0.false),
+    let cut = header_cut a.text.now c.in-Named.columns c.in-Named.next (sym c.in-Named.ensures) in (
+      header_some a.start a.text.now c.in-Named.columns c.in-Named.next cut.unquoted cut.named cut.behind (sym c.in_default-missing_column.is ∙ c.missing_column.ensures),
       cut.inside,
       c.requires.0,
       c.requires.1,
@@ -35,7 +31,6 @@ wanted_behind-requires c =
 pub returns : goal.returns
 returns c =
     let a = c.args in
-    let cut = header_cut a.text.now c.in-Named.columns c.in-Named.next (sym c.header_columns-header.ensures ∙ c.in-Named.is) in
-    let whole = columns_named a.start a.text.now c.in-Named.columns c.in-Named.next cut.unquoted cut.named cut.behind
-    (sym c.missing_column-column.ensures ∙ c.if-column-ne0.false) in
+    let cut = header_cut a.text.now c.in-Named.columns c.in-Named.next (sym c.in-Named.ensures) in
+    let whole = columns_named a.start a.text.now c.in-Named.columns c.in-Named.next cut.unquoted cut.named cut.behind (sym c.in_default-missing_column.is ∙ c.missing_column.ensures) in
     (c.wanted_behind.ensures.0 ∙ ap (read_answer a.wanted) (sym whole), c.wanted_behind.ensures.1 ∙ ap (λ r. out_after a.wanted r a.out.now) (sym whole))
