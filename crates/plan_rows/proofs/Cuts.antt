@@ -20,7 +20,7 @@ use Rattle.query.specs.declared.Query.{Query}
 use Rattle.plans.specs.declared.Goal.{Goal}
 use Rattle.plans.specs.Sound.{Timely}
 use Rattle.plans.specs.Rides.{lands_by}
-use Rattle.plans.specs.Journeys.{goal_of, within, ready_at}
+use Rattle.plans.specs.Journeys.{goal_of, ready_at}
 use Rattle.plans.specs.Worth.{Valued, first_open}
 use Rattle.plans.specs.Chosen.{Aim, in_ticks, Scan, scan, best_of, choose, next_of, least_of, get_off, stay_on, row_ride}
 use Rattle.plans.specs.Plan.{up_to, extract, rides_from, chosen_for}

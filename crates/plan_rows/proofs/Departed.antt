@@ -7,7 +7,7 @@ use mathlib.Core.Option.{Option, none, some}
 use mathlib.Core.Path.{◌≡◌, refl, sym, ap, ap₂, subst, ◌∙◌}
 use lib.Dec.{leb, eqb}
 use borrow.Author.Tests.{leb-true, leb-false, eqb-true, lt-leb}
-use Rattle.laws.proofs.Tests.{ifb, both_right, cond_true, cond_false}
+use Rattle.laws.proofs.Tests.{ifb, both_right, cond_false}
 use Rattle.plans.specs.Rides.{Ride, lands_by, ready, boards}
 use Rattle.plans.specs.Worth.{Valued, first_open}
 use Rattle.plans.specs.Chosen.{Aim, others}

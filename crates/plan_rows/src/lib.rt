@@ -7,8 +7,12 @@ ghost use Rattle.file_layout.specs.Small.{SmallRow};
 ghost use Rattle.query.specs.Query.{most_gate};
 ghost use Rattle.plans.specs.Rides.{ready as ready_from};
 ghost use Rattle.plan_rows.specs.Reading.{rows_in, FileReadable, Cut};
+ghost use Rattle.plan_rows.specs.Sailings.{rows_of};
+
+mod sailings;
 
 use file_layout::row_at;
+pub use sailings::Sailings;
 use timetable::Row;
 
 // Where a sound file's sections stand: how many rows, the first one's byte, the bytes of a row; how
@@ -31,6 +35,35 @@ pub const MAX_DELAY: usize = 0;
 pub const EXPECTED: usize = 1;
 
 pub const SHARES: usize = 2;
+
+impl<'a> Sailings<'a> {
+    // Row number `i`.
+    pub fn nth_row(&self, i: usize) -> Row
+        requires { i < self.now.places.rows }
+        ensures { (result ≡ row_of (rows_of self.now) i) × SmallRow result }
+    {
+        let s = self.places;
+        row_at(self.file, s.rowstart + s.width * i)
+    }
+
+    // How many rows depart before `minute`: they stand ahead of all others.
+    pub fn rows_before(&self, minute: usize) -> usize
+        ensures { Cut (rows_of self.now) minute result }
+    {
+        // By halves: the rows are bytes of a file, and `partition_point` is a slice's.
+        let mut low = 0;
+        let mut high = self.places.rows;
+        while low < high {
+            let middle = low + (high - low) / 2;
+            if can_board(self.nth_row(middle).departure, minute) {
+                high = middle;
+            } else {
+                low = middle + 1;
+            }
+        }
+        low
+    }
+}
 
 // Row number `i`.
 pub fn nth_row(file: &[u8], s: SectionPlaces, i: usize) -> Row
