@@ -5,20 +5,37 @@ use mathlib.Core.Logic.{◌≢◌}
 use mathlib.Core.Path.{◌≡◌}
 use Rattle.plans.specs.Journeys.{ready_at}
 use Rattle.plans.specs.Plan.{earliest}
-use Rattle.plan_cells.specs.Cells.{cell_of}
+use Rattle.plan_cells.specs.Cells.{missing}
 use Rattle.plan_rows.specs.declared.SectionPlaces.{SectionPlaces}
 use Rattle.plan_rows.specs.Reading.{rows_in, timetable_in, FileReadable, Cut}
 use Rattle.query.specs.declared.Query.{Query}
+use Rattle.std.specs.Prelude.{None, Some}
+use Rattle.plan_earliest.specs.Arrival.{arrival}
 use Rattle.plan_earliest.specs.Swept.{Swept, EarliestReached}
-use Rattle.plan_earliest.proofs.Final.{SetOut, sets_sail, earliest_cell}
+use Rattle.plan_earliest.proofs.Final.{SetOut, sets_sail, none_arrives, cell_arrives}
 use Rattle.plan_earliest.proofs.InFile.{seaworthy}
 
-pub answer_earliest :
-    (file : List ℕ) (s : SectionPlaces) → FileReadable file s → (q : Query) (first : ℕ) → q.source ≢ q.target → q.minute < 65536
-    → Cut (rows_in file s) (ready_at q) first → {start : List ℕ} → SetOut q.source q.minute start → {answer : ℕ}
-    → (Swept (timetable_in file s) q.gate q.source q.minute first start
+module _
+    (file : List ℕ)
+    (s : SectionPlaces)
+    (stand : FileReadable file s)
+    (q : Query)
+    (first : ℕ)
+    (apart : q.source ≢ q.target)
+    (small : q.minute < 65536)
+    (cut : Cut (rows_in file s) (ready_at q) first)
+    {start : List ℕ}
+    (out : SetOut q.source q.minute start)
+    {answer : ℕ}
+    (found :
+    Swept (timetable_in file s) q.gate q.source q.minute first start
     → EarliestReached (timetable_in file s) q.gate q.source q.minute q.target answer)
-    → answer ≡ cell_of (earliest (timetable_in file s) q)
-answer_earliest file s stand q first apart small cut out found =
-    earliest_cell (timetable_in file s) (seaworthy file s stand) q apart small
-    (found (sets_sail (timetable_in file s) (seaworthy file s stand) q.gate q.source q.minute first cut out))
+  where
+    swept : EarliestReached (timetable_in file s) q.gate q.source q.minute q.target answer
+    swept = found (sets_sail (timetable_in file s) (seaworthy file s stand) q.gate q.source q.minute first cut out)
+
+    pub answers_none : answer ≡ missing → None ≡ arrival (earliest (timetable_in file s) q)
+    answers_none e = none_arrives (timetable_in file s) (seaworthy file s stand) q apart small swept e
+
+    pub answers_some : (answer ≡ missing → ⊥) → Some answer ≡ arrival (earliest (timetable_in file s) q)
+    answers_some real = cell_arrives (timetable_in file s) (seaworthy file s stand) q apart small swept real

@@ -18,8 +18,10 @@ use Rattle.query.specs.declared.Query.{Query}
 use Rattle.plans.specs.Plan.{earliest}
 use Rattle.plans.proofs.EarliestSafe.{earliest_is_least, no_earliest}
 use Rattle.plans.specs.Rides.{ready}
-use Rattle.plan_cells.specs.Cells.{missing, cell_of}
+use Rattle.plan_cells.specs.Cells.{missing}
 use Rattle.plan_rows.specs.Reading.{Cut}
+use Rattle.std.specs.Prelude.{None, Some}
+use Rattle.plan_earliest.specs.Arrival.{arrival}
 use Rattle.plan_earliest.specs.Reached.{Reached, sets_out, rides}
 use Rattle.plan_earliest.specs.Cells.{aboard, reached_at}
 use Rattle.plan_earliest.specs.Swept.{Boardable, Told, Swept, EarliestReached}
@@ -82,22 +84,32 @@ module _ (t : Timetable) (ship : Seaworthy t) (gate source minute : ℕ) where
           (λ e _. let late : departure < m = leb-false m departure e in let z : reached_at work stop ≤ m = omega (arith, reached) in z) refl
 
 module _ (t : Timetable) (ship : Seaworthy t) (q : Query) (apart : q.source ≢ q.target) (small : q.minute < 65536) where
+  arrives_there : (e : ℕ) → earliest t q ≡ some e → Reached t q.gate q.source q.minute q.target e
+  arrives_there e h = journey_reached t q (earliest_is_least t ship.timely q e h).reached
+
+  fits_below : (e : ℕ) → earliest t q ≡ some e → e < missing
+  fits_below e h =
+      let below : e < 65536 = reached_below t ship q.gate q.source q.minute small (arrives_there e h) in
+      let z : e < missing = omega arith in z
+
   module _ {cell : ℕ} (found : EarliestReached t q.gate q.source q.minute q.target cell) where
     some_cell : (e : ℕ) → earliest t q ≡ some e → cell ≡ e
     some_cell e h =
-        let j = earliest_is_least t ship.timely q e h in
-        let reached : Reached t q.gate q.source q.minute q.target e = journey_reached t q j.reached in
-        le_antisymm (found.least e reached)
-        (⊎_elim
-        (λ z. let below : e < 65536 = reached_below t ship q.gate q.source q.minute small reached in let y : e ≤ cell = omega arith in y)
-        (λ k. j.least cell (reached_journey t q apart k refl)) found.told)
+        le_antisymm (found.least e (arrives_there e h))
+        (⊎_elim (λ z. let below = fits_below e h in let y : e ≤ cell = omega arith in y)
+        (λ k. (earliest_is_least t ship.timely q e h).least cell (reached_journey t q apart k refl)) found.told)
 
     no_cell : earliest t q ≡ none → cell ≡ missing
     no_cell h =
         ⊎_elim (λ z. z) (λ k. absurd (no_earliest t ship.timely q apart h cell (reached_journey t q apart k refl))) found.told
 
-    -- the target's cell is the earliest safe arrival
-    pub earliest_cell : cell ≡ cell_of (earliest t q)
-    earliest_cell =
-        present_or_absent (cell ≡ cell_of (earliest t q)) (earliest t q) (λ h. no_cell h ∙ sym (ap cell_of h))
-        (λ e h. some_cell e h ∙ sym (ap cell_of h))
+    -- the target's cell is the earliest safe arrival, or tells that there is none
+    pub none_arrives : cell ≡ missing → None ≡ arrival (earliest t q)
+    none_arrives e =
+        present_or_absent (None ≡ arrival (earliest t q)) (earliest t q) (λ h. sym (ap arrival h))
+        (λ m h. absurd (let below = fits_below m h in let same = some_cell m h in let z : ⊥ = omega arith in z))
+
+    pub cell_arrives : (cell ≡ missing → ⊥) → Some cell ≡ arrival (earliest t q)
+    cell_arrives real =
+        present_or_absent (Some cell ≡ arrival (earliest t q)) (earliest t q) (λ h. absurd (real (no_cell h)))
+        (λ m h. ap Some (some_cell m h) ∙ sym (ap arrival h))

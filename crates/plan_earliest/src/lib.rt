@@ -6,9 +6,10 @@ ghost use Rattle.timetable.specs.Limits.{most_stops, most_trips};
 ghost use Rattle.query.specs.Query.{most_gate};
 ghost use Rattle.plans.specs.Journeys.{ready_at};
 ghost use Rattle.plans.specs.Plan.{earliest};
-ghost use Rattle.plan_cells.specs.Cells.{trip_cells, pair_cells, cell_of};
+ghost use Rattle.plan_cells.specs.Cells.{trip_cells, pair_cells};
 ghost use Rattle.plan_cells.specs.Outside.{SameOutside};
 ghost use Rattle.plan_rows.specs.Reading.{rows_in, tables_in, timetable_in, table_cells, FileReadable, Cut, TablesHeld};
+ghost use Rattle.plan_earliest.specs.Arrival.{arrival};
 ghost use Rattle.plan_earliest.specs.Cells.{reached_at, landing_of, RowInCells, Boarded, Landed, RowSailed};
 ghost use Rattle.plan_earliest.specs.Swept.{Swept, EarliestReached};
 
@@ -18,7 +19,7 @@ use plan_rows::{BLOCK, MAX_DELAY, SectionPlaces, can_board, nth_row, ready};
 use query::Query;
 use timetable::{MOST_STOPS, MOST_TRIPS, Row};
 
-// The earliest safe arrival that the query asks for, over the rows from `first` on; NONE if there is none.
+// The earliest safe arrival that the query asks for, over the rows from `first` on.
 pub fn earliest_arrival(
     file: &[u8],
     s: SectionPlaces,
@@ -26,20 +27,19 @@ pub fn earliest_arrival(
     q: Query,
     first: usize,
     work: &mut [u32],
-) -> u32
+) -> Option<u32>
     requires { FileReadable file.now s × TablesHeld tables.now (tables_in file.now s) × (q.source < most_stops)
         × (q.target < most_stops) × (q.source ≢ q.target) × (q.minute < 65536) × Cut (rows_in file.now s) (ready_at q) first
         × (pair_cells ≤ length work.old) × (q.gate ≤ most_gate) }
-    ensures { (result ≡ cell_of (earliest (timetable_in file.now s) q))
+    ensures { (result ≡ arrival (earliest (timetable_in file.now s) q))
         × SameOutside trip_cells pair_cells work.old work.new }
 {
     fill(work, TRIP_CELLS, MOST_TRIPS, 0);
     fill(work, STOP_CELLS, MOST_STOPS, NONE);
-    let here = STOP_CELLS + q.source;
-    let there = STOP_CELLS + q.target;
-    work[here] = cell(q.minute);
+    work[STOP_CELLS + q.source] = cell(q.minute);
     sail_until(file, s, tables, q.target, q.gate, first, work);
-    work[there]
+    let end = work[STOP_CELLS + q.target];
+    if end == NONE { None } else { Some(end) }
 }
 
 // Row by row, until one departs when the target is reached already.

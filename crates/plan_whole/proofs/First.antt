@@ -28,7 +28,8 @@ use Rattle.plan_rows.proofs.Cuts.{scan_part, part_chosen, part_first, part_rides
 use Rattle.plan_stacks.specs.Chosen.{at_stop, entry_of, EntryFits}
 use Rattle.plan_stacks.proofs.AtStop.{first_open_at_stop, first_open_at, first_open_none, at_stop_from, at_stop_member}
 use Rattle.plan_stacks.proofs.Entries.{stack_size_lem, entry_at_lem}
-use Rattle.plan_scan.specs.Scanned.{ScanHeld}
+use Rattle.plan_scan.specs.Scanned.{scan_in, ScanHeld}
+use Rattle.plan_extract.specs.Extracted.{PlanAhead}
 use Rattle.plan_whole.specs.Steps.{PlanningInput, plan_in}
 
 -- chosen rides are no more than the rows
@@ -202,3 +203,22 @@ module _
         subst
         (λ (g : Goal). ScanHeld work s.rows first end (scan_part (in_ticks g) t first end) → Idle (in_ticks g) t end → Told g)
         (sym e) told
+
+    -- the plan that the top's row begins, in the scan's cells
+    abbrev pub begins : {goal : Goal} → ScanHeld work s.rows first end (scan_in file s goal first end) → Top goal → {row : ℕ}
+        → row ≡ entry_row work (stack_start work q.source) (size - 1) → PlanAhead file s goal row end work
+    begins held top on_top =
+        record {
+          first = first;
+          ordered = ordered;
+          held = held;
+          begins =
+              record {
+                stop = q.source;
+                minute = ready_at q;
+                ride = top.ride;
+                stop_inside = laid.source;
+                is_first = top.first_here;
+                boards_at = sym (on_top ∙ top.row);
+              };
+        }

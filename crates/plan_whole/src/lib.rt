@@ -6,17 +6,16 @@ ghost use Rattle.file_layout.specs.Decode.{decode};
 ghost use Rattle.query.specs.Query.{most_gate, most_quarters};
 ghost use Rattle.plans.specs.Journeys.{bound_of, ready_at};
 ghost use Rattle.plans.specs.Plan.{planned, earliest as earliest_in};
-ghost use Rattle.plan_cells.specs.Cells.{pair_cells, used, cell_of};
-ghost use Rattle.plan_rows.specs.Reading.{rows_in, timetable_in, Cut, FileReadable};
+ghost use Rattle.plan_cells.specs.Cells.{pair_cells, used};
+ghost use Rattle.plan_earliest.specs.Arrival.{arrival};
+ghost use Rattle.plan_rows.specs.Reading.{rows_in, table_cells, Cut, FileReadable};
 ghost use Rattle.plan_rows.specs.Sections.{places_of};
 ghost use Rattle.plan_scan.specs.Scanned.{scan_in, ScanHeld};
 ghost use Rattle.plan_whole.specs.Answers.{Answers};
 ghost use Rattle.plan_whole.specs.Steps.{CallFits, PlanningInput, Reaches, RowsWithin, RowsInReach, plan_in, KeptBehind};
-ghost use Rattle.plan_whole.specs.declared.Planned.TheVariants.{Refused as NoPlan};
 
 use file_layout::{Format, Trailer};
 use numbers::{cell, number};
-use plan_cells::NONE;
 use plan_earliest::earliest_arrival;
 use plan_extract::write_plan;
 use plan_rows::{SectionPlaces, ready, rows_before};
@@ -25,23 +24,24 @@ use plan_shares::read_tables;
 use plan_stacks::{stack_of, top};
 use plans::Goal;
 use query::Query;
+use timetable::Refusal;
 
 // The cells of the class tables: a block for each of 16 classes.
 const TABLE_CELLS: usize = 4096;
 
-// A plan's ride count, expected ticks, latest minute and bound (0 for none), or a refusal.
+// The refusal where there is no safe journey.
+pub const NO_JOURNEY: Refusal<u32> = Refusal {
+    number: 8,
+    place: 0,
+};
+
+// A plan's ride count, expected ticks, latest minute and bound, 0 for none.
 #[derive(Clone, Copy)]
-pub enum Planned {
-    Plan {
-        rides: u32,
-        expected: u32,
-        latest: u32,
-        bound: u32,
-    },
-    Refused {
-        number: u32,
-        place: u32,
-    },
+pub struct Plan {
+    pub rides: u32,
+    pub expected: u32,
+    pub latest: u32,
+    pub bound: u32,
 }
 
 // The plan or 8, with room for it.
@@ -52,21 +52,32 @@ pub fn plan_in_room(
     q: Query,
     work: &mut [u32],
     plan: &mut [u32],
-) -> Planned
+) -> Result<Plan, Refusal<u32>>
     requires { CallFits f file.now trailer q × (used trailer.rows ≤ length work.old) × (3 * trailer.rows ≤ length plan.old) }
     ensures { Answers (planned (decode f file.now) q) result plan.old plan.new
         × KeptBehind (used trailer.rows) work.old work.new }
 {
     let mut tables = [0u32; TABLE_CELLS];
-    let s = places_in(f, trailer);
-    read_tables(file, s, &mut tables);
-    let first = rows_missed(file, s, q);
-    let end = earliest_arrival(file, s, &tables, q, first, work);
-    if end == NONE {
-        return no_plan(8);
-    }
+    let (s, first) = lay_out(file, f, trailer, q, &mut tables);
+    let end = earliest_arrival(file, s, &tables, q, first, work).ok_or(NO_JOURNEY)?;
     let bound = bound_of(q, number(end));
     plan_within(file, s, &tables, q, bound, first, work, plan)
+}
+
+// The tables as lent cells; where the sections stand, and how many rows are missed.
+fn lay_out(
+    file: &[u8],
+    f: Format,
+    trailer: Trailer,
+    q: Query,
+    tables: &mut [u32],
+) -> (SectionPlaces, usize)
+    requires { CallFits f file.now trailer q × (length tables.old ≡ table_cells) }
+    ensures { (result.0 ≡ places_of f trailer) × PlanningInput file.now result.0 tables.new q result.1 }
+{
+    let s = places_in(f, trailer);
+    read_tables(file, s, tables);
+    (s, rows_missed(file, s, q))
 }
 
 // Where a file's sections stand.
@@ -111,7 +122,7 @@ fn plan_within(
     first: usize,
     work: &mut [u32],
     plan: &mut [u32],
-) -> Planned
+) -> Result<Plan, Refusal<u32>>
     requires { PlanningInput file.now s tables.now q first × Reaches (ready_at q) bound × (bound < 4294967296)
         × (used s.rows ≤ length work.old) × (3 * s.rows ≤ length plan.old) }
     ensures { Answers (plan_in file.now s q bound) result plan.old plan.new
@@ -150,7 +161,7 @@ fn plan_scanned(
     end: usize,
     work: &mut [u32],
     plan: &mut [u32],
-) -> Planned
+) -> Result<Plan, Refusal<u32>>
     requires { (first : ℕ) × PlanningInput file.now s tables.now q first × RowsInReach file.now s q goal first end
         × (used s.rows ≤ length work.old) × (3 * s.rows ≤ length plan.old)
         × ScanHeld work.old s.rows first end (scan_in file.now s goal first end) }
@@ -159,32 +170,30 @@ fn plan_scanned(
 {
     let stack = stack_of(work, q.source);
     if stack.size == 0 {
-        return no_plan(8);
+        return Err(NO_JOURNEY);
     }
     let ahead = top(work, stack);
     let written = write_plan(file, s, tables, goal, ahead.row, end, work, plan);
-    Planned::Plan {
+    Ok(Plan {
         rides: cell(written.rides),
         expected: ahead.worth,
         latest: written.latest,
         bound: cell(goal.bound),
-    }
+    })
 }
 
-fn no_plan(number: u32) -> Planned
-    ensures { result ≡ NoPlan number 0 }
-{
-    Planned::Refused { number, place: 0 }
-}
-
-// E or NONE, with room to find it.
-pub fn earliest_in_room(file: &[u8], f: Format, trailer: Trailer, q: Query, work: &mut [u32]) -> u32
+// E, with room to find it.
+pub fn earliest_in_room(
+    file: &[u8],
+    f: Format,
+    trailer: Trailer,
+    q: Query,
+    work: &mut [u32],
+) -> Option<u32>
     requires { CallFits f file.now trailer q × (used trailer.rows ≤ length work.old) }
-    ensures { (result ≡ cell_of (earliest_in (decode f file.now) q)) × KeptBehind pair_cells work.old work.new }
+    ensures { (result ≡ arrival (earliest_in (decode f file.now) q)) × KeptBehind pair_cells work.old work.new }
 {
     let mut tables = [0u32; TABLE_CELLS];
-    let s = places_in(f, trailer);
-    read_tables(file, s, &mut tables);
-    let first = rows_missed(file, s, q);
+    let (s, first) = lay_out(file, f, trailer, q, &mut tables);
     earliest_arrival(file, s, &tables, q, first, work)
 }

@@ -1,5 +1,4 @@
 -- `plan_earliest::sail_until` meets its contract: the rows below `i` are swept. Assumes nothing.
-use Prim.Native.Nat.{◌-◌}
 use mathlib.Core.Path.{sym, subst, ◌∙◌}
 use native.Mathlib.Omega.{arith}
 use Rattle.plan_cells.specs.Cells.{trip_cells, pair_cells}

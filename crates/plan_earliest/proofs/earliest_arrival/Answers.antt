@@ -1,0 +1,25 @@
+-- `plan_earliest::earliest_arrival` meets its contract: blank cells, then the sweep. Assumes nothing.
+use Rattle.plan_cells.proofs.Outside.{outside_then}
+use Rattle.plan_earliest.proofs.Start.{blanked, start_behind, set_out}
+use Rattle.plan_earliest.proofs.Answer.{answers_none, answers_some}
+use Rattle.plan_earliest.proofs.earliest_arrival.Goals as goal
+
+pub returns-then-end : goal.returns-then-end
+returns-then-end c =
+    let a = c.args in
+    let r = c.requires in
+    let blank = blanked r.7 c.fill.ensures c.fill-2.ensures in (
+      answers_none a.file.now a.s r.0 a.q a.first r.4 r.5 r.6 (set_out blank a.q.source r.2 c.cell.ensures)
+          (c.sail_until.ensures.1 a.q.source a.q.minute) c.if-end.true,
+      outside_then (start_behind blank a.q.source r.2 c.cell.ensures) c.sail_until.ensures.0,
+    )
+
+pub returns-else-end : goal.returns-else-end
+returns-else-end c =
+    let a = c.args in
+    let r = c.requires in
+    let blank = blanked r.7 c.fill.ensures c.fill-2.ensures in (
+      answers_some a.file.now a.s r.0 a.q a.first r.4 r.5 r.6 (set_out blank a.q.source r.2 c.cell.ensures)
+          (c.sail_until.ensures.1 a.q.source a.q.minute) c.if-end.false,
+      outside_then (start_behind blank a.q.source r.2 c.cell.ensures) c.sail_until.ensures.0,
+    )
