@@ -1,11 +1,12 @@
 -- Laws on lists that the library lacks. Assumes nothing.
-use Prim.Native.Nat.{ℕ, suc, ◌+◌}
-use mathlib.Core.List.{List, [], ◌∷◌, ◌++◌}
+use Prim.Native.Nat.{ℕ, suc, ◌+◌, ◌≤◌}
+use mathlib.Core.List.{List, [], ◌∷◌, ◌++◌, append_assoc}
 use mathlib.Core.Path.{◌≡◌, sym, ap, ◌∙◌}
 use native.Mathlib.Nat.{add-zero}
 use native.Mathlib.Omega.{arith}
-use lib.ListN.{length, drop, set}
-use lib.Seq.{drop-drop, drop-append_seam, sets}
+use lib.ListN.{length, take, drop, set}
+use lib.Seq.{drop-drop, drop-append_seam, sets, sets-eq}
+use borrow.Rule.Slice.PartMut.{put_mid}
 
 -- `front` stands at `at`, and `rest` behind it
 pub drop_past {ℓ} : {A : Type ℓ} (s : List A) (at : ℕ) (front rest : List A)
@@ -29,3 +30,13 @@ sets_on l at front more long size stored store =
     ∙ ap (λ o. sets o (at + long) more) stored
     ∙ ap (λ k. sets (sets l at front) (at + k) more) (sym size)
     ∙ sets_behind l at front more
+
+-- what `copy_from_slice` leaves of a part's slice is a run of stores
+pub copied_over : (at long : ℕ) (l part more : List ℕ) → part ≡ more → long ≡ length more → at + length more ≤ length l
+    → put_mid at long l part ≡ sets l at more
+copied_over at long l part more same size inside =
+    ap (λ x. take at l ++ (x ++ drop long (drop at l))) same
+    ∙ ap (λ n. take at l ++ (more ++ drop n (drop at l))) size
+    ∙ ap (λ t. take at l ++ (more ++ t)) (drop-drop (length more) at l)
+    ∙ sym (append_assoc (take at l) more (drop (at + length more) l))
+    ∙ sym (sets-eq more l at inside)

@@ -1,5 +1,5 @@
 -- One number more behind those that are put already. Assumes nothing.
-use Prim.Native.Nat.{ℕ, suc, ◌+◌, ◌*◌, ◌≤◌, ◌<◌}
+use Prim.Native.Nat.{ℕ, suc, ◌+◌, ◌*◌, ◌/◌, ◌%◌, ◌≤◌, ◌<◌}
 use mathlib.Core.List.{List, [], ◌∷◌, ◌++◌, append_assoc, append-nil}
 use mathlib.Core.Path.{◌≡◌, refl, sym, ap, ◌∙◌}
 use native.Mathlib.Omega.{arith}
@@ -12,6 +12,16 @@ use Rattle.numbers.specs.Over.{over}
 pub length_u32 : (x : ℕ) → length (u32_bytes x) ≡ 4
 unfolding u16_bytes u32_bytes
 length_u32 x = refl
+
+-- a number's low four bytes, one by one
+pub four_bytes : (x : ℕ) → x % 4294967296 % 256 ∷ x % 4294967296 / 256 % 256 ∷ x % 4294967296 / 65536 % 256 ∷ x % 4294967296 / 16777216 % 256 ∷ [] ≡ u32_bytes x
+unfolding u16_bytes u32_bytes
+four_bytes x =
+    let first : x % 4294967296 % 256 ≡ x % 65536 % 256 = omega arith in
+    let second : x % 4294967296 / 256 % 256 ≡ x % 65536 / 256 % 256 = omega arith in
+    let third : x % 4294967296 / 65536 % 256 ≡ x / 65536 % 256 = omega arith in
+    let fourth : x % 4294967296 / 16777216 % 256 ≡ x / 65536 / 256 % 256 = omega arith in
+    cc
 
 pub length_bytes : (numbers : List ℕ) → length (bytes_of numbers) ≡ 4 * length numbers
 unfolding bytes_of
@@ -55,8 +65,3 @@ put_on numbers out out' i l h e =
     ∙ put_behind front (u32_bytes x) out (omega (arith, length_u32 x, long))
     ∙ ap (λ b. over b out)
     (sym (bytes_append (take i numbers) x) ∙ ap bytes_of (sym (take-suc numbers i 0 l)) ∙ ap (λ k. bytes_of (take k numbers)) next)
-
-pub length_put : (numbers out : List ℕ) (i : ℕ) → i ≤ length numbers → 4 * i ≤ length out
-    → length (over (bytes_of (take i numbers)) out) ≡ length out
-length_put numbers out i l h =
-    simp (length-append, length-drop) (omega (arith, length_front_bytes numbers i l))

@@ -1,12 +1,11 @@
 -- Texts written one behind the other are their one text. Assumes nothing.
-use Prim.Native.Nat.{ℕ, suc, ◌+◌, ◌≤◌, ◌<◌}
+use Prim.Native.Nat.{ℕ, suc, ◌+◌}
 use mathlib.Core.List.{List, [], ◌∷◌, ◌++◌}
 use mathlib.Core.Path.{◌≡◌, refl, sym, ap, ◌∙◌}
 use native.Mathlib.Nat.{add-zero}
-use native.Mathlib.Numerals.{add-one}
 use native.Mathlib.Omega.{arith}
-use lib.ListN.{length, drop, get_or, set, length-append}
-use lib.Seq.{sets, drop-cons, drop-length, length-sets}
+use lib.ListN.{length, set, length-append}
+use lib.Seq.{sets, length-sets}
 use Rattle.text.specs.Put.{Put}
 
 sets_append : (a b out : List ℕ) (at : ℕ) → sets out at (a ++ b) ≡ sets (sets out at a) (at + length a) b
@@ -61,17 +60,3 @@ left_on {between = between} {next} a b l {after} {last} p =
 pub left_none : {out : List ℕ} {at : ℕ} {whole between : List ℕ} {next : ℕ} → Left out at whole between next []
     → Put out at whole between next
 left_none {next = next} l = record { says = l.says; ends = sym (add-zero next) ∙ l.ends }
-
--- the loop over a text: the character at i is written
-pub text_on : {out : List ℕ} {at : ℕ} {whole between : List ℕ} {next : ℕ} (text : List ℕ) (i : ℕ) → i < length text
-    → Left out at whole between next (drop i text)
-    → Left out at whole (set between next (get_or text i 0)) (next + 1) (drop (i + 1) text)
-text_on {between = between} {next} text i inside l =
-    rw (add-one i)
-    (left_on (get_or text i 0 ∷ []) (drop (suc i) text) (rw (drop-cons text i 0) at l) (put_one between next (get_or text i 0)))
-
-pub text_end : {out : List ℕ} {at : ℕ} {whole between : List ℕ} {next : ℕ} (text : List ℕ) (i : ℕ)
-    → length text ≤ i → i ≤ length text → Left out at whole between next (drop i text) → Put out at whole between next
-text_end {out} {at} {whole} {between} {next} text i past inside l =
-    let last : i ≡ length text = omega arith in
-    left_none (rw (last, drop-length text) at l)

@@ -1,16 +1,9 @@
 // Decimal numbers and other texts, put into lent bytes one behind the other.
 #![tactic(auto)]
 
-ghost use Rattle.std.specs.Prelude.{[], ◌∷◌, ◌≡◌, ◌+◌, ◌-◌, ◌≤◌, ◌<◌, length, drop};
+ghost use Rattle.std.specs.Prelude.{[], ◌∷◌, ◌≡◌, ◌+◌, ◌-◌, ◌^◌, ◌≤◌, ◌<◌, length, drop};
 ghost use Rattle.text.specs.Decimal.{digit_of, number_text};
-ghost use Rattle.text.specs.Put.{Digits, Put, number_width};
-
-// The digits of a number: they stand from `start` to the end of the bytes.
-#[derive(Drop)]
-struct NumberText {
-    bytes: [u8; 20],
-    start: usize,
-}
+ghost use Rattle.text.specs.Put.{Ahead, Put, number_width};
 
 // The character of a digit.
 pub fn digit(number: u32) -> u8
@@ -20,20 +13,19 @@ pub fn digit(number: u32) -> u8
     (48 + number) as u8
 }
 
-// A number in decimal, no zero ahead of it.
-fn number_text(n: usize) -> NumberText
-    ensures { Digits n result }
+// The digits of a number, none for 0, written ahead of `at` from the last to the first; where they start.
+pub fn put_ahead(out: &mut [u8], at: usize, number: usize) -> usize
+    requires { (number < 10 ^ at) × (at ≤ length out.old) }
+    ensures { Ahead out.old at number out.new result }
 {
-    let mut bytes = [b'0'; 20];
-    let mut at: usize = 19;
-    bytes[at] = digit((n % 10) as u32);
-    let mut left = n / 10;
+    let mut start = at;
+    let mut left = number;
     while left > 0 {
-        at -= 1;
-        bytes[at] = digit((left % 10) as u32);
+        start -= 1;
+        out[start] = digit((left % 10) as u32);
         left /= 10;
     }
-    NumberText { bytes, start: at }
+    start
 }
 
 // One character at `at`; where the next one goes.
@@ -52,13 +44,9 @@ pub fn put_text(out: &mut [u8], at: usize, text: &[u8], from: usize) -> usize
         (drop from text.now)
         out.new result × (result ≡ at + (length text.now - from)) }
 {
-    let mut next = at;
-    let mut i = from;
-    while i < text.len() {
-        out[next] = text[i];
-        next += 1;
-        i += 1;
-    }
+    let part = &text[from..];
+    let next = at + part.len();
+    out[at..next].copy_from_slice(part);
     next
 }
 
@@ -67,8 +55,8 @@ pub fn put_number(out: &mut [u8], at: usize, n: usize) -> usize
     requires { at + number_width ≤ length out.old }
     ensures { Put out.old at (number_text n) out.new result × (result ≤ at + number_width) }
 {
-    let text = number_text(n);
-    let bytes = text.bytes;
-    let start = text.start;
-    put_text(out, at, &bytes, start)
+    let mut text = [b'0'; 20];
+    text[19] = digit((n % 10) as u32);
+    let start = put_ahead(&mut text, 19, n / 10);
+    put_text(out, at, &text, start)
 }

@@ -1,15 +1,14 @@
--- `numbers::put_u32` meets its contract: two numbers of two bytes, the lower first. Assumes nothing.
-use Prim.Native.Nat.{◌/◌, ◌%◌}
-use mathlib.Core.Path.{refl}
-use Rattle.laws.proofs.Lists.{sets_on}
-use Rattle.numbers.specs.Numbers.{u16_bytes, u32_bytes}
+-- `numbers::put_u32` meets its contract: four bytes, the lowest first. Assumes nothing.
+use Prim.Native.Nat.{◌+◌, ◌-◌}
+use native.Mathlib.Omega.{arith}
+use mathlib.Core.Path.{◌∙◌}
+use Rattle.laws.proofs.Lists.{copied_over}
+use Rattle.numbers.specs.Numbers.{u32_bytes}
+use Rattle.numbers.proofs.Put.{four_bytes, length_u32}
 use Rattle.numbers.proofs.put_u32.Goals as goal
 
 pub returns : goal.returns
-unfolding u16_bytes u32_bytes
 returns c =
-    let high = c in
-    let low = c in
-    let a = low.args in
-    sets_on a.out.now a.at (u16_bytes (a.number % 65536)) (u16_bytes (a.number / 65536)) 2 refl low.put_u16.ensures
-    high.put_u16-2.ensures
+    let a = c.args in
+    copied_over a.at (a.at + 4 - a.at) a.out.now c.copy_from_slice.new.self (u32_bytes a.number)
+    (c.copy_from_slice.ensures.after ∙ c.to_le_bytes.ensures ∙ four_bytes a.number) (omega (arith, length_u32 a.number)) (omega (arith, length_u32 a.number))
