@@ -62,26 +62,15 @@ pub fn read_sections(file: &[u8], f: Format) -> Result<Trailer, Refusal<usize>>
 pub fn length_in_range(f: Format, size: usize) -> bool
     ensures { result ≡ (leb f.fewestbytes size && leb size f.mostbytes) }
 {
-    if size < f.fewestbytes {
-        return false;
-    }
-    size <= f.mostbytes
+    f.fewestbytes <= size && size <= f.mostbytes
 }
 
 // Version, S, n and K are in their ranges.
+#[tactic(auto, unfolding(file_layout::specs::Check::trailer_rule))]
 fn in_ranges(f: Format, trailer: Trailer) -> bool
     ensures { result ≡ trailer_rule f trailer }
 {
-    if !version_rule(f, trailer) {
-        return false;
-    }
-    if !stops_rule(trailer) {
-        return false;
-    }
-    if !rows_rule(trailer) {
-        return false;
-    }
-    classes_rule(trailer)
+    version_rule(f, trailer) && stops_rule(trailer) && rows_rule(trailer) && classes_rule(trailer)
 }
 
 // The trailer is of the version.
@@ -95,10 +84,7 @@ pub fn version_rule(f: Format, trailer: Trailer) -> bool
 pub fn stops_rule(trailer: Trailer) -> bool
     ensures { result ≡ (leb fewest_stops trailer.stops && leb trailer.stops most_stops) }
 {
-    if trailer.stops < FEWEST_STOPS {
-        return false;
-    }
-    trailer.stops <= MOST_STOPS
+    FEWEST_STOPS <= trailer.stops && trailer.stops <= MOST_STOPS
 }
 
 // n is 0 to 2,000.
@@ -112,10 +98,7 @@ pub fn rows_rule(trailer: Trailer) -> bool
 fn classes_rule(trailer: Trailer) -> bool
     ensures { result ≡ (leb fewest_classes trailer.classes && leb trailer.classes most_classes) }
 {
-    if trailer.classes < FEWEST_CLASSES {
-        return false;
-    }
-    trailer.classes <= MOST_CLASSES
+    FEWEST_CLASSES <= trailer.classes && trailer.classes <= MOST_CLASSES
 }
 
 // Class by class: `count` blocks from `start` on, none of which may run past `end`, and where the last one ends.
@@ -148,25 +131,23 @@ fn class_block(
     requires { end ≤ length file.now }
     ensures { result ≡ block_read f file.now end class at }
 {
+    let broken = Refusal {
+        number: 3,
+        place: class,
+    };
     let room = end.saturating_sub(at);
     if room < 2 {
         return Err(UNJOINED);
     }
     let delay = u16_at(file, at);
     if !delay_rule(f, delay) {
-        return Err(Refusal {
-            number: 3,
-            place: class,
-        });
+        return Err(broken);
     }
     if room < 4 + 2 * delay {
         return Err(UNJOINED);
     }
     if !shares_keep(file, at, delay) {
-        return Err(Refusal {
-            number: 3,
-            place: class,
-        });
+        return Err(broken);
     }
     Ok(at + 4 + 2 * delay)
 }
@@ -179,33 +160,29 @@ pub fn delay_rule(f: Format, delay: usize) -> bool
 }
 
 // The shares of the block at `at`, whose maximum delay is `delay`: their sum and the last.
+#[tactic(auto, unfolding(timetable::specs::Classes::shares_rule), using(crate::proofs::Shares::table_sum, crate::proofs::Shares::table_last))]
 fn shares_keep(file: &[u8], at: usize, delay: usize) -> bool
     requires { (at + 4 + 2 * delay ≤ length file.now) × (delay < 65536) × (delay ≡ u16_at file.now at) }
     ensures { result ≡ shares_rule (table_at file.now at) }
 {
-    if shares_sum(file, at + 2, delay + 1) != SHARE_TOTAL {
-        return false;
-    }
-    1 <= u16_at(file, at + 2 + 2 * delay)
+    shares_sum(file, at + 2, delay + 1) == SHARE_TOTAL && 1 <= u16_at(file, at + 2 + 2 * delay)
 }
 
 // The sum of the `count` shares from `first` on.
+#[tactic(auto, using(crate::proofs::Shares::sum_on, crate::proofs::Shares::sum_end))]
 pub fn shares_sum(file: &[u8], first: usize, count: usize) -> usize
     requires { (first + 2 * count ≤ length file.now) × (count ≤ 65536) }
     ensures { result ≡ sum (shares_from file.now first count) }
 {
     let mut total = 0;
-    let mut at = first;
-    let mut left = count;
-    while 0 < left {
-        total += u16_at(file, at);
-        at += 2;
-        left -= 1;
+    for i in 0..count {
+        total += u16_at(file, first + 2 * i);
     }
     total
 }
 
 // The sections of rows and of tables join in either order, the tables ending at `at`.
+#[tactic(auto, unfolding(file_layout::specs::Check::sections_join))]
 fn joined(f: Format, trailer: Trailer, at: usize, end: usize) -> bool
     requires { (f.width < 65536) × SmallTrailer trailer }
     ensures { result ≡ sections_join trailer.rowstart (trailer.rowstart + f.width * trailer.rows) trailer.tablestart at end }
@@ -218,10 +195,7 @@ fn joined(f: Format, trailer: Trailer, at: usize, end: usize) -> bool
         start: trailer.tablestart,
         end: at,
     };
-    if in_order(rows, tables, end) {
-        return true;
-    }
-    in_order(tables, rows, end)
+    in_order(rows, tables, end) || in_order(tables, rows, end)
 }
 
 // The byte where the rows end.
@@ -236,11 +210,5 @@ pub fn rows_end(f: Format, trailer: Trailer) -> usize
 fn in_order(first: Section, second: Section, end: usize) -> bool
     ensures { result ≡ (eqb first.start 0 && eqb second.start first.end && eqb second.end end) }
 {
-    if first.start != 0 {
-        return false;
-    }
-    if second.start != first.end {
-        return false;
-    }
-    second.end == end
+    first.start == 0 && second.start == first.end && second.end == end
 }
