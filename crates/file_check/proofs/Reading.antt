@@ -16,7 +16,6 @@ use Rattle.timetable.specs.Limits.{most_trips}
 use Rattle.timetable.proofs.RowsSound.{own_gives}
 use Rattle.file_layout.specs.Decode.{row_at, rows_from}
 use Rattle.file_check.specs.Behind.{rows_behind}
-use Rattle.file_check.proofs.Back.{one_more, nearest}
 use Rattle.file_check.proofs.Seen.{Seen, seen_none, seen_more}
 use Rattle.file_check.proofs.Turn.{departure_before, breaks_four, breaks_five, keeps_both, all_kept}
 
@@ -25,36 +24,29 @@ abbrev pub whole : Ranges → ℕ → List ℕ → ℕ → ℕ → Verdict
 whole g width s start count = rows_verdict g [] 0 (rows_from width s start count)
 
 -- ahead of row i: its byte, the departure before it, the trips seen, and the verdict as that on the rows from i on
-pub record Reading (g : Ranges) (width : ℕ) (s : List ℕ) (start count : ℕ) (seen : List ℕ) (departure at i : ℕ) : Type 0 where
+pub record Reading (g : Ranges) (width : ℕ) (s : List ℕ) (start count : ℕ) (seen : List ℕ) (departure i : ℕ) : Type 0 where
   pub inside : i ≤ count
-  pub place : at ≡ start + width * i
   pub before : departure ≡ departure_before (rows_behind width s start i)
   pub trips_seen : Seen width s start i seen
-  pub same_verdict : whole g width s start count ≡ rows_verdict g (rows_behind width s start i) i (rows_from width s at (count - i))
-
--- the bytes of a row lie within those of all rows
-pub row_inside : (width count i : ℕ) → i < count → width * i + width ≤ width * count
-row_inside width count i h =
-    let more : suc i ≤ count = omega arith in
-    omega (arith, one_more width i (suc i) refl, mul-le-mul_left width more)
+  pub same_verdict : whole g width s start count ≡ rows_verdict g (rows_behind width s start i) i (rows_from width s (start + width * i) (count - i))
 
 module _ (g : Ranges) (width : ℕ) (s : List ℕ) (start count : ℕ) where
-  pub reading_none : (seen : List ℕ) → seen ≡ replicate most_trips 0 → Reading g width s start count seen 0 start 0
+  pub reading_none : (seen : List ℕ) → seen ≡ replicate most_trips 0 → Reading g width s start count seen 0 0
   unfolding rows_behind departure_before
   reading_none seen e =
       record {
         inside = omega arith;
-        place = omega arith;
         before = refl;
         trips_seen = seen_none width s start seen e;
-        same_verdict = ap (λ n. rows_verdict g [] 0 (rows_from width s start n)) (let z : count ≡ count - 0 = omega arith in z);
+        same_verdict =
+            λ k. rows_verdict g [] 0 (rows_from width s ((let z : start ≡ start + width * 0 = omega arith in z) k) ((let z : count ≡ count - 0 = omega arith in z) k));
       }
 
-  module _ (seen : List ℕ) (departure at i : ℕ) (known : Reading g width s start count seen departure at i) where
+  module _ (seen : List ℕ) (departure i : ℕ) (known : Reading g width s start count seen departure i) where
     -- all rows are read
     pub reading_ends : count ≤ i → whole g width s start count ≡ fine
     reading_ends h =
-        known.same_verdict ∙ all_kept g width s (rows_behind width s start i) i at (count - i) (let z : count - i ≡ 0 = omega arith in z)
+        known.same_verdict ∙ all_kept g width s (rows_behind width s start i) i (start + width * i) (count - i) (let z : count - i ≡ 0 = omega arith in z)
 
     -- a hint lies within the rows
     pub hint_inside : (trip : ℕ) → trip < most_trips → start + width * get_or seen trip 0 ≤ start + width * count
@@ -63,7 +55,10 @@ module _ (g : Ranges) (width : ℕ) (s : List ℕ) (start count : ℕ) where
         let within : get_or seen trip 0 ≤ count = omega (arith, hint.within, known.inside) in
         omega (arith, mul-le-mul_left width within)
 
-    module _ (more : i < count) (row : Row) (read : row ≡ row_at s at) where
+    module _ (more : i < count) (row : Row) (read : row ≡ row_at s (start + width * i)) where
+      abbrev at : ℕ
+      at = start + width * i
+
       abbrev back : List Row
       back = rows_behind width s start i
 
@@ -96,38 +91,35 @@ module _ (g : Ranges) (width : ℕ) (s : List ℕ) (start count : ℕ) where
           ∙ breaks_five g width s back i at (count - suc i) (count - i) one (own_asked true own)
           (sym (order_asked (own_gives g row own).trip) ∙ broken)
 
-      behind_next : rows_behind width s start (suc i) ≡ row_at s at ∷ back
-      behind_next = nearest width s start i (suc i) at refl known.place
-
       departure_next : (row_at s at).departure ≡ departure_before (rows_behind width s start (suc i))
-      unfolding departure_before
-      departure_next = sym (ap departure_before behind_next)
+      unfolding departure_before rows_behind
+      departure_next = refl
 
       verdict_next : own_rule g row ≡ true → order ≡ true
           → whole g width s start count
-          ≡ rows_verdict g (rows_behind width s start (suc i)) (suc i) (rows_from width s (at + width) (count - suc i))
+          ≡ rows_verdict g (rows_behind width s start (suc i)) (suc i) (rows_from width s (start + width * suc i) (count - suc i))
+      unfolding rows_behind
       verdict_next own kept =
           known.same_verdict
           ∙ keeps_both g width s back i at (count - suc i) (count - i) one (own_asked true own)
           (sym (order_asked (own_gives g row own).trip) ∙ kept)
-          ∙ ap (λ rows. rows_verdict g rows (suc i) (rows_from width s (at + width) (count - suc i))) (sym behind_next)
+          ∙ ap (λ n. rows_verdict g (row_at s at ∷ back) (suc i) (rows_from width s n (count - suc i))) (let z : at + width ≡ start + width * suc i = omega arith in z)
 
       reads_next : own_rule g row ≡ true → order ≡ true
-          → Reading g width s start count (set seen (row_at s at).trip (suc i)) (row_at s at).departure (at + width) (suc i)
+          → Reading g width s start count (set seen (row_at s at).trip (suc i)) (row_at s at).departure (suc i)
       reads_next own kept =
           record {
             inside = omega arith;
-            place = omega (arith, known.place, one_more width i (suc i) refl);
             before = departure_next;
             trips_seen =
-                seen_more width s start i (suc i) at seen refl known.place known.trips_seen
+                seen_more width s start i seen known.trips_seen
                 (own_gives g (row_at s at) (own_asked true own)).trip;
             same_verdict = verdict_next own kept;
           }
 
       pub reads_on : own_rule g row ≡ true → order ≡ true
-          → Reading g width s start count (set seen row.trip (i + 1)) row.departure (at + width) (i + 1)
+          → Reading g width s start count (set seen row.trip (i + 1)) row.departure (i + 1)
       reads_on own kept =
-          subst⁻¹ (λ n. Reading g width s start count (set seen row.trip n) row.departure (at + width) n) (add-one i)
-          (subst⁻¹ (λ r. Reading g width s start count (set seen r.trip (suc i)) r.departure (at + width) (suc i)) read
+          subst⁻¹ (λ n. Reading g width s start count (set seen row.trip n) row.departure n) (add-one i)
+          (subst⁻¹ (λ r. Reading g width s start count (set seen r.trip (suc i)) r.departure (suc i)) read
           (reads_next own kept))

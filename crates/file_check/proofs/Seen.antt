@@ -38,28 +38,30 @@ module _ (width : ℕ) (s : List ℕ) (start : ℕ) where
       })
 
   -- the row behind the first `count` becomes its trip's hint, and no other trip's
-  module _ (count next at : ℕ) (seen : List ℕ) (one : suc count ≡ next) (place : at ≡ start + width * count)
-      (known : Seen width s start count seen) (inside : (row_at s at).trip < most_trips) where
-    kept_hint : (trip : ℕ) → trip < most_trips → ((row_at s at).trip ≡ trip → ⊥) → Hint width s start next trip (get_or seen trip 0)
+  module _ (count : ℕ) (seen : List ℕ) (known : Seen width s start count seen)
+      (inside : (row_at s (start + width * count)).trip < most_trips) where
+    abbrev row_trip : ℕ
+    row_trip = (row_at s (start + width * count)).trip
+
+    kept_hint : (trip : ℕ) → trip < most_trips → (row_trip ≡ trip → ⊥) → Hint width s start (suc count) trip (get_or seen trip 0)
     kept_hint trip h other =
         let hint = known.hints trip h in
         record {
           within = omega arith;
-          same_found = hint.same_found ∙ sym (last_behind width s start count next at one place trip other);
+          same_found = hint.same_found ∙ sym (last_behind width s start trip count other);
         }
 
-    next_hint : (trip : ℕ) → trip < most_trips → Hint width s start next trip (get_or (set seen (row_at s at).trip next) trip 0)
+    next_hint : (trip : ℕ) → trip < most_trips → Hint width s start (suc count) trip (get_or (set seen row_trip (suc count)) trip 0)
     next_hint trip h =
-        let row_trip : ℕ = (row_at s at).trip in
-        ifb (λ b. Hint width s start next trip (get_or (set seen row_trip next) trip 0)) (eqb trip row_trip)
+        ifb (λ b. Hint width s start (suc count) trip (get_or (set seen row_trip (suc count)) trip 0)) (eqb trip row_trip)
         (λ yes.
-        subst⁻¹ (Hint width s start next trip)
-        (ap (λ t. get_or (set seen row_trip next) t 0) (eqb-true trip row_trip yes)
-        ∙ get_or-set_same seen row_trip next 0 (omega (arith, known.full)))
-        (own_hint next trip))
+        subst⁻¹ (Hint width s start (suc count) trip)
+        (ap (λ t. get_or (set seen row_trip (suc count)) t 0) (eqb-true trip row_trip yes)
+        ∙ get_or-set_same seen row_trip (suc count) 0 (omega (arith, known.full)))
+        (own_hint (suc count) trip))
         (λ no.
-        subst⁻¹ (Hint width s start next trip) (get_or-set_other seen row_trip trip next 0 (eqb-false trip row_trip no))
+        subst⁻¹ (Hint width s start (suc count) trip) (get_or-set_other seen row_trip trip (suc count) 0 (eqb-false trip row_trip no))
         (kept_hint trip h (λ e. eqb-false trip row_trip no (sym e))))
 
-    pub seen_more : Seen width s start next (set seen (row_at s at).trip next)
-    seen_more = record { full = length-set seen (row_at s at).trip next ∙ known.full; hints = next_hint }
+    pub seen_more : Seen width s start (suc count) (set seen row_trip (suc count))
+    seen_more = record { full = length-set seen row_trip (suc count) ∙ known.full; hints = next_hint }

@@ -50,13 +50,10 @@ fn check_rows(
     ensures { result ≡ answered trailer (rows_verdict ranges [] 0 (rows_from width file.now trailer.rowstart trailer.rows)) }
 {
     let start = trailer.rowstart;
-    let count = trailer.rows;
     let mut seen = [0u16; MOST_TRIPS];
     let mut departure = 0;
-    let mut at = start;
-    let mut i = 0;
-    while i < count {
-        let row = file_layout::row_at(file, at);
+    for i in 0..trailer.rows {
+        let row = file_layout::row_at(file, start + width * i);
         if !timetable::own_rule(row, ranges) {
             return Err(Refusal {
                 number: 4,
@@ -71,9 +68,7 @@ fn check_rows(
             });
         }
         departure = row.departure;
-        at += width;
-        i += 1;
-        seen[trip] = i as u16;
+        seen[trip] = (i + 1) as u16;
     }
     Ok(trailer)
 }
@@ -100,6 +95,7 @@ fn in_order(
 }
 
 // The nearest row of `trip` among the first `count`, found by looking back and stopping at the first.
+#[tactic(auto, using(crate::proofs::Back::found_on, crate::proofs::Back::found_end))]
 pub fn look_back(
     file: &[u8],
     start: usize,
@@ -110,14 +106,10 @@ pub fn look_back(
     requires { (12 ≤ width) × (start + width * count ≤ length file.now) }
     ensures { result ≡ found_behind trip width file.now start count }
 {
-    let mut left = count;
-    let mut at = start + width * count;
-    while 0 < left {
-        left -= 1;
-        at -= width;
-        let row = file_layout::row_at(file, at);
+    for place in (0..count).rev() {
+        let row = file_layout::row_at(file, start + width * place);
         if row.trip == trip {
-            return Some(Found { row, place: left });
+            return Some(Found { row, place });
         }
     }
     None

@@ -17,7 +17,7 @@ returns-then-not-own_rule c =
     let l = c.loop-i in
     sym
     (ap (answered a.trailer)
-    (breaks_own a.ranges a.width a.file.now a.trailer.rowstart a.trailer.rows l.seen l.departure l.at l.i l.invariant
+    (breaks_own a.ranges a.width a.file.now a.trailer.rowstart a.trailer.rows l.seen l.departure l.i l.invariant
     c.loop-i-test.true c.row_at-row.result c.row_at-row.ensures.0 (sym c.own_rule.ensures ∙ c.if-not-own_rule.true)))
 
 pub bounds-seen-trip : goal.bounds-seen-trip
@@ -30,7 +30,7 @@ returns-then-not-in_order c =
     let l = c.loop-i in
     sym
     (ap (answered a.trailer)
-    (breaks_order a.ranges a.width a.file.now a.trailer.rowstart a.trailer.rows l.seen l.departure l.at l.i l.invariant
+    (breaks_order a.ranges a.width a.file.now a.trailer.rowstart a.trailer.rows l.seen l.departure l.i l.invariant
     c.loop-i-test.true c.row_at-row.result c.row_at-row.ensures.0 (sym c.own_rule.ensures ∙ c.if-not-own_rule.false)
     (sym c.in_order.ensures ∙ c.if-not-in_order.true)))
 
@@ -41,7 +41,7 @@ pub loop-i-preserved : goal.loop-i-preserved
 loop-i-preserved c =
     let a = c.args in
     let l = c.loop-i in
-    reads_on a.ranges a.width a.file.now a.trailer.rowstart a.trailer.rows l.seen l.departure l.at l.i l.invariant
+    reads_on a.ranges a.width a.file.now a.trailer.rowstart a.trailer.rows l.seen l.departure l.i l.invariant
     c.loop-i-test.true c.row_at-row.result c.row_at-row.ensures.0 (sym c.own_rule.ensures ∙ c.if-not-own_rule.false)
     (sym c.in_order.ensures ∙ c.if-not-in_order.false)
 
@@ -52,5 +52,5 @@ returns c =
     let l = c.loop-i in
     sym
     (ap (answered a.trailer)
-    (reading_ends a.ranges a.width a.file.now a.trailer.rowstart a.trailer.rows l.seen l.departure l.at l.i l.invariant
+    (reading_ends a.ranges a.width a.file.now a.trailer.rowstart a.trailer.rows l.seen l.departure l.i l.invariant
     c.loop-i-test.false))
