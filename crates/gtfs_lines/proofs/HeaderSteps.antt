@@ -1,5 +1,5 @@
 -- The header, read one field at a time. Assumes nothing.
-use Prim.Native.Nat.{ℕ, suc, ◌-◌, ◌<◌}
+use Prim.Native.Nat.{ℕ, suc, ◌-◌}
 use mathlib.Core.Bool.{Bool, true, cond}
 use mathlib.Core.List.{List, []}
 use mathlib.Core.Path.{◌≡◌, refl, ap, ◌∙◌}
@@ -13,7 +13,7 @@ use Rattle.gtfs_lines.specs.Columns.{columns_of}
 use Rattle.gtfs_lines.specs.Lines.{fields_of, has_quote}
 use Rattle.gtfs_lines.specs.Cut.{named, first_line, behind_line, header_of}
 use Rattle.gtfs_lines.specs.Naming.{with_name}
-use Rattle.gtfs_lines.proofs.Naming.{named_in, named_all, named_none, named_next}
+use Rattle.gtfs_lines.proofs.Naming.{no_columns, named_in, named_all, named_none, named_next}
 use Rattle.gtfs_lines.proofs.FieldEnds.{LastField, NextField, QuotedField}
 
 -- what is told of a header, by its quote marks, its columns and the text behind it
@@ -39,27 +39,27 @@ header_from text column columns from =
     told text (has_quote line) (named_in column columns (fields_of line)) (behind_line (drop from text))
 
 module _ (text : List ℕ) where
-  pub header_starts : header_of text ≡ header_from text 1 (record { trip = 0; arrival = 0; departure = 0; stop = 0; sequence = 0 }) 0
+  pub header_starts : header_of text ≡ header_from text 1 no_columns 0
   unfolding header_from
   header_starts = header_told text ∙ told_as text refl (named_all (first_line text)) refl
 
   module _ (column : ℕ) (columns : Columns) (from : ℕ) where
-    pub header_last : 0 < column → {to next : ℕ} → LastField text from to next
+    pub header_last : {to next : ℕ} → LastField text from to next
         → header_from text column columns from ≡ named (with_name (slice from to text) column columns) next
     unfolding header_from told
-    header_last some {to} {next} last =
+    header_last {to} {next} last =
         let here = with_name (slice from to text) column columns in
         let place : length text - length (drop next text) ≡ next = omega (arith, length-drop next text, last.inside) in
-        let all = named_next column columns (slice from to text) [] some ∙ named_none (suc column) here in
+        let all = named_next column columns (slice from to text) [] ∙ named_none (suc column) here in
         told_as text last.unquoted (ap (named_in column columns) last.fields ∙ all) last.behind ∙ ap (named here) place
 
-    pub header_next : 0 < column → {at : ℕ} → NextField text from at
+    pub header_next : {at : ℕ} → NextField text from at
         → header_from text column columns from ≡ header_from text (suc column) (with_name (slice from at text) column columns) (suc at)
     unfolding header_from
-    header_next some {at} next =
+    header_next {at} next =
         let further = fields_of (first_line (drop (suc at) text)) in
         told_as text next.quotes
-        (ap (named_in column columns) next.fields ∙ named_next column columns (slice from at text) further some) next.behind
+        (ap (named_in column columns) next.fields ∙ named_next column columns (slice from at text) further) next.behind
 
     pub header_quoted : QuotedField text from → header_from text column columns from ≡ None
     unfolding header_from

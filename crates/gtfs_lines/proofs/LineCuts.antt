@@ -10,12 +10,12 @@ use lib.Seq.{slice}
 use Rattle.gtfs_lines.specs.declared.Span.{Span}
 use Rattle.gtfs_lines.specs.declared.Columns.{Columns}
 use Rattle.gtfs_lines.specs.declared.Fields.{Fields}
-use Rattle.std.specs.Prelude.{Some, None}
+use Rattle.std.specs.Prelude.{Option, Some, None}
 use Rattle.gtfs_lines.specs.declared.Cut.{Cut}
 use Rattle.gtfs_lines.specs.Lines.{fields_of, has_quote}
 use Rattle.gtfs_lines.specs.Cut.{cut, first_line, behind_line, no_span, no_fields, kept, with_field, cut_from, cut_at, FieldCut, LineCut}
 use Rattle.gtfs_lines.proofs.FieldWalk.{Walk, last, more, quoted, walk}
-use Rattle.gtfs_lines.proofs.KeptFields.{Kept, kept_last, kept_more, field_cut}
+use Rattle.gtfs_lines.proofs.KeptFields.{KeptFor, last_for, more_for, field_cut}
 
 not_quoted : {P : Type 0} {fields : Fields} {next : ℕ} → cut fields next ≡ None → P
 not_quoted e = absurd (let z : ◌≡◌ {A = ℕ} 0 1 = cc in let y : ⊥ = omega arith in y)
@@ -66,27 +66,27 @@ module _ (text : List ℕ) (columns : Columns) where
     line_met (quoted q) column fields e = not_quoted (sym e ∙ q.cuts columns column fields)
 
     -- one of the five fields, by the part of `Fields` that it is
-    module _ (part : Fields → Span) (wanted : ℕ)
+    module _ (part : Fields → Span) (wanted : Option ℕ)
         (keeps : (column : ℕ) (span : Span) (fields : Fields)
         → part (with_field columns column span fields) ≡ kept wanted column (part fields) span) where
       field_met : {from : ℕ} → Walk text from → (column : ℕ) (fields : Fields)
           → cut_from text columns column from from fields (drop from text) ≡ cut out end
-          → Kept text (fields_of (first_line (drop from text))) wanted column (part fields) (part out)
+          → KeptFor text (fields_of (first_line (drop from text))) wanted column (part fields) (part out)
       field_met {from} (last to next l) column fields e =
           let span : Span = record { from = from; to = to } in
           let ends : part out ≡ kept wanted column (part fields) span =
           ap part (sym (cut_fields (sym (l.cuts columns column fields) ∙ e))) ∙ keeps column span fields
           in
-          subst⁻¹ (λ fs. Kept text fs wanted column (part fields) (part out)) l.fields
-          (subst⁻¹ (Kept text (slice from to text ∷ []) wanted column (part fields)) ends
-          (kept_last text wanted column (part fields) span l.rises (le_trans l.ahead l.inside)))
+          subst⁻¹ (λ fs. KeptFor text fs wanted column (part fields) (part out)) l.fields
+          (subst⁻¹ (KeptFor text (slice from to text ∷ []) wanted column (part fields)) ends
+          (last_for text wanted column (part fields) span l.rises (le_trans l.ahead l.inside)))
       field_met {from} (more at n further) column fields e =
           let span : Span = record { from = from; to = at } in
           let on = field_met further (suc column) (with_field columns column span fields) (sym (n.cuts columns column fields) ∙ e) in
           let line = fields_of (first_line (drop (suc at) text)) in
-          let behind = subst (λ old. Kept text line wanted (suc column) old (part out)) (keeps column span fields) on in
-          subst⁻¹ (λ fs. Kept text fs wanted column (part fields) (part out)) n.fields
-          (kept_more text wanted column (part fields) span n.rises (omega (arith, n.inside)) behind)
+          let behind = subst (λ old. KeptFor text line wanted (suc column) old (part out)) (keeps column span fields) on in
+          subst⁻¹ (λ fs. KeptFor text fs wanted column (part fields) (part out)) n.fields
+          (more_for text wanted column (part fields) span n.rises (omega (arith, n.inside)) line (part out) behind)
       field_met (quoted q) column fields e = not_quoted (sym e ∙ q.cuts columns column fields)
 
       pub field_of : (start : ℕ) → start ≤ length text → part no_fields ≡ no_span → cut_at text columns start ≡ cut out end
@@ -94,7 +94,7 @@ module _ (text : List ℕ) (columns : Columns) where
       unfolding cut_at
       field_of start starts none e =
           field_cut text (first_line (drop start text)) wanted (part out)
-          (subst (λ old. Kept text (fields_of (first_line (drop start text))) wanted 1 old (part out)) none
+          (subst (λ old. KeptFor text (fields_of (first_line (drop start text))) wanted 1 old (part out)) none
           (field_met (walk text start starts) 1 no_fields e))
 
 -- a line that was cut

@@ -2,6 +2,7 @@
 use mathlib.Core.List.{[], ◌∷◌, ◌++◌}
 use mathlib.Core.Path.{◌≡◌, refl}
 use mathlib.Core.Bool.{true, false}
+use Rattle.std.specs.Prelude.{Some, None}
 use Rattle.text.specs.Same.{same_bytes}
 use Rattle.gtfs_lines.specs.Lines.{line_feed, carriage_return, quote_mark, comma, on_first, parts, without_return, ended}
 use Rattle.gtfs_lines.specs.Lines.{lines_of, fields_of, field_of, has_quote}
@@ -55,16 +56,16 @@ pub one_field : fields_of [] ≡ [] ∷ []
 unfolding fields_of parts on_first
 one_field = refl
 
--- columns are counted from 1, and column 0 is none
-pub first_field : field_of (97 ∷ comma ∷ 98 ∷ []) 1 ≡ 97 ∷ []
+-- columns are counted from 1
+pub first_field : field_of (97 ∷ comma ∷ 98 ∷ []) (Some 1) ≡ 97 ∷ []
 unfolding field_of fields_of parts on_first
 first_field = refl
 
-pub no_column : field_of (97 ∷ comma ∷ 98 ∷ []) 0 ≡ []
+pub no_column : field_of (97 ∷ comma ∷ 98 ∷ []) None ≡ []
 unfolding field_of
 no_column = refl
 
-pub past_the_last : field_of (97 ∷ comma ∷ 98 ∷ []) 3 ≡ []
+pub past_the_last : field_of (97 ∷ comma ∷ 98 ∷ []) (Some 3) ≡ []
 unfolding field_of fields_of parts on_first
 past_the_last = refl
 
@@ -78,15 +79,15 @@ unfolding has_quote
 unquoted = refl
 
 -- a byte order mark ahead of a name makes another name
-pub named : column_of trip_name trip_name ≡ 1
+pub named : column_of trip_name trip_name ≡ Some 1
 unfolding column_of column_from fields_of parts on_first same_bytes
 named = refl
 
-pub marked_name : column_of trip_name (239 ∷ 187 ∷ 191 ∷ trip_name) ≡ 0
+pub marked_name : column_of trip_name (239 ∷ 187 ∷ 191 ∷ trip_name) ≡ None
 unfolding column_of column_from fields_of parts on_first same_bytes
 marked_name = refl
 
 -- of a column that stands twice the first counts
-pub twice : column_of stop_name (trip_name ++ comma ∷ (stop_name ++ comma ∷ stop_name)) ≡ 2
+pub twice : column_of stop_name (trip_name ++ comma ∷ (stop_name ++ comma ∷ stop_name)) ≡ Some 2
 unfolding column_of column_from fields_of parts on_first same_bytes
 twice = refl

@@ -1,17 +1,17 @@
 -- Document 02, E2: the five columns, "in any order", found by their names in the header.
-use Rattle.std.specs.Prelude.{ℕ, suc, cond, List, [], ◌∷◌}
+use Rattle.std.specs.Prelude.{ℕ, suc, cond, List, [], ◌∷◌, Option, Some, None}
 use Rattle.text.specs.Same.{same_bytes}
 use Rattle.gtfs_lines.specs.declared.Columns.{Columns}
 use Rattle.gtfs_lines.specs.Lines.{fields_of}
 
--- the first field that is the name, counted from `column` on; 0 where none is
-unfoldable pub column_from : (column : ℕ) → (name : List ℕ) → List (List ℕ) → ℕ
-column_from column name [] = 0
+-- the first field that is the name, counted from `column` on
+unfoldable pub column_from : (column : ℕ) → (name : List ℕ) → List (List ℕ) → Option ℕ
+column_from column name [] = None
 column_from column name (field ∷ fields) =
-    let further = column_from (suc column) name fields in cond (same_bytes field name) column further
+    let further = column_from (suc column) name fields in cond (same_bytes field name) (Some column) further
 
 -- Of a column that stands twice the first counts; the first column is 1
-unfoldable pub column_of : List ℕ → List ℕ → ℕ
+unfoldable pub column_of : List ℕ → List ℕ → Option ℕ
 column_of name header = column_from 1 name (fields_of header)
 
 -- trip_id

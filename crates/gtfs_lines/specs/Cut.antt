@@ -40,8 +40,12 @@ abbrev pub named : Columns → (next : ℕ) → Option Heading
 named columns next = Some (record { columns = columns; next = next })
 
 -- a field of a column that is wanted is kept
-abbrev pub kept : (wanted column : ℕ) → (old new : Span) → Span
-kept wanted column old new = cond (eqb wanted column) new old
+abbrev pub is_wanted : (wanted : Option ℕ) → (column : ℕ) → Bool
+is_wanted None column = false
+is_wanted (Some wanted) column = eqb wanted column
+
+abbrev pub kept : (wanted : Option ℕ) → (column : ℕ) → (old new : Span) → Span
+kept wanted column old new = cond (is_wanted wanted column) new old
 
 unfoldable pub with_field : Columns → (column : ℕ) → Span → Fields → Fields
 with_field columns column span fields =
@@ -77,7 +81,7 @@ header_of text =
     (named (columns_of (first_line text)) (length text - length (behind_line text)))
 
 -- a field of a line that was cut: its bytes lie within the text, and are those of its column
-pub record FieldCut (text line : List ℕ) (column : ℕ) (span : Span) : Type 0 where
+pub record FieldCut (text line : List ℕ) (column : Option ℕ) (span : Span) : Type 0 where
   pub rises : span.from ≤ span.to
   pub inside : span.to ≤ length text
   pub says : slice span.from span.to text ≡ field_of line column

@@ -1,5 +1,5 @@
 -- Document 02, E2: "Lines end in LF, CR LF or the file's end", and a line's fields.
-use Rattle.std.specs.Prelude.{ℕ, zero, suc, Bool, false, cond, ◌&&◌, ◌||◌, List, [], ◌∷◌, eqb, length, get_or}
+use Rattle.std.specs.Prelude.{ℕ, zero, suc, Bool, false, cond, ◌&&◌, ◌||◌, List, [], ◌∷◌, Option, Some, None, eqb, length, get_or}
 
 abbrev pub line_feed : ℕ
 line_feed = 10
@@ -42,10 +42,11 @@ lines_of text = ended (parts line_feed text)
 unfoldable pub fields_of : List ℕ → List (List ℕ)
 fields_of line = parts comma line
 
--- the field of a column, counted from 1: nothing where the line has no such field, or the column is 0, which is none
-unfoldable pub field_of : List ℕ → (column : ℕ) → List ℕ
-field_of line zero = []
-field_of line (suc column) = get_or (fields_of line) column []
+-- the field of a column, counted from 1: nothing where the line has no such field, or there is no such column
+unfoldable pub field_of : List ℕ → (column : Option ℕ) → List ℕ
+field_of line None = []
+field_of line (Some zero) = []
+field_of line (Some (suc column)) = get_or (fields_of line) column []
 
 unfoldable pub has_quote : List ℕ → Bool
 has_quote [] = false

@@ -23,14 +23,14 @@ pub struct Span {
     pub to: usize,
 }
 
-// The columns that are wanted, counted from 1; 0 where the header has none of that name.
+// The columns that are wanted, counted from 1, where the header has one of that name.
 #[derive(Clone, Copy)]
 pub struct Columns {
-    pub trip: usize,
-    pub arrival: usize,
-    pub departure: usize,
-    pub stop: usize,
-    pub sequence: usize,
+    pub trip: Option<usize>,
+    pub arrival: Option<usize>,
+    pub departure: Option<usize>,
+    pub stop: Option<usize>,
+    pub sequence: Option<usize>,
 }
 
 // The fields of these columns on a line.
@@ -68,11 +68,11 @@ const NO_FIELDS: Fields = Fields {
 };
 
 const NO_COLUMNS: Columns = Columns {
-    trip: 0,
-    arrival: 0,
-    departure: 0,
-    stop: 0,
-    sequence: 0,
+    trip: None,
+    arrival: None,
+    departure: None,
+    stop: None,
+    sequence: None,
 };
 
 // The line that starts at `start`, unless a quote mark stands in it.
@@ -200,10 +200,10 @@ fn with_field(columns: Columns, column: usize, from: usize, to: usize, fields: F
 }
 
 // The new field where its column is the wanted one.
-fn kept(wanted: usize, column: usize, old: Span, new: Span) -> Span
+fn kept(wanted: Option<usize>, column: usize, old: Span, new: Span) -> Span
     ensures { result ≡ kept_span wanted column old new }
 {
-    if wanted == column { new } else { old }
+    if wanted == Some(column) { new } else { old }
 }
 
 // The columns with this one, where it has a name that none before it had.
@@ -221,16 +221,23 @@ fn with_name(text: &[u8], from: usize, to: usize, column: usize, columns: Column
 }
 
 // Of a column that stands twice the first counts.
-fn found(text: &[u8], from: usize, to: usize, name: &[u8], column: usize, before: usize) -> usize
+#[tactic(auto, unfolding(crate::specs::Naming::found))]
+fn found(
+    text: &[u8],
+    from: usize,
+    to: usize,
+    name: &[u8],
+    column: usize,
+    before: Option<usize>,
+) -> Option<usize>
     requires { (from ≤ to) × (to ≤ length text.now) }
     ensures { result ≡ found_column (slice from to text.now) name.now column before }
 {
-    if before == 0 {
-        if same_text(text, from, to, name) {
-            return column;
-        }
+    if same_text(text, from, to, name) {
+        before.or(Some(column))
+    } else {
+        before
     }
-    before
 }
 
 // Whether a part of the text is the name.

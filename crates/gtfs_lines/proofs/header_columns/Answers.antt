@@ -26,7 +26,7 @@ named_on text column at e f = cc
 pub loop-at-init : goal.loop-at-init
 loop-at-init c =
     let text = c.args.text.now in
-    (header_starts text, subst⁻¹ (Marked text 0) c.mark_from-at.ensures (mark_at text 0 (omega arith)), omega arith, omega arith)
+    (header_starts text, subst⁻¹ (Marked text 0) c.mark_from-at.ensures (mark_at text 0 (omega arith)), omega arith)
 
 pub bounds-text-at : goal.bounds-text-at
 bounds-text-at c = omega arith
@@ -45,7 +45,7 @@ returns-then-byte-eq-LINE_FEED c =
     let l = c.loop-at in
     let text = c.args.text.now in
     let last = last_as (at_feed l.invariant.1 (omega arith) c.if-byte-eq-LINE_FEED.true) c.last_end-to.ensures (add-one l.at) in
-    named_told (l.invariant.0 ∙ header_last text l.column l.columns l.from l.invariant.2 last) c.with_name.ensures
+    named_told (l.invariant.0 ∙ header_last text l.column l.columns l.from last) c.with_name.ensures
 
 pub returns-then-byte-eq-QUOTE_MARK : goal.returns-then-byte-eq-QUOTE_MARK
 returns-then-byte-eq-QUOTE_MARK c =
@@ -65,10 +65,9 @@ loop-at-preserved c =
     let text = c.args.text.now in
     let next = at_comma l.invariant.1 (omega arith) c.if-byte-eq-LINE_FEED.false c.if-byte-eq-QUOTE_MARK.false in (
       rw (add-one l.column, add-one l.at)
-          (named_on text (suc l.column) (suc l.at) (l.invariant.0 ∙ header_next text l.column l.columns l.from l.invariant.2 next)
+          (named_on text (suc l.column) (suc l.at) (l.invariant.0 ∙ header_next text l.column l.columns l.from next)
           c.with_name-columns.ensures),
       subst⁻¹ (Marked text (l.at + 1)) c.mark_from-at-in-loop-at.ensures (mark_at text (l.at + 1) (omega arith)),
-      omega arith,
       omega arith,
     )
 
@@ -77,4 +76,4 @@ returns c =
     let l = c.loop-at in
     let text = c.args.text.now in
     let last = at_end l.invariant.1 (omega arith) in
-    named_told (l.invariant.0 ∙ header_last text l.column l.columns l.from l.invariant.2 last) c.with_name-2.ensures
+    named_told (l.invariant.0 ∙ header_last text l.column l.columns l.from last) c.with_name-2.ensures
