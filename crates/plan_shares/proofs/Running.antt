@@ -13,7 +13,7 @@ use Rattle.numbers.specs.Numbers.{u16_at}
 use Rattle.file_layout.proofs.Blocks.{shares_length, share_at}
 use Rattle.plans.specs.Worth.{weigh}
 use Rattle.plan_cells.proofs.Outside.{outside_same, outside_then, outside_wider, outside_set}
-use Rattle.plan_shares.specs.Summed.{Summed}
+use Rattle.plan_shares.specs.Summed.{SharesStand, Summed}
 
 pub sum_more : (xs : List ℕ) (k : ℕ) → k < length xs → sum (take (suc k) xs) ≡ sum (take k xs) + get_or xs k 0
 unfolding sum
@@ -81,10 +81,11 @@ so_far_none file at maximum into cells =
 
 -- one share more
 module _
-    (file : List ℕ)
-    (at maximum into : ℕ)
-    (cells cells' : List ℕ)
-    (minute total late share : ℕ)
+    {file : List ℕ}
+    {at maximum into : ℕ}
+    {cells cells' : List ℕ}
+    {minute total late share : ℕ}
+    (stand : SharesStand file at maximum)
     (so_far : SoFar file at maximum into cells cells' minute total late)
     (inside : minute ≤ maximum)
     (here : share ≡ u16_at file (at + 2 * minute))
@@ -95,15 +96,22 @@ module _
     next_share : get_or (shares_from file at (suc maximum)) minute 0 ≡ share
     next_share = share_at file at (suc maximum) minute (omega arith) ∙ sym here
 
-    pub total_next : total + share ≡ sum (take (suc minute) (shares_from file at (suc maximum)))
+    total_next : total + share ≡ sum (take (suc minute) (shares_from file at (suc maximum)))
     total_next =
         sym
         (sum_more (shares_from file at (suc maximum)) minute below
         ∙ ap (λ n. sum (take minute (shares_from file at (suc maximum))) + n) next_share
         ∙ ap (λ n. n + share) (sym so_far.total_sum))
 
-    pub total_whole : sum (shares_from file at (suc maximum)) ≤ share_total → total + share ≤ share_total
-    total_whole w = omega (arith, total_next, sum_part (shares_from file at (suc maximum)) (suc minute))
+    -- no sum so far is more than the whole, nor more than 254 wholes
+    pub total_small : total + share ≤ share_total
+    total_small = omega (arith, total_next, sum_part (shares_from file at (suc maximum)) (suc minute), stand.not_more)
+
+    late_more : late + share * minute ≤ 254 * (total + share)
+    late_more = omega (arith, mul-le-mul_left {m = minute} {n = 254} share (omega (arith, stand.few)), so_far.late_small)
+
+    pub late_whole : late + share * minute ≤ 254 * share_total
+    late_whole = omega (arith, late_more, total_small)
 
     late_next : late + share * minute ≡ weigh (take (suc minute) (shares_from file at (suc maximum))) 0 (λ v. v)
     late_next =
@@ -114,18 +122,15 @@ module _
         ∙ ap (λ n. weigh (take minute (shares_from file at (suc maximum))) 0 (λ v. v) + n * minute) next_share
         ∙ ap (λ n. n + share * minute) (sym so_far.late_sum))
 
-    pub product_small : maximum < 254 → share * minute ≤ 254 * share
-    product_small few = omega (arith, mul-le-mul_left {m = minute} {n = 254} share (omega arith))
-
-    pub so_far_more : maximum < 254 → into + maximum < length cells
+    pub so_far_more : into + maximum < length cells
         → SoFar file at maximum into cells (set cells' (into + minute) (total + share)) (minute + 1) (total + share) (late + share * minute)
-    so_far_more few room =
+    so_far_more room =
         let one : suc minute ≡ minute + 1 = omega arith in
         record {
           not_past = omega arith;
           total_sum = total_next ∙ ap (λ n. sum (take n (shares_from file at (suc maximum)))) one;
           late_sum = late_next ∙ ap (λ n. weigh (take n (shares_from file at (suc maximum))) 0 (λ v. v)) one;
-          late_small = omega (arith, product_small few, so_far.late_small);
+          late_small = late_more;
           summed =
               subst (Summed cells (set cells' (into + minute) (total + share)) into (shares_from file at (suc maximum))) one
               (summed_more cells cells' into (shares_from file at (suc maximum)) minute (total + share) (omega arith) total_next so_far.summed);

@@ -17,15 +17,14 @@ pub fn read_tables(file: &[u8], s: SectionPlaces, tables: &mut [u32])
     requires { BlocksStand file.now s × (length tables.old ≡ table_cells) }
     ensures { TablesHeld tables.new (tables_in file.now s) }
 {
-    let mut k = 0;
     let mut block = s.tablestart;
-    while k < s.classes {
+    for k in 0..s.classes {
         block = read_table(file, block, k, tables);
-        k += 1;
     }
 }
 
 // One class block at byte `at`, into the cells of class `k`; the byte where it ends.
+#[tactic(auto, unfolding(file_layout::specs::Decode::block_end))]
 fn read_table(file: &[u8], at: usize, k: usize, tables: &mut [u32]) -> usize
     requires { BlockStands file.now at × (k < most_classes) × (length tables.old ≡ table_cells) }
     ensures { (result ≡ block_end file.now at) × BlockHeld tables.new k (table_at file.now at)
@@ -35,7 +34,7 @@ fn read_table(file: &[u8], at: usize, k: usize, tables: &mut [u32]) -> usize
     let into = BLOCK * k;
     let late = read_shares(file, at + 2, maximum, into + SHARES, tables);
     tables[into + MAX_DELAY] = cell(maximum);
-    tables[into + EXPECTED] = cell((late + 15) / 16);
+    tables[into + EXPECTED] = cell(late.div_ceil(16));
     at + 4 + 2 * maximum
 }
 
@@ -46,15 +45,13 @@ fn read_shares(file: &[u8], at: usize, maximum: usize, into: usize, tables: &mut
     ensures { (result ≡ weigh (shares_from file.now at (suc maximum)) 0 (λ v. v))
         × Summed tables.old tables.new into (shares_from file.now at (suc maximum)) (suc maximum) }
 {
-    let mut minute = 0;
     let mut total = 0;
     let mut late = 0;
-    while minute <= maximum {
+    for minute in 0..maximum + 1 {
         let share = u16_at(file, at + 2 * minute);
         total += share;
         late += share * minute;
         tables[into + minute] = cell(total);
-        minute += 1;
     }
     late
 }
