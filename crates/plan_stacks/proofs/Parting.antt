@@ -4,7 +4,7 @@ use mathlib.Core.List.{List}
 use mathlib.Core.Path.{◌≡◌, refl, sym, subst, ◌∙◌}
 use native.Mathlib.Omega.{arith}
 use lib.Dec.{eqb}
-use lib.ListN.{length, set, length-set}
+use lib.ListN.{length, get_or, set, length-set}
 use lib.Seq.{get_or-set_same, get_or-set_other}
 use borrow.Author.Tests.{eqb-true, eqb-false}
 use Rattle.timetable.specs.Limits.{most_stops}
@@ -29,6 +29,12 @@ parting_begins from w =
       empty = λ k h. absurd (let z : ⊥ = omega arith in z);
       left = λ k low high. refl;
     }
+
+-- the next stop's size is as it was
+pub size_left : {from : ℕ} {w w' : List ℕ} (stop start : ℕ) → Parting from stop w w' → stop < most_stops
+    → get_or (set w' (stop_cells + stop) start) (size_cells + stop) 0 ≡ stack_size w stop
+size_left {w' = w'} stop start p inside =
+    get_or-set_other w' (stop_cells + stop) (size_cells + stop) start 0 (λ e. omega arith) ∙ p.left stop (omega arith) inside
 
 -- the next stop's start and size
 abbrev pub parted_next : (stop start : ℕ) → List ℕ → List ℕ

@@ -54,13 +54,11 @@ pub fn part_stacks(from: usize, work: &mut [u32])
     requires { (pair_cells ≤ length work.old) × (from + below (stack_size work.old) most_stops < 4294967296) }
     ensures { Parted from work.old work.new }
 {
-    let mut stop = 0;
     let mut start = cell(from);
-    while stop < MOST_STOPS {
+    for stop in 0..MOST_STOPS {
         work[STOP_CELLS + stop] = start;
         start += work[SIZE_CELLS + stop];
         work[SIZE_CELLS + stop] = 0;
-        stop += 1;
     }
 }
 
@@ -140,7 +138,7 @@ struct Span {
     left: usize,
 }
 
-// In steps that double, from the top: most rides land soon, where the next rows leave.
+// In steps that double, from the top: most rides land soon, where the next rows leave. `while`: no index is counted.
 fn span_from_top(work: &[u32], start: usize, size: usize, minute: usize) -> Span
     requires { Falling work.now start size minute }
     ensures { Narrowed work.now start size minute result.low result.left }
@@ -158,7 +156,7 @@ fn span_from_top(work: &[u32], start: usize, size: usize, minute: usize) -> Span
     Span { low: 0, left: high }
 }
 
-// By quarters, as long as a span has four entries: three looks at once and no branch on what they see.
+// By quarters, as long as a span has four entries: three looks at once and no branch on what they see. `while`: no index is counted.
 fn quarter(work: &[u32], start: usize, span: Span, minute: usize) -> Span
     requires { Searched work.now start minute span.low span.left }
     ensures { Narrowed work.now start (span.low + span.left) minute result.low result.left × (result.left < 4) }
@@ -192,10 +190,10 @@ fn last_open(work: &[u32], start: usize, span: Span, minute: usize) -> usize
     low + open_at(work, at + 2, minute) + open_at(work, at + 4, minute)
 }
 
-// 1 if the entry at cell `at` can be boarded at `minute`, else 0. Keys are compared: no division.
+// 1 if the entry at cell `at` can be boarded at `minute`, else 0: a step's factor, where a bool would be a branch. Keys are compared: no division.
 fn open_at(work: &[u32], at: usize, minute: usize) -> usize
     requires { (at < length work.now) × (minute < 4294967296) }
     ensures { result ≡ look minute (get_or work.now at 0 / key_step) }
 {
-    can_board(number(work[at]), KEY * minute) as usize
+    usize::from(can_board(number(work[at]), KEY * minute))
 }
