@@ -5,7 +5,7 @@ ghost use Rattle.std.specs.Prelude.{◌≡◌, ◌++◌, replicate};
 ghost use Rattle.clock.specs.Clock.{day_of, day_start, hour_of, minute_of_hour, rounded_up, since_midnight};
 ghost use Rattle.clock.specs.Text.{blank, face_text, Printed};
 
-use text::digit;
+use text::{digit, put_ahead};
 
 // Minutes from local midnight opening day 1.
 #[derive(Clone, Copy)]
@@ -32,17 +32,17 @@ impl Minute {
     pub const DAY: u32 = 1440;
 
     // Ticks of 1/256 minute, rounded up to a minute.
+    #[tactic(auto, unfolding(crate::specs::Clock::rounded_up))]
     pub fn of_ticks(ticks: u32) -> Minute
         ensures { result.minute ≡ rounded_up ticks }
     {
-        let whole = ticks / 256;
-        if ticks % 256 == 0 {
-            return Minute { minute: whole };
+        Minute {
+            minute: ticks.div_ceil(256),
         }
-        Minute { minute: whole + 1 }
     }
 
     // The day that this minute is in: nothing else knows where a day starts.
+    #[tactic(auto, unfolding(crate::specs::Clock::day_of, crate::specs::Clock::day_start))]
     fn held_by(self) -> Day
         ensures { (result.number ≡ day_of self.minute) × (result.start ≡ day_start (day_of self.minute)) }
     {
@@ -54,6 +54,7 @@ impl Minute {
     }
 
     // Minutes since the midnight that opened the day.
+    #[tactic(auto, using(crate::proofs::Days::day_started), unfolding(crate::specs::Clock::since_midnight))]
     fn since_midnight(self) -> u32
         ensures { result ≡ since_midnight self.minute }
     {
@@ -70,6 +71,7 @@ impl Minute {
     }
 
     // The hour of the day.
+    #[tactic(auto, unfolding(crate::specs::Clock::hour_of))]
     fn hour(self) -> u32
         ensures { result ≡ hour_of self.minute }
     {
@@ -77,6 +79,7 @@ impl Minute {
     }
 
     // The minute of the hour.
+    #[tactic(auto, unfolding(crate::specs::Clock::minute_of_hour))]
     fn minute_of_hour(self) -> u32
         ensures { result ≡ minute_of_hour self.minute }
     {
@@ -88,19 +91,13 @@ impl Minute {
         ensures { Printed self.minute result }
     {
         let mut bytes = self.face();
-        let mut at: usize = 8;
-        let mut left = self.day();
-        while left > 0 {
-            at -= 1;
-            bytes[at] = digit(left % 10);
-            left /= 10;
-        }
-        at -= 1;
-        bytes[at] = b'd';
-        TimeText { bytes, start: at }
+        let start = put_ahead(&mut bytes, 8, self.day() as usize) - 1;
+        bytes[start] = b'd';
+        TimeText { bytes, start }
     }
 
     // Hours and minutes in two digits each, at the end of the bytes.
+    #[tactic(auto, using(crate::proofs::Days::hour_below, crate::proofs::Days::minute_below), unfolding(crate::specs::Text::face_text))]
     fn face(self) -> [u8; 14]
         ensures { result ≡ replicate 8 blank ++ face_text self.minute }
     {

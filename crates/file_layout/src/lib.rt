@@ -44,6 +44,7 @@ pub struct Trailer {
 }
 
 // The trailer's numbers, the trailer at `at`.
+#[tactic(auto, unfolding(crate::specs::Decode::trailer_at))]
 pub fn trailer_at(file: &[u8], at: usize) -> Trailer
     requires { at + 15 < length file.now }
     ensures { (result ≡ trailer_at file.now at) × SmallTrailer result }
@@ -59,6 +60,7 @@ pub fn trailer_at(file: &[u8], at: usize) -> Trailer
 }
 
 // The row whose bytes start at `at`.
+#[tactic(auto, unfolding(crate::specs::Decode::row_at))]
 pub fn row_at(file: &[u8], at: usize) -> Row
     requires { at + 11 < length file.now }
     ensures { (result ≡ row_at file.now at) × SmallRow result }

@@ -1,9 +1,10 @@
 -- A number's digits: written one at a time, read back as that number, and with no zero ahead. Assumes nothing.
-use Prim.Native.Nat.{ℕ, zero, suc, ◌+◌, ◌*◌, ◌/◌, ◌%◌, ◌<◌, ◌≤◌}
+use Prim.Native.Nat.{ℕ, zero, suc, ◌+◌, ◌*◌, ◌/◌, ◌%◌, ◌^◌, ◌<◌, ◌≤◌}
 use mathlib.Core.Path.{◌≡◌, refl, ap, sym, subst⁻¹, ◌∙◌}
 use mathlib.Core.Bool.{cond}
 use mathlib.Core.List.{List, [], ◌∷◌}
 use native.Mathlib.Omega.{arith}
+use native.Mathlib.Nat.{pow-suc}
 use lib.Dec.{eqb}
 use lib.ListN.{length, get_or}
 use borrow.Author.Tests.{ne_eqb, eq-eqb}
@@ -32,6 +33,15 @@ decimal_on zero rest some = absurd (let z : ⊥ = omega arith in z)
 decimal_on (suc n) rest some =
     cond_false _ _ (ne_eqb (suc n) 0 (λ none. omega (arith, none)))
     ∙ digits_enough n (suc n / 10) (suc n / 10) (digit_of (suc n % 10) ∷ rest) (omega arith) (omega arith)
+
+-- a number below a power of ten has no more digits than that has noughts
+pub few_digits : (most n : ℕ) (rest : List ℕ) → n < 10 ^ most → length (decimal n rest) ≤ most + length rest
+few_digits zero n rest few =
+    let none : n ≡ 0 = omega arith in
+    omega (arith, ap (λ k. length (decimal k rest)) none, ap length (decimal_nought rest))
+few_digits (suc most) zero rest few = omega (arith, ap length (decimal_nought rest))
+few_digits (suc most) (suc n) rest few =
+    omega (arith, ap length (decimal_on (suc n) rest (omega arith)), few_digits most (suc n / 10) (digit_of (suc n % 10) ∷ rest) (omega (arith, pow-suc 10 most)))
 
 -- a law of every number's digits: of none, and of one more if of those ahead of it
 by_digits : (Law : ℕ → List ℕ → Type 0) → ((rest : List ℕ) → Law 0 rest)

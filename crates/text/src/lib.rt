@@ -20,6 +20,7 @@ pub fn put_ahead(out: &mut [u8], at: usize, number: usize) -> usize
 {
     let mut start = at;
     let mut left = number;
+    // no range to loop over: how many digits there are shows only where none is left
     while left > 0 {
         start -= 1;
         out[start] = digit((left % 10) as u32);

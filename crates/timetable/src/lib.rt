@@ -49,31 +49,18 @@ pub const MOST_TRIPS: usize = 2000;
 pub const SHARE_TOTAL: usize = 4096;
 
 // The rule of a row about itself alone.
+#[tactic(auto, unfolding(crate::specs::Rows::own_rule))]
 pub fn own_rule(row: Row, g: Ranges) -> bool
     ensures { result ≡ own_rule g row }
 {
-    if !stop_rule(row.board, g) {
-        return false;
-    }
-    if !stop_rule(row.land, g) {
-        return false;
-    }
-    if !stops_differ(row) {
-        return false;
-    }
-    if !onward(row) {
-        return false;
-    }
-    if !minute_rule(row.departure, g) {
-        return false;
-    }
-    if !minute_rule(row.arrival, g) {
-        return false;
-    }
-    if !trip_rule(row) {
-        return false;
-    }
-    class_rule(row, g)
+    stop_rule(row.board, g)
+        && stop_rule(row.land, g)
+        && stops_differ(row)
+        && onward(row)
+        && minute_rule(row.departure, g)
+        && minute_rule(row.arrival, g)
+        && trip_rule(row)
+        && class_rule(row, g)
 }
 
 // Boarding and landing stop: each is below S.
@@ -126,13 +113,11 @@ pub fn departure_rule(departure: usize, row: Row) -> bool
 }
 
 // Whether a row may come behind `previous`, the nearest earlier row of its trip.
+#[tactic(auto, unfolding(crate::specs::Rows::follows))]
 pub fn follows(previous: Row, row: Row) -> bool
     ensures { result ≡ follows_row (some previous) row }
 {
-    if !lands_there(previous, row) {
-        return false;
-    }
-    previous.arrival <= row.departure
+    lands_there(previous, row) && previous.arrival <= row.departure
 }
 
 // `previous` lands at the row's boarding stop.

@@ -1,6 +1,0 @@
--- `timetable::minute_rule` meets its contract: the test is the rule. Assumes nothing.
-use mathlib.Core.Path.{refl}
-use Rattle.timetable.proofs.minute_rule.Goals as goal
-
-pub returns : goal.returns
-returns c = refl
