@@ -58,18 +58,22 @@ pub fn read_file(
 ) -> Reading
     ensures { IsPrefixLen result.count room.new }
 {
-    let mut file = match open_read(rt, path) {
-        Ok(file) => file,
-        Err(error) => {
-            return Reading {
-                count: 0,
-                ending: unopened(out, &error, words),
-            };
-        }
-    };
-    let (count, failed) = read_part(&mut file, room);
-    let ending = ending_of(&mut file, count == room.len(), failed, out, words);
-    if let Ending::Unreadable = ending {
+    match open_read(rt, path) {
+        Ok(mut file) => read_opened(&mut file, out, words, room),
+        Err(error) => Reading {
+            count: 0,
+            ending: unopened(out, &error, words),
+        },
+    }
+}
+
+// Reads an open file. One whose reading failed has no bytes.
+fn read_opened(file: &mut impl Read, out: &Output, words: &[u8], room: &mut [u8]) -> Reading
+    ensures { IsPrefixLen result.count room.new }
+{
+    let (count, failed) = read_part(file, room);
+    let ending = ending_of(file, count == room.len(), failed, out, words);
+    if matches!(ending, Ending::Unreadable) {
         return Reading { count: 0, ending };
     }
     Reading { count, ending }
@@ -77,10 +81,10 @@ pub fn read_file(
 
 // Opens the file at `path` for reading. A path is text.
 fn open_read<R: Files>(rt: &R, path: &[u8]) -> io::Result<R::File> {
-    match str::from_utf8(path) {
-        Ok(text) => File::open(rt, text),
-        Err(_) => Err(Error::from(ErrorKind::InvalidFilename)),
-    }
+    let Ok(text) = str::from_utf8(path) else {
+        return Err(Error::from(ErrorKind::InvalidFilename));
+    };
+    File::open(rt, text)
 }
 
 // Reads until `room` is full, the input ends or a read fails: how many bytes it put at the start of `room`, and why a read failed.
@@ -123,39 +127,22 @@ fn ending_of(
     out: &Output,
     words: &[u8],
 ) -> Ending {
-    let mut byte = [0u8; 1];
-    let error = match file.read(&mut byte) {
+    let error = match file.read(&mut [0u8; 1]) {
         Ok(0) => return Ending::Whole,
-        Ok(_) => {
-            if full {
-                return Ending::More;
-            }
-            reason_of(failed)
-        }
+        Ok(_) if full => return Ending::More,
+        // a file that grew while it was read stopped for no reason that the system gives
+        Ok(_) => failed.unwrap_or(Error::from_raw_os_error(0)),
         Err(error) => error,
     };
     fail(out, words, &error);
     Ending::Unreadable
 }
 
-// A file that grew while it was read stopped for no reason that the system gives.
-fn reason_of(failed: Option<Error>) -> Error {
-    match failed {
-        Some(error) => error,
-        None => Error::from_raw_os_error(0),
-    }
-}
-
 // Whether the file goes on behind what was read.
 pub fn goes_on(ending: Ending) -> bool
     ensures { result ≡ goes_on ending }
 {
-    match ending {
-        Ending::Missing => false,
-        Ending::Unreadable => false,
-        Ending::Whole => false,
-        Ending::More => true,
-    }
+    matches!(ending, Ending::More)
 }
 
 // To be called first by a program: tells a standard output that is closed from the start, which the writes pass over.
@@ -176,20 +163,22 @@ pub fn open_out(out: Stdout, told: Stderr) -> Output {
 
 // Writes on the standard output.
 pub fn write_out(out: &Output, words: &[u8]) {
-    if out.failed.get() {
-        return;
-    }
-    if let Err(error) = out.out.write_all(words) {
-        out_failed(out, &error);
-    }
+    write_by(out, |to| to.write_all(words));
 }
 
 // Writes a number on the standard output, in decimal.
 pub fn write_number(out: &Output, number: usize) {
+    write_by(out, |to| to.print(number));
+}
+
+// Writes on the standard output by `write`, where no write failed before.
+fn write_by<W: FnOnce(Stdout) -> io::Result<()>>(out: &Output, write: W)
+    requires { W.IsAlwaysCallable write }
+{
     if out.failed.get() {
         return;
     }
-    if let Err(error) = out.out.print(number) {
+    if let Err(error) = write(out.out) {
         out_failed(out, &error);
     }
 }
