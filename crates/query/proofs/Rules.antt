@@ -4,13 +4,14 @@ use native.Mathlib.Omega.{arith}
 use mathlib.Core.Bool.{true, false, not, ◌&&◌}
 use mathlib.Core.Logic.{inl, inr, ◌≢◌}
 use mathlib.Core.List.{List}
-use mathlib.Core.Path.{◌≡◌, refl}
+use mathlib.Core.Path.{◌≡◌, refl, sym, ◌∙◌}
 use lib.Dec.{leb, ltb, eqb}
 use lib.ListN.{length}
 use borrow.Author.Tests.{ltb-true, leb-true, eqb-true, eqb-false, lt-ltb, le-leb, eq-eqb, ne_eqb, not-true}
 use Rattle.laws.proofs.Tests.{both_left, both_right, either, false_right}
+use Rattle.numbers.specs.Numbers.{u16_at}
 use Rattle.query.specs.declared.Query.{Query}
-use Rattle.query.specs.Query.{journey_rule, fewest_quarters, most_quarters, code_rule, query_rule, least_margin, most_margin, margin_rule, most_gate, gate_rule, QueryFits, query_bytes, margin_bytes, gate_bytes, no_query, query_in}
+use Rattle.query.specs.Query.{journey_rule, fewest_quarters, most_quarters, code_rule, query_rule, least_margin, most_margin, margin_rule, most_gate, gate_rule, QueryFits, query_bytes, margin_bytes, gate_bytes, four_numbers, five_numbers, with_gate, no_query, query_in}
 
 -- the last test of a rule decides once the others hold
 module _ (stops last : ℕ) (q : Query) where
@@ -73,6 +74,24 @@ rule_gives stops last q kept =
 -- no code is above the most quarters
 pub code_most : {stops last : ℕ} {q : Query} → QueryFits stops last q → q.code ≤ most_quarters
 code_most {stops} {last} {q} fits = elim fits.code [ inl p ↦ (let z : q.code ≤ most_quarters = omega arith in z) | inr p ↦ p.1 ]
+
+-- what 8 bytes, 10 bytes and 12 bytes ask
+module _ (bytes : List ℕ) where
+  not_so_many : {count other : ℕ} → length bytes ≡ count → count ≢ other → eqb (length bytes) other ≡ false
+  not_so_many e apart = ne_eqb _ _ (λ k. apart (sym e ∙ k))
+
+  pub eight_bytes : length bytes ≡ query_bytes → four_numbers bytes ≡ query_in bytes
+  unfolding query_in
+  eight_bytes e = simp (eq-eqb _ _ e)
+
+  pub ten_bytes : length bytes ≡ margin_bytes → five_numbers bytes ≡ query_in bytes
+  unfolding query_in
+  ten_bytes e = simp (not_so_many {other = query_bytes} e (λ k. let z : ⊥ = omega arith in z), eq-eqb _ _ e)
+
+  pub twelve_bytes : length bytes ≡ gate_bytes → with_gate (u16_at bytes 10) (five_numbers bytes) ≡ query_in bytes
+  unfolding query_in
+  twelve_bytes e =
+      simp (not_so_many {other = query_bytes} e (λ k. let z : ⊥ = omega arith in z), not_so_many {other = margin_bytes} e (λ k. let z : ⊥ = omega arith in z), eq-eqb _ _ e)
 
 -- `query` of neither 8 bytes, nor 10, nor 12 is 6 in its usual place, for every file
 module _ (bytes : List ℕ) (eight : length bytes ≢ query_bytes) (ten : length bytes ≢ margin_bytes) (twelve : length bytes ≢ gate_bytes) where
