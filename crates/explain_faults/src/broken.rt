@@ -4,7 +4,7 @@ ghost use Rattle.file_layout.specs.Format.{Readable};
 ghost use Rattle.file_layout.specs.Small.{SmallTrailer, SmallRow};
 ghost use Rattle.explain_faults.specs.Broken.{row_in};
 
-use file_check::{Found, look_back};
+use file_check::{Found, RowBytes};
 use file_layout::{Format, Trailer};
 use file_sections::shares_sum;
 use timetable::Row;
@@ -86,5 +86,11 @@ pub fn last_in(file: &[u8], f: Format, start: usize, place: usize, trip: usize) 
     if behind / f.width < place {
         return None;
     }
-    look_back(file, start, f.width, place, trip)
+    let rows = RowBytes {
+        file,
+        start,
+        width: f.width,
+        count: place,
+    };
+    rows.look_back(place, trip)
 }

@@ -5,6 +5,7 @@ use mathlib.Core.List.{List}
 use mathlib.Core.Option.{Option, none, some}
 use mathlib.Core.Path.{◌≡◌, refl, ap, sym, ◌∙◌}
 use native.Mathlib.Omega.{arith}
+use borrow.Author.Tests.{ne_eqb}
 use lib.Dec.{eqb}
 use Rattle.timetable.specs.declared.Row.{Row}
 use Rattle.timetable.specs.Rows.{last_of_trip}
@@ -24,6 +25,11 @@ module _ (width : ℕ) (s : List ℕ) (start : ℕ) where
   unfolding found_behind
   found_on trip zero more = absurd (omega arith)
   found_on trip (suc left) more = let one : suc left - 1 ≡ left = omega arith in rw one
+
+  pub found_further : (trip left : ℕ) → 0 < left → (row : Row) → row ≡ row_at s (start + width * (left - 1)) → (row.trip ≡ trip → ⊥)
+      → found_behind trip width s start left ≡ found_behind trip width s start (left - 1)
+  found_further trip left more row read other =
+      found_on trip left more ∙ simp (sym read, ne_eqb _ _ other)
 
   -- and ends where no row is left
   pub found_end : (trip left : ℕ) → left ≤ 0 → found_behind trip width s start left ≡ None

@@ -15,6 +15,7 @@ use Rattle.file_layout.specs.Decode.{trailer_of, rows_from, decode}
 use Rattle.file_layout.specs.Check.{sections_verdict, ranges_of, file_verdict, answered, checked_as}
 use Rattle.file_layout.proofs.TrailerSound.{trailer_gives}
 use Rattle.file_layout.specs.Sound.{TrailerSound}
+use Rattle.file_sections.specs.ReadBy.{read_by}
 use Rattle.file_sections.specs.SectionsRead.{sections_read}
 use Rattle.file_sections.proofs.ClassBlocks.{ok_by, err_by}
 use Rattle.file_check.specs.Behind.{RowsInside}
@@ -41,11 +42,19 @@ module _ (f : Format) (s : List ℕ) where
     unfolding sections_read
     joined_trailer = ok_by (trailer_of f s) h (sections_verdict f s) (sym good)
 
-    pub rows_decide : checked_as f s ≡ answered h (rows_answer h)
+    rows_decide : checked_as f s ≡ answered h (rows_answer h)
     rows_decide =
         two_steps
         ∙ ap (λ v. answered (trailer_of f s) (or_else v (rows_answer (trailer_of f s)))) joined_trailer.0
         ∙ ap (λ k. answered k (rows_answer k)) joined_trailer.1
+
+    pub refused_rows : (refusal : Refusal ℕ) → Err refusal ≡ read_by (tt {0}) (rows_answer h) → Err refusal ≡ checked_as f s
+    unfolding answered
+    refused_rows refusal e = sym (rows_decide ∙ ap (answered h) (err_by (tt {0}) refusal (rows_answer h) (sym e)))
+
+    pub rows_keep : (all : Unit {0}) → Ok all ≡ read_by (tt {0}) (rows_answer h) → Ok h ≡ checked_as f s
+    unfolding answered
+    rows_keep all e = sym (rows_decide ∙ ap (answered h) (ok_by (tt {0}) all (rows_answer h) (sym e)).0)
 
     pub rows_inside : Readable f → RowsInside f.width h (length s)
     rows_inside fit =

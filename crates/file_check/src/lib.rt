@@ -1,12 +1,15 @@
 // Document 01, "Numbers returned on refusal": the check of a sailing file, its sections and then row by row.
 #![tactic(auto)]
 
-ghost use Rattle.std.specs.Prelude.{◌&&◌, [], ◌≡◌, ◌+◌, ◌*◌, ◌≤◌, leb, length};
+ghost use Rattle.std.specs.Prelude.{◌<◌, ◌&&◌, [], ◌≡◌, ◌+◌, ◌*◌, ◌≤◌, leb, length};
+ghost use Rattle.timetable.specs.Limits.{most_rows};
 ghost use Rattle.timetable.specs.Rows.{last_of_trip, follows as follows_row, rows_verdict};
 ghost use Rattle.file_layout.specs.Format.{Readable};
-ghost use Rattle.file_layout.specs.Decode.{rows_from};
-ghost use Rattle.file_layout.specs.Check.{answered, checked_as, checked};
-ghost use Rattle.file_check.specs.Behind.{rows_behind, found_behind, RowsInside};
+ghost use Rattle.file_layout.specs.Decode.{row_at, rows_from};
+ghost use Rattle.file_layout.specs.Small.{SmallRow};
+ghost use Rattle.file_layout.specs.Check.{checked_as, checked};
+ghost use Rattle.file_sections.specs.ReadBy.{read_by};
+ghost use Rattle.file_check.specs.Behind.{rows_behind, found_behind};
 
 use file_layout::{Format, Trailer};
 use timetable::{MOST_TRIPS, Ranges, Refusal, Row};
@@ -16,6 +19,17 @@ use timetable::{MOST_TRIPS, Ranges, Refusal, Row};
 pub struct Found {
     pub row: Row,
     pub place: usize,
+}
+
+// Rows that lie in a file: `count` of `width` bytes each, the first at byte `start`.
+#[derive(Clone, Copy)]
+pub struct RowBytes<'a> {
+    pub file: &'a [u8],
+    pub start: usize,
+    pub width: usize,
+    pub count: usize,
+    pub ghost holds_row: { 12 ≤ width },
+    pub ghost inside: { start + width * count ≤ length file.now },
 }
 
 // The check of a file of version 1.
@@ -36,81 +50,79 @@ pub fn check_as(file: &[u8], f: Format) -> Result<Trailer, Refusal<usize>>
         classes: trailer.classes,
         lastminute: f.lastminute,
     };
-    check_rows(file, trailer, f.width, ranges)
-}
-
-// Row by row, 4 before 5. `seen` has, for each trip, the number of rows up to its last one so far.
-fn check_rows(
-    file: &[u8],
-    trailer: Trailer,
-    width: usize,
-    ranges: Ranges,
-) -> Result<Trailer, Refusal<usize>>
-    requires { RowsInside width trailer (length file.now) }
-    ensures { result ≡ answered trailer (rows_verdict ranges [] 0 (rows_from width file.now trailer.rowstart trailer.rows)) }
-{
-    let start = trailer.rowstart;
-    let mut seen = [0u16; MOST_TRIPS];
-    let mut departure = 0;
-    for i in 0..trailer.rows {
-        let row = file_layout::row_at(file, start + width * i);
-        if !timetable::own_rule(row, ranges) {
-            return Err(Refusal {
-                number: 4,
-                place: i,
-            });
-        }
-        let trip = row.trip;
-        if !in_order(file, start, width, seen[trip] as usize, departure, row) {
-            return Err(Refusal {
-                number: 5,
-                place: i,
-            });
-        }
-        departure = row.departure;
-        seen[trip] = (i + 1) as u16;
-    }
+    let rows = RowBytes {
+        file,
+        start: trailer.rowstart,
+        width: f.width,
+        count: trailer.rows,
+    };
+    rows.check(ranges)?;
     Ok(trailer)
 }
 
-// The rule of departures, then that of the trip, whose earlier rows are among the first `count`.
-fn in_order(
-    file: &[u8],
-    start: usize,
-    width: usize,
-    count: usize,
-    departure: usize,
-    row: Row,
-) -> bool
-    requires { (12 ≤ width) × (start + width * count ≤ length file.now) }
-    ensures { result ≡ (leb departure row.departure && follows_row (last_of_trip row.trip (rows_behind width file.now start count)) row) }
-{
-    if !timetable::departure_rule(departure, row) {
-        return false;
+impl RowBytes<'_> {
+    // The row of that number.
+    fn nth(&self, place: usize) -> Row
+        requires { place < self.now.count }
+        ensures { (result ≡ row_at self.now.file.now (self.now.start + self.now.width * place)) × SmallRow result }
+    {
+        file_layout::row_at(self.file, self.start + self.width * place)
     }
-    let Some(previous) = look_back(file, start, width, count, row.trip) else {
-        return true;
-    };
-    timetable::follows(previous.row, row)
-}
 
-// The nearest row of `trip` among the first `count`, found by looking back and stopping at the first.
-#[tactic(auto, using(crate::proofs::Back::found_on, crate::proofs::Back::found_end))]
-pub fn look_back(
-    file: &[u8],
-    start: usize,
-    width: usize,
-    count: usize,
-    trip: usize,
-) -> Option<Found>
-    requires { (12 ≤ width) × (start + width * count ≤ length file.now) }
-    ensures { result ≡ found_behind trip width file.now start count }
-{
-    for place in (0..count).rev() {
-        let row = file_layout::row_at(file, start + width * place);
-        if row.trip == trip {
-            return Some(Found { row, place });
+    // Row by row, 4 before 5. `seen` has, for each trip, the number of rows up to its last one so far.
+    fn check(&self, ranges: Ranges) -> Result<(), Refusal<usize>>
+        requires { self.now.count ≤ most_rows }
+        ensures { result ≡ read_by tt (rows_verdict ranges [] 0 (rows_from self.now.width self.now.file.now self.now.start self.now.count)) }
+    {
+        let mut seen = [0u16; MOST_TRIPS];
+        let mut departure = 0;
+        for i in 0..self.count {
+            let row = self.nth(i);
+            if !timetable::own_rule(row, ranges) {
+                return Err(Refusal {
+                    number: 4,
+                    place: i,
+                });
+            }
+            let trip = row.trip;
+            if !self.in_order(seen[trip] as usize, departure, row) {
+                return Err(Refusal {
+                    number: 5,
+                    place: i,
+                });
+            }
+            departure = row.departure;
+            seen[trip] = (i + 1) as u16;
         }
+        Ok(())
     }
-    None
+
+    // The rule of departures, then that of the trip, whose earlier rows are among the first `count`.
+    fn in_order(&self, count: usize, departure: usize, row: Row) -> bool
+        requires { count ≤ self.now.count }
+        ensures { result ≡ (leb departure row.departure && follows_row (last_of_trip row.trip (rows_behind self.now.width self.now.file.now self.now.start count)) row) }
+    {
+        if !timetable::departure_rule(departure, row) {
+            return false;
+        }
+        let Some(previous) = self.look_back(count, row.trip) else {
+            return true;
+        };
+        timetable::follows(previous.row, row)
+    }
+
+    // The nearest row of `trip` among the first `count`, found by looking back and stopping at the first.
+    #[tactic(auto, using(crate::proofs::Back::found_on, crate::proofs::Back::found_end))]
+    pub fn look_back(&self, count: usize, trip: usize) -> Option<Found>
+        requires { count ≤ self.now.count }
+        ensures { result ≡ found_behind trip self.now.width self.now.file.now self.now.start count }
+    {
+        for place in (0..count).rev() {
+            let row = self.nth(place);
+            if row.trip == trip {
+                return Some(Found { row, place });
+            }
+        }
+        None
+    }
 }
