@@ -1,11 +1,7 @@
 -- Laws of numbers in rising order.
-pub mod Copied
 pub mod Each
 pub mod Placed
 pub mod Order
-pub mod Halves
-pub mod Merged
-pub mod Parts
 pub mod Counted
-pub mod Joined
+pub mod Same
 pub mod Settled
