@@ -16,6 +16,7 @@ use Rattle.text.specs.Same.{same_bytes}
 use Rattle.gtfs_lines.specs.Columns.{columns_of, column_of, column_from}
 use Rattle.gtfs_lines.specs.Cut.{first_line, behind_line, ahead_of_feed, has_feed}
 use Rattle.gtfs_lines.proofs.TextLines.{lines_none, lines_first}
+use Rattle.gtfs_stop_time.specs.Said.{in_column}
 use Rattle.gtfs_stop_times.specs.declared.Service.{Service}
 use Rattle.gtfs_calls.specs.Faults.{header_verdict}
 use Rattle.gtfs_calls.specs.Reading.{Reading, wrong, read_from, stop_times}
@@ -42,10 +43,6 @@ by_first start text =
     (header_verdict (has_quote h) (columns_of h))) (header_line text)
     ∙ ap (λ (l : List (List ℕ)). by_verdict (λ fault column. wrong fault 1 column) (read_from (columns_of (first_line text)) start [] 2 l)
     (header_verdict (has_quote (first_line text)) (columns_of (first_line text)))) (lines_behind text)
-
-abbrev in_column : (number : ℕ) → (column : Option ℕ) → Verdict
-in_column number None = fine
-in_column number (Some column) = fault number column
 
 -- a column that is there is not 0
 there : (column : ℕ) → ltb 0 column ≡ not (eqb column 0)

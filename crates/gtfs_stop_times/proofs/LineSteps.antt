@@ -7,16 +7,15 @@ use native.Mathlib.Omega.{arith}
 use mir.Val.{Fits}
 use mir.Syntax.{w8}
 use lib.ListN.{length, drop, get_or}
+use Rattle.std.specs.Prelude.{None, Ok}
 use Rattle.timetable.specs.Verdict.{Verdict, fine, fault, or_else, unless}
 use Rattle.gtfs_lines.specs.declared.Fields.{Fields}
-use Rattle.gtfs_lines.specs.declared.Line.TheVariants.{Quoted, Cut}
 use Rattle.gtfs_lines.specs.Lines.{has_quote}
-use Rattle.gtfs_lines.specs.Cut.{first_line, behind_line, cut_at, LineCut}
+use Rattle.gtfs_lines.specs.Cut.{first_line, behind_line, cut, cut_at, LineCut}
 use Rattle.gtfs_lines.proofs.LineCuts.{line_cut, line_quoted}
 use Rattle.gtfs_stop_time.specs.StopTime.{StopTime, FieldTexts, texts_on, stop_time_of}
 use Rattle.gtfs_stop_time.specs.Faults.{own_verdict}
 use Rattle.gtfs_stop_time.specs.Said.{texts_at, Inside, AllInside, Says, said_of}
-use Rattle.gtfs_stop_time.specs.declared.Said.TheVariants.{Call as SaysCall}
 use Rattle.gtfs_stop_time.specs.declared.Call.{Call}
 use Rattle.gtfs_stop_time.proofs.Told.{said_call}
 use Rattle.gtfs_stop_times.specs.declared.Notes.{Notes}
@@ -30,7 +29,7 @@ module _ (text : List ℕ) (at : ℕ) (service : Service) (inside : at < length 
   line = first_line (drop at text)
 
   -- a quote mark
-  pub line_refused : (back : List StopTime) → cut_at text service.columns at ≡ Quoted
+  pub line_refused : (back : List StopTime) → cut_at text service.columns at ≡ None
       → line_verdict service.columns service.start back line ≡ fault 11 0
   unfolding line_verdict
   line_refused back e =
@@ -38,9 +37,9 @@ module _ (text : List ℕ) (at : ℕ) (service : Service) (inside : at < length 
       (next_verdict back (stop_time_of service.start (texts_on service.columns line)))))
       (line_quoted text service.columns at inside e)
 
-  module _ (fields : Fields) (next : ℕ) (cut : cut_at text service.columns at ≡ Cut fields next) where
+  module _ (fields : Fields) (next : ℕ) (lies : cut_at text service.columns at ≡ cut fields next) where
     line_lies : LineCut text service.columns at fields next
-    line_lies = line_cut text service.columns at fields next inside cut
+    line_lies = line_cut text service.columns at fields next inside lies
 
     pub fields_inside : AllInside (length text) fields
     fields_inside =
@@ -72,7 +71,7 @@ module _ (text : List ℕ) (at : ℕ) (service : Service) (inside : at < length 
         ∙ ap (λ (t : FieldTexts). or_else (own_verdict service.start t) (next_verdict back (stop_time_of service.start t))) (sym same_texts)
 
     -- what the fields say
-    pub line_says : {call : Call} → said_of service.start text fields ≡ SaysCall call → ((i : ℕ) → Fits w8 (get_or text i 0))
+    pub line_says : {call : Call} → said_of service.start text fields ≡ Ok call → ((i : ℕ) → Fits w8 (get_or text i 0))
         → (own_verdict service.start (texts_at text fields) ≡ fine) × Says text call (stop_time_of service.start (texts_at text fields))
     line_says e bytes = said_call service.start text fields e (record { byte = λ i h. omega (arith, bytes i) }) fields_inside
 

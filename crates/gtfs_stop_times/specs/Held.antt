@@ -12,7 +12,7 @@ use Rattle.gtfs_ids.specs.Ids.{number_of}
 use Rattle.gtfs_ids.specs.Book.{HoldsIds, book_cells, book_with, key_number, keys_in}
 use Rattle.gtfs_stop_times.specs.declared.Notes.{Notes}
 use Rattle.gtfs_stop_time.specs.declared.Call.{Call}
-use Rattle.gtfs_stop_times.specs.declared.FieldFault.{FieldFault}
+use Rattle.gtfs_stop_time.specs.declared.FieldFault.{FieldFault}
 use Rattle.gtfs_stop_time.specs.StopTime.{StopTime, last_minute, sequence_limit}
 use Rattle.gtfs_calls.specs.Calls.{trips_of, stops_of, last_call, rows_of}
 use Rattle.gtfs_calls.specs.Faults.{next_verdict}

@@ -5,7 +5,7 @@ use Rattle.gtfs_lines.specs.declared.Columns.{Columns}
 use Rattle.gtfs_lines.specs.Lines.{lines_of}
 use Rattle.gtfs_lines.specs.Cut.{first_line, behind_line}
 use Rattle.gtfs_stop_time.specs.StopTime.{StopTime, texts_on, stop_time_of}
-use Rattle.gtfs_stop_times.specs.declared.FieldFault.{FieldFault}
+use Rattle.gtfs_stop_time.specs.declared.FieldFault.{FieldFault}
 use Rattle.gtfs_stop_times.specs.declared.LineFault.{LineFault}
 use Rattle.gtfs_stop_times.specs.declared.Notes.{Notes}
 use Rattle.gtfs_stop_times.specs.declared.Service.{Service}

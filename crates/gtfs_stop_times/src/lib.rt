@@ -16,9 +16,9 @@ ghost use Rattle.gtfs_stop_times.specs.Answers.{out_after, read_answer, wanted_r
 
 use file_writing::put_row;
 use gtfs_ids::{Key, add, number_of, place_of, size_of};
-use gtfs_lines::{Columns, Header, Line, header_columns, line_at};
+use gtfs_lines::{Columns, header_columns, line_at};
 use gtfs_order::put_in_order;
-use gtfs_stop_time::{Call, Said, call_of};
+use gtfs_stop_time::{Call, FieldFault, call_of};
 use numbers::{cell, number};
 use text::{put_byte, put_text};
 use timetable::{MOST_ROWS, MOST_STOPS, MOST_TRIPS, Row};
@@ -43,13 +43,6 @@ pub enum Wanted {
 pub struct Listed {
     pub counts: Counts,
     pub bytes: usize,
-}
-
-// The fault of a line, and the column that it is in.
-#[derive(Clone, Copy)]
-pub struct FieldFault {
-    pub number: usize,
-    pub column: usize,
 }
 
 // The first fault of the text, its line and the column that it is in.
@@ -275,21 +268,15 @@ impl Notes {
         requires { (at < length text.now) × (service.start ≤ last_minute) × Holding text.now self.old }
         ensures { ReadAs text.now at service self.old result self.new }
     {
-        let line = line_at(text, at, service.columns);
-        let Line::Cut { fields, next } = line else {
+        let Some(cut) = line_at(text, at, service.columns) else {
             return Err(FieldFault {
                 number: 11,
                 column: 0,
             });
         };
-        let said = call_of(text, fields, service.start);
-        match said {
-            Said::Wrong { number, column } => Err(FieldFault { number, column }),
-            Said::Call { call } => {
-                self.take_call(call)?;
-                Ok(next)
-            }
-        }
+        let call = call_of(text, cut.fields, service.start)?;
+        self.take_call(call)?;
+        Ok(cut.next)
     }
 
     // The lines from `begin` on, the first of which is line 2.
@@ -365,14 +352,14 @@ pub fn stop_times(
     ensures { (result ≡ read_answer wanted (stop_times start text.now))
         × (out.new ≡ out_after wanted (stop_times start text.now) out.old) }
 {
-    let header = header_columns(text);
-    let Header::Named { columns, next } = header else {
+    let Some(header) = header_columns(text) else {
         return Err(LineFault {
             number: 11,
             line: 1,
             column: 0,
         });
     };
+    let columns = header.columns;
     if let Some(column) = missing_column(columns) {
         return Err(LineFault {
             number: 11,
@@ -380,5 +367,5 @@ pub fn stop_times(
             column,
         });
     }
-    wanted_behind(text, next, Service { columns, start }, wanted, out)
+    wanted_behind(text, header.next, Service { columns, start }, wanted, out)
 }

@@ -9,20 +9,23 @@ use Rattle.gtfs_stop_times.proofs.stop_times.Goals as goal
 pub returns-in_default : goal.returns-in_default
 returns-in_default c =
     let a = c.args in
-    fault_answered a.wanted a.out.now _ _ _ (header_quoted a.start a.text.now (header_refused a.text.now (sym c.header_columns-header.ensures ∙ c.in_default.is)))
+    fault_answered a.wanted a.out.now _ _ _ (header_quoted a.start a.text.now (header_refused a.text.now (sym c.header_columns.ensures ∙ c.in_default.is)))
 
-pub returns-in-Some : goal.returns-in-Some
-returns-in-Some c =
+pub returns-in-Some-missing_column : goal.returns-in-Some-missing_column
+returns-in-Some-missing_column c =
     let a = c.args in
-    let cut = header_cut a.text.now c.in-Named.columns c.in-Named.next (sym c.in-Named.ensures) in
+    let header = c.in-Some.header in
+    let cut = header_cut a.text.now header.columns header.next (sym c.in-Some.ensures) in
     fault_answered a.wanted a.out.now _ _ _
-    (column_missing a.start a.text.now c.in-Named.columns c.in-Named.next cut.unquoted cut.named cut.behind c.in-Some.column c.in-Some.ensures)
+    (column_missing a.start a.text.now header.columns header.next cut.unquoted cut.named cut.behind c.in-Some-missing_column.column c.in-Some-missing_column.ensures)
 
 pub wanted_behind-requires : goal.wanted_behind-requires
 wanted_behind-requires c =
     let a = c.args in
-    let cut = header_cut a.text.now c.in-Named.columns c.in-Named.next (sym c.in-Named.ensures) in (
-      header_some a.start a.text.now c.in-Named.columns c.in-Named.next cut.unquoted cut.named cut.behind (sym c.in_default-missing_column.is ∙ c.missing_column.ensures),
+    let header = c.in-Some.header in
+    let cut = header_cut a.text.now header.columns header.next (sym c.in-Some.ensures) in (
+      header_some a.start a.text.now header.columns header.next cut.unquoted cut.named cut.behind
+          (sym c.in_default-missing_column.is ∙ c.missing_column.ensures),
       cut.inside,
       c.requires.0,
       c.requires.1,
@@ -31,6 +34,10 @@ wanted_behind-requires c =
 pub returns : goal.returns
 returns c =
     let a = c.args in
-    let cut = header_cut a.text.now c.in-Named.columns c.in-Named.next (sym c.in-Named.ensures) in
-    let whole = columns_named a.start a.text.now c.in-Named.columns c.in-Named.next cut.unquoted cut.named cut.behind (sym c.in_default-missing_column.is ∙ c.missing_column.ensures) in
+    let header = c.in-Some.header in
+    let cut = header_cut a.text.now header.columns header.next (sym c.in-Some.ensures) in
+    let whole =
+    columns_named a.start a.text.now header.columns header.next cut.unquoted cut.named cut.behind
+    (sym c.in_default-missing_column.is ∙ c.missing_column.ensures)
+    in
     (c.wanted_behind.ensures.0 ∙ ap (read_answer a.wanted) (sym whole), c.wanted_behind.ensures.1 ∙ ap (λ r. out_after a.wanted r a.out.now) (sym whole))
