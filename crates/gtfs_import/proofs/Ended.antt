@@ -12,8 +12,9 @@ use Rattle.numbers.specs.Over.{over}
 use Rattle.timetable.specs.declared.Row.{Row}
 use Rattle.timetable.specs.Limits.{fewest_stops, most_rows}
 use Rattle.timetable.specs.Timetable.{row_of}
-use Rattle.file_layout.specs.declared.Checked.{Checked}
-use Rattle.file_layout.specs.declared.Checked.TheVariants.{Sound, Refused as CheckRefused}
+use Rattle.std.specs.Prelude.{Result, Ok, Err}
+use Rattle.timetable.specs.Verdict.{fault, told_fault, refused as told_refused}
+use Rattle.timetable.specs.declared.Refusal.{Refusal}
 use Rattle.file_layout.specs.declared.Trailer.{Trailer}
 use Rattle.file_layout.specs.Check.{checked}
 use Rattle.file_layout.specs.Decode.{decode}
@@ -35,9 +36,8 @@ use Rattle.gtfs_calls.specs.Reading.{Reading, said, wrong}
 use Rattle.gtfs_calls.specs.Sound.{ReadSound}
 use Rattle.gtfs_calls.proofs.FaultNumbers.{fault_known}
 use Rattle.gtfs_calls.proofs.ReadSound.{read_sound}
-use Rattle.gtfs_import.specs.declared.Imported.{Imported}
-use Rattle.gtfs_import.specs.declared.Imported.TheVariants.{Written, Refused}
-use Rattle.gtfs_import.specs.Import.{day_rule, ImportOutcome, refused_import, by_check, by_reading, import_outcome}
+use Rattle.gtfs_import.specs.declared.Written.{Written}
+use Rattle.gtfs_import.specs.Import.{day_rule, imported, ImportOutcome, refused_import, by_check, by_reading, import_outcome}
 use Rattle.gtfs_import.specs.Returned.{Asked, read_on, file_of, FileWritten, Reason, no_day, little_room, text_fault, file_fault, Ended, refused, written}
 use Rattle.gtfs_import.proofs.Days.{served, day_kept, no_service_day, too_little_room, by_the_text}
 use Rattle.gtfs_import.proofs.Told.{kept_back}
@@ -58,7 +58,7 @@ module _ (calls : List StopTime) (sound : ReadSound calls) where
   small : (i : ℕ) → i < length rows → SmallRow (row_of rows i)
   small = each_in_order SmallRow (rows_of calls) sound.small
 
-  pub fault_of_file : (number place : ℕ) → checked file ≡ CheckRefused number place → RefusedOnTime stops (length (rows_of calls)) number place
+  pub fault_of_file : (number place : ℕ) → checked file ≡ told_refused number place → RefusedOnTime stops (length (rows_of calls)) number place
   unfolding checked timetable_of
   fault_of_file number place e =
       subst (λ n. RefusedOnTime stops n number place) (in_order_length (rows_of calls))
@@ -69,7 +69,7 @@ module _ (calls : List StopTime) (sound : ReadSound calls) where
   few_stops_kept_back out less = kept_back file out 1 0 (few_stops_refused stops rows few small less)
 
   -- the first bytes are the file, and the others as before
-  pub file_of_calls : (trailer : Trailer) (out : List ℕ) → version_one.mostbytes ≤ length out → checked file ≡ Sound trailer
+  pub file_of_calls : (trailer : Trailer) (out : List ℕ) → version_one.mostbytes ≤ length out → checked file ≡ Ok trailer
       → FileWritten calls out (over file out) trailer (length file)
   unfolding checked timetable_of
   file_of_calls trailer out room e =
@@ -96,14 +96,14 @@ module _ (text : List ℕ) (day : ℕ) (out : List ℕ) where
   abbrev Ends : ImportOutcome → Type 0
   Ends o = Ended text day out o.answer o.out
 
-  by_check_lem : (calls : List StopTime) → Asked day out → read_on day text ≡ said calls → (c : Checked)
+  by_check_lem : (calls : List StopTime) → Asked day out → read_on day text ≡ said calls → (c : Result Trailer (Refusal ℕ))
       → checked (file_of calls) ≡ c → Ends (by_check (file_of calls) out c)
   unfolding by_check
-  by_check_lem calls asked says (Sound trailer) e =
+  by_check_lem calls asked says (Ok trailer) e =
       let sound = read_sound (day_start day) text calls says in
       written calls trailer (length (file_of calls)) asked says (file_of_calls calls sound trailer out asked.room e) refl
-  by_check_lem calls asked says (CheckRefused number place) e =
-      refused number place (file_fault calls asked says e (fault_of_file calls (read_sound (day_start day) text calls says) number place e)) refl refl
+  by_check_lem calls asked says (Err refusal) e =
+      refused refusal.number refusal.place (file_fault calls asked says e (fault_of_file calls (read_sound (day_start day) text calls says) refusal.number refusal.place e)) refl refl
 
   by_reading_lem : Asked day out → (r : Reading) → read_on day text ≡ r → FaultKnown r → Ends (by_reading r out)
   unfolding by_reading
@@ -127,20 +127,25 @@ module _ (text : List ℕ) (day : ℕ) (out : List ℕ) where
       subst Ends (sym (no_service_day text day out none))
       (refused 6 0 (no_day (λ first last. false≢true (sym none ∙ served day first last))) refl refl))
 
+same_file : {one other : Written} → ◌≡◌ {A = Result Written (Refusal ℕ)} (Ok one) (Ok other) → one ≡ other
+same_file e = cc
+
 -- what an answer tells of how the call ended
-module _ {text : List ℕ} {day : ℕ} {out : List ℕ} {answer : Imported} {out' : List ℕ} where
-  pub reason_of : {number place : ℕ} → Ended text day out answer out' → answer ≡ Refused number place
+module _ {text : List ℕ} {day : ℕ} {out : List ℕ} {answer : Result Written (Refusal ℕ)} {out' : List ℕ} where
+  pub reason_of : {number place : ℕ} → Ended text day out answer out' → answer ≡ told_refused number place
       → (out' ≡ out) × Reason text day out number place
   reason_of {number} {place} (refused n p reason told same) e =
+      let same_fault : fault n p ≡ fault number place = ap told_fault (sym told ∙ e) in
       let number_is : n ≡ number = cc in
       let place_is : p ≡ place = cc in
       (same, subst (Reason text day out number) place_is (subst (λ k. Reason text day out k p) number_is reason))
   reason_of (written calls trailer bytes asked says file told) e = absurd (let z : ◌≡◌ {A = ℕ} 0 1 = cc in let y : ⊥ = omega arith in y)
 
-  pub file_of_lem : {trailer : Trailer} {bytes : ℕ} → Ended text day out answer out' → answer ≡ Written trailer bytes
+  pub file_of_lem : {trailer : Trailer} {bytes : ℕ} → Ended text day out answer out' → answer ≡ imported trailer bytes
       → Asked day out × ((calls : List StopTime) × (read_on day text ≡ said calls) × FileWritten calls out out' trailer bytes)
   file_of_lem (refused n p reason told same) e = absurd (let z : ◌≡◌ {A = ℕ} 0 1 = cc in let y : ⊥ = omega arith in y)
   file_of_lem {trailer} {bytes} (written calls h b asked says file told) e =
-      let trailer_is : h ≡ trailer = cc in
-      let bytes_is : b ≡ bytes = cc in
+      let file_is = same_file (sym told ∙ e) in
+      let trailer_is : h ≡ trailer = ap (λ (f : Written). f.trailer) file_is in
+      let bytes_is : b ≡ bytes = ap (λ (f : Written). f.bytes) file_is in
       (asked, (calls, says, subst (FileWritten calls out out' trailer) bytes_is (subst (λ k. FileWritten calls out out' k b) trailer_is file)))

@@ -1,6 +1,7 @@
 -- Laws of the import, and what it returns.
 pub mod Days
 pub mod Told
+pub mod Placed
 pub mod Finished
 pub mod Ended
 pub mod Refusals

@@ -25,9 +25,10 @@ use Rattle.gtfs_stop_time.specs.Faults.{filled_verdict, times_verdict, own_verdi
 use Rattle.gtfs_calls.specs.Calls.{trips_of, stops_of, last_call, rises_behind, row_between, row_behind, rows_of, timetable_of}
 use Rattle.gtfs_calls.specs.Faults.{next_verdict, line_verdict, header_verdict}
 use Rattle.gtfs_calls.specs.Reading.{read_from, stop_times}
-use Rattle.gtfs_import.specs.declared.Imported.TheVariants.{Written, Refused}
-use Rattle.gtfs_import.specs.FaultPlace.{nowhere, fault_place, place_for}
-use Rattle.gtfs_import.specs.Import.{day_rule, room_rule, ImportOutcome, refused_import, by_check, by_reading, import_outcome}
+use Rattle.std.specs.Prelude.{Some, None}
+use Rattle.timetable.specs.Verdict.{refused}
+use Rattle.gtfs_import.specs.FaultPlace.{fault_place, place_for}
+use Rattle.gtfs_import.specs.Import.{day_rule, room_rule, imported, ImportOutcome, refused_import, by_check, by_reading, import_outcome}
 
 abbrev header : List ℕ
 header =
@@ -72,19 +73,19 @@ imported_from start text = by_reading (stop_times start text) []
 
 -- day 1; day 2, whose minutes are 1,450 and 1,460; no call; no line; one stop twice; a row from a stop to itself; and the others
 pub texts :
-    (imported_from 0 two_calls ≡ record { answer = Written (on_time_trailer 2 1) 32; out = file_of_two (10 ∷ 0 ∷ []) (20 ∷ 0 ∷ []) })
-    × (imported_from (day_start 2) two_calls ≡ record { answer = Written (on_time_trailer 2 1) 32; out = file_of_two (170 ∷ 5 ∷ []) (180 ∷ 5 ∷ []) })
+    (imported_from 0 two_calls ≡ record { answer = imported (on_time_trailer 2 1) 32; out = file_of_two (10 ∷ 0 ∷ []) (20 ∷ 0 ∷ []) })
+    × (imported_from (day_start 2) two_calls ≡ record { answer = imported (on_time_trailer 2 1) 32; out = file_of_two (170 ∷ 5 ∷ []) (180 ∷ 5 ∷ []) })
     × (imported_from 0 header ≡ refused_import 1 0 [])
     × (imported_from 0 [] ≡ refused_import 11 0 [])
     × (imported_from 0 (header ++ call 97 1 (time 0 0 5) (time 0 1 0) ++ call 97 2 (time 0 2 0) (time 0 2 5)) ≡ refused_import 1 0 [])
     × (imported_from 0 same_stop_again ≡ refused_import 4 1 [])
     × (imported_from 0 back_in_time ≡ refused_import 5 1 [])
     × (imported_from 0 bad_time ≡ refused_import 12 0 [])
-    × (place_for bad_time 1 ≡ record { line = 3; column = 2 })
-    × (place_for [] 1 ≡ record { line = 1; column = 1 })
-    × (place_for two_calls 1 ≡ nowhere)
-    × (place_for bad_time 8 ≡ nowhere)
-    × ((import_outcome two_calls 7 (replicate 27920 0)).answer ≡ Written (on_time_trailer 2 1) 32)
+    × (place_for bad_time 1 ≡ Some (record { line = 3; column = 2 }))
+    × (place_for [] 1 ≡ Some (record { line = 1; column = 1 }))
+    × (place_for two_calls 1 ≡ None)
+    × (place_for bad_time 8 ≡ None)
+    × ((import_outcome two_calls 7 (replicate 27920 0)).answer ≡ imported (on_time_trailer 2 1) 32)
 unfolding u16_bytes u32_bytes u16_at u32_at value_behind value_of same_bytes sum shares_rule own_rule departure_rule last_of_trip follows trip_rule row_verdict rows_verdict checked checked_as file_verdict sections_verdict length_rule trailer_rule class_verdict classes_verdict joined sections_join answered decode trailer_of trailer_at trailer_start rows_from row_at tables_from table_at shares_from block_end tables_end encode rows_bytes row_bytes tables_bytes table_bytes shares_bytes trailer_bytes on_first parts without_return ended lines_of fields_of field_of has_quote column_from column_of columns_of hours_in tail_in minutes_in tail_rule is_time time_minutes are_digits is_whole id_rule number_of with_id comes_first among in_order texts_on stop_time_of is_filled time_rule sequence_rule filled_verdict times_verdict own_verdict trips_of stops_of last_call rises_behind row_between row_behind rows_of timetable_of next_verdict line_verdict header_verdict read_from stop_times fault_place place_for day_rule room_rule by_check by_reading import_outcome
 texts = (refl, refl, refl, refl, refl, refl, refl, refl, refl, refl, refl, refl, refl)
 
@@ -97,7 +98,7 @@ service_days = ((λ text out. refl), (λ text out. refl), refl, refl)
 
 -- 27,919 bytes are too few, whatever the text
 pub rooms :
-    ((text : List ℕ) → (import_outcome text 1 (replicate 27919 0)).answer ≡ Refused 7 0) × ((text : List ℕ) → import_outcome text 7 [] ≡ refused_import 7 0 [])
+    ((text : List ℕ) → (import_outcome text 1 (replicate 27919 0)).answer ≡ refused 7 0) × ((text : List ℕ) → import_outcome text 7 [] ≡ refused_import 7 0 [])
     × (room_rule 27919 ≡ false) × (room_rule 27920 ≡ true)
 unfolding import_outcome day_rule room_rule
 rooms = ((λ text. refl), (λ text. refl), refl, refl)

@@ -6,7 +6,7 @@ use mathlib.Core.Path.{◌≡◌, refl, sym, subst}
 use native.Mathlib.Omega.{arith}
 use lib.ListN.{length}
 use Rattle.timetable.specs.Limits.{fewest_stops}
-use Rattle.file_layout.specs.declared.Checked.TheVariants.{Refused as CheckRefused}
+use Rattle.timetable.specs.Verdict.{refused}
 use Rattle.file_layout.specs.Check.{checked}
 use Rattle.file_layout.specs.Format.{version_one}
 use Rattle.gtfs_stop_time.specs.StopTime.{StopTime}
@@ -82,7 +82,7 @@ module _ {text : List ℕ} {day : ℕ} {out : List ℕ} where
   stops_reason (file_fault calls asked says checks fault) e = (asked, (calls, says, one_stops fault e))
 
   pub check_reason : {number place : ℕ} → Reason text day out number place → number < 6
-      → Asked day out × ((calls : List StopTime) × (read_on day text ≡ said calls) × (checked (file_of calls) ≡ CheckRefused number place))
+      → Asked day out × ((calls : List StopTime) × (read_on day text ≡ said calls) × (checked (file_of calls) ≡ refused number place))
   check_reason (no_day none) e = absurd (let z : ⊥ = omega arith in z)
   check_reason (little_room first last little) e = absurd (let z : ⊥ = omega arith in z)
   check_reason (text_fault line column asked is fault) e = absurd (let z : ⊥ = omega (arith, text_number fault) in z)

@@ -9,8 +9,8 @@ use Rattle.file_layout.specs.declared.Trailer.{Trailer}
 use Rattle.gtfs_stop_time.specs.StopTime.{day_start}
 use Rattle.gtfs_calls.specs.Reading.{Reading, said, wrong}
 use Rattle.gtfs_calls.proofs.ReadSound.{read_sound}
-use Rattle.gtfs_import.specs.declared.Imported.TheVariants.{Written, Refused}
-use Rattle.gtfs_import.specs.Import.{import_outcome}
+use Rattle.timetable.specs.Verdict.{refused}
+use Rattle.gtfs_import.specs.Import.{imported, import_outcome}
 use Rattle.gtfs_import.specs.Returned.{read_on, rows_in}
 use Rattle.gtfs_import.proofs.Ended.{import_ends, reason_of, file_of_lem}
 use Rattle.gtfs_import.proofs.Refusals.{refusal_of, refusal_place, refusal_number}
@@ -21,7 +21,7 @@ module _ (text : List ℕ) (day : ℕ) (out : List ℕ) where
   few_rows (wrong number line column) says = omega arith
 
   -- a refusal's number and place
-  pub refused_small : (number place : ℕ) → (import_outcome text day out).answer ≡ Refused number place → (number ≤ 13) × (place ≤ most_rows)
+  pub refused_small : (number place : ℕ) → (import_outcome text day out).answer ≡ refused number place → (number ≤ 13) × (place ≤ most_rows)
   refused_small number place told =
       let refusal = refusal_of (reason_of (import_ends text day out) told).1 in
       let few = few_rows (read_on day text) refl in (
@@ -30,7 +30,7 @@ module _ (text : List ℕ) (day : ℕ) (out : List ℕ) where
       )
 
   -- S, n, K and the length of a file
-  pub written_small : (trailer : Trailer) (bytes : ℕ) → (import_outcome text day out).answer ≡ Written trailer bytes
+  pub written_small : (trailer : Trailer) (bytes : ℕ) → (import_outcome text day out).answer ≡ imported trailer bytes
       → (trailer.stops < 65536) × (trailer.rows < 65536) × (trailer.classes < 65536) × (bytes < 65536)
   written_small trailer bytes told =
       let file = (file_of_lem (import_ends text day out) told).1.2 in

@@ -1,7 +1,8 @@
 -- Document 02, E2: what is read from what the import returns: a refusal and its reason, or a file that was written.
-use Rattle.std.specs.Prelude.{ℕ, ◌+◌, ◌*◌, ◌≤◌, ◌<◌, List, ◌≡◌, length, take, drop}
+use Rattle.std.specs.Prelude.{ℕ, ◌+◌, ◌*◌, ◌≤◌, ◌<◌, List, ◌≡◌, length, take, drop, Result, Ok}
 use Rattle.timetable.specs.Limits.{fewest_stops, most_stops, most_rows}
-use Rattle.file_layout.specs.declared.Checked.TheVariants.{Sound, Refused as CheckRefused}
+use Rattle.timetable.specs.Verdict.{refused as told_refused}
+use Rattle.timetable.specs.declared.Refusal.{Refusal as ToldRefusal}
 use Rattle.file_layout.specs.declared.Trailer.{Trailer}
 use Rattle.file_layout.specs.Check.{checked}
 use Rattle.file_layout.specs.Decode.{decode}
@@ -12,9 +13,8 @@ use Rattle.gtfs_stop_time.specs.StopTime.{StopTime, day_start}
 use Rattle.gtfs_calls.specs.Calls.{stops_of, rows_of, timetable_of}
 use Rattle.gtfs_calls.specs.FaultNumbers.{TextFault}
 use Rattle.gtfs_calls.specs.Reading.{Reading, said, wrong, stop_times}
-use Rattle.gtfs_import.specs.declared.Imported.{Imported}
-use Rattle.gtfs_import.specs.declared.Imported.TheVariants.{Written, Refused}
-use Rattle.gtfs_import.specs.Import.{first_day, last_day}
+use Rattle.gtfs_import.specs.declared.Written.{Written}
+use Rattle.gtfs_import.specs.Import.{first_day, last_day, imported}
 use Rattle.file_writing.specs.Answers.{RefusedOnTime}
 
 -- a service day, and room for the longest file
@@ -34,7 +34,7 @@ file_of calls = encode version_one (timetable_of calls)
 -- the file of these calls stands in the first bytes, the check accepts it, and other bytes are as they were
 pub record FileWritten (calls : List StopTime) (out out' : List ℕ) (trailer : Trailer) (bytes : ℕ) : Type 0 where
   pub file : take bytes out' ≡ file_of calls
-  pub accepted : checked (take bytes out') ≡ Sound trailer
+  pub accepted : checked (take bytes out') ≡ Ok trailer
   pub decodes : decode version_one (take bytes out') ≡ timetable_of calls
   pub size : bytes ≡ 12 * length (rows_of calls) + 20
   pub says : trailer ≡ on_time_trailer (length (stops_of calls)) (length (rows_of calls))
@@ -51,14 +51,14 @@ pub data Reason (text : List ℕ) (day : ℕ) (out : List ℕ) : (number place :
   text_fault : {number : ℕ} (line column : ℕ) → Asked day out → read_on day text ≡ wrong number line column → TextFault number column
       → Reason text day out number 0
   file_fault : {number place : ℕ} (calls : List StopTime) → Asked day out → read_on day text ≡ said calls
-      → checked (file_of calls) ≡ CheckRefused number place → RefusedOnTime (length (stops_of calls)) (length (rows_of calls)) number place
+      → checked (file_of calls) ≡ told_refused number place → RefusedOnTime (length (stops_of calls)) (length (rows_of calls)) number place
       → Reason text day out number place
 
 -- a refusal leaves `out` as it was; otherwise a file was written
-pub data Ended (text : List ℕ) (day : ℕ) (out : List ℕ) (answer : Imported) (out' : List ℕ) : Type 0 where
-  refused : (number place : ℕ) → Reason text day out number place → answer ≡ Refused number place → out' ≡ out → Ended text day out answer out'
+pub data Ended (text : List ℕ) (day : ℕ) (out : List ℕ) (answer : Result Written (ToldRefusal ℕ)) (out' : List ℕ) : Type 0 where
+  refused : (number place : ℕ) → Reason text day out number place → answer ≡ told_refused number place → out' ≡ out → Ended text day out answer out'
   written : (calls : List StopTime) (trailer : Trailer) (bytes : ℕ) → Asked day out → read_on day text ≡ said calls
-      → FileWritten calls out out' trailer bytes → answer ≡ Written trailer bytes → Ended text day out answer out'
+      → FileWritten calls out out' trailer bytes → answer ≡ imported trailer bytes → Ended text day out answer out'
 
 -- how many rows the text has
 abbrev pub rows_in : Reading → ℕ

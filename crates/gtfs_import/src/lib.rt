@@ -16,29 +16,28 @@ ghost use Rattle.gtfs_import.specs.Named.{names_outcome};
 ghost use Rattle.gtfs_import.specs.Room.{file_room};
 
 use file_check::check;
-use file_layout::{Checked, Trailer};
+use file_layout::Trailer;
 use file_writing::{put_never_late, put_trailer};
-use gtfs_stop_times::{Read, Wanted, stop_times};
-use text::put_text;
+use gtfs_stop_times::{Wanted, stop_times};
+use timetable::Refusal;
 
-// A file of so many bytes with this trailer was written, or a refusal with its number and place.
+// A file of so many bytes with this trailer was written.
 #[derive(Clone, Copy)]
-pub enum Imported {
-    Written { trailer: Trailer, bytes: usize },
-    Refused { number: usize, place: usize },
+pub struct Written {
+    pub trailer: Trailer,
+    pub bytes: usize,
 }
 
-// The line of the text's first fault and the column that it is in, 0 for the line as a whole; both 0 where there is none.
+// The line of a text's first fault and the column that it is in, 0 for the line as a whole.
 #[derive(Clone, Copy)]
 pub struct Place {
     pub line: usize,
     pub column: usize,
 }
 
-// The names' text ends there, or a refusal by its number, or too little room for the longest such text.
+// Why there are no names: a refusal by its number, or too little room for the longest such text.
 #[derive(Clone, Copy)]
-pub enum Named {
-    Text { end: usize },
+pub enum Unnamed {
     Refused { number: usize },
     NoRoom,
 }
@@ -57,69 +56,66 @@ const MINUTES_A_DAY: usize = 1440;
 const FILE_ROOM: usize = 24020;
 
 // Writes the sailing file of a service day from the bytes of `stop_times.txt`; a refusal leaves `out` as it was.
-pub fn import_stop_times(text: &[u8], day: usize, out: &mut [u8]) -> Imported
+pub fn import_stop_times(
+    text: &[u8],
+    day: usize,
+    out: &mut [u8],
+) -> Result<Written, Refusal<usize>>
     ensures { (result ≡ (import_outcome text.now day out.old).answer)
         × (out.new ≡ (import_outcome text.now day out.old).out) }
 {
     if !is_service_day(day) {
-        return Imported::Refused {
+        return Err(Refusal {
             number: 6,
             place: 0,
-        };
+        });
     }
     if out.len() < file_layout::VERSION_ONE.mostbytes {
-        return Imported::Refused {
+        return Err(Refusal {
             number: 7,
             place: 0,
-        };
+        });
     }
     import_from(text, day_start(day), out)
 }
 
-// Where the first fault of the text is.
-pub fn fault_place(text: &[u8], day: usize) -> Place
+// Where the first fault of the text is, if it has one.
+pub fn fault_place(text: &[u8], day: usize) -> Option<Place>
     ensures { result ≡ place_for text.now day }
 {
     if !is_service_day(day) {
-        return Place { line: 0, column: 0 };
+        return None;
     }
     let mut file = file_room();
-    let read = stop_times(text, day_start(day), Wanted::Rows, &mut file);
-    match read {
-        Read::Calls {
-            counts: _,
-            bytes: _,
-        } => Place { line: 0, column: 0 },
-        Read::Wrong {
-            number: _,
-            line,
-            column,
-        } => Place { line, column },
+    match stop_times(text, day_start(day), Wanted::Rows, &mut file) {
+        Ok(_) => None,
+        Err(fault) => Some(Place {
+            line: fault.line,
+            column: fault.column,
+        }),
     }
 }
 
-// Writes the ids by number: a line for each stop, then one for each trip. What is no text leaves `out` as it was.
-pub fn names_of(text: &[u8], day: usize, out: &mut [u8]) -> Named
+// Writes the ids by number: a line for each stop, then one for each trip; where they end. What is no text leaves `out` as it was.
+pub fn names_of(text: &[u8], day: usize, out: &mut [u8]) -> Result<usize, Unnamed>
     ensures { (result ≡ (names_outcome text.now day out.old).answer)
         × (out.new ≡ (names_outcome text.now day out.old).out) }
 {
     if out.len() < NAMES_ROOM {
-        return Named::NoRoom;
+        return Err(Unnamed::NoRoom);
     }
     if !is_service_day(day) {
-        return Named::Refused { number: 6 };
+        return Err(Unnamed::Refused { number: 6 });
     }
-    let read = stop_times(text, day_start(day), Wanted::Names, out);
-    match read {
-        Read::Calls { counts: _, bytes } => Named::Text { end: bytes },
-        Read::Wrong {
-            number,
-            line: _,
-            column: _,
-        } => Named::Refused { number },
+    match stop_times(text, day_start(day), Wanted::Names, out) {
+        Ok(listed) => Ok(listed.bytes),
+        Err(fault) => Err(Unnamed::Refused {
+            number: fault.number,
+        }),
     }
 }
 
+#[tactic(auto, unfolding(crate::specs::Import::day_rule))]
 fn is_service_day(day: usize) -> bool
     ensures { result ≡ day_rule day }
 {
@@ -141,23 +137,21 @@ fn file_room() -> [u8; FILE_ROOM]
 }
 
 // What the text says of a service day that starts at minute `start`.
-fn import_from(text: &[u8], start: usize, out: &mut [u8]) -> Imported
+fn import_from(text: &[u8], start: usize, out: &mut [u8]) -> Result<Written, Refusal<usize>>
     requires { (start ≤ last_minute) × (version_one.mostbytes ≤ length out.old) }
     ensures { (result ≡ (by_reading (stop_times start text.now) out.old).answer)
         × (out.new ≡ (by_reading (stop_times start text.now) out.old).out) }
 {
     let mut file = file_room();
-    let read = stop_times(text, start, Wanted::Rows, &mut file);
-    match read {
-        Read::Wrong {
-            number,
-            line: _,
-            column: _,
-        } => Imported::Refused { number, place: 0 },
-        Read::Calls { counts, bytes: _ } => {
-            let end = put_ends(counts.stops, counts.rows, &mut file);
+    match stop_times(text, start, Wanted::Rows, &mut file) {
+        Ok(listed) => {
+            let end = put_ends(listed.counts.stops, listed.counts.rows, &mut file);
             hand_over(&file[..end], out)
         }
+        Err(fault) => Err(Refusal {
+            number: fault.number,
+            place: 0,
+        }),
     }
 }
 
@@ -183,17 +177,13 @@ fn put_ends(stops: usize, rows: usize, file: &mut [u8]) -> usize
 }
 
 // A finished file goes to `out` only if the check finds no fault.
-fn hand_over(file: &[u8], out: &mut [u8]) -> Imported
+fn hand_over(file: &[u8], out: &mut [u8]) -> Result<Written, Refusal<usize>>
     requires { length file.now ≤ length out.old }
     ensures { (result ≡ (by_check file.now out.old (checked file.now)).answer)
         × (out.new ≡ (by_check file.now out.old (checked file.now)).out) }
 {
-    let told = check(file);
-    match told {
-        Checked::Refused { number, place } => Imported::Refused { number, place },
-        Checked::Sound { trailer } => {
-            let bytes = put_text(out, 0, file, 0);
-            Imported::Written { trailer, bytes }
-        }
-    }
+    let trailer = check(file)?;
+    let bytes = file.len();
+    out[..bytes].copy_from_slice(file);
+    Ok(Written { trailer, bytes })
 }
