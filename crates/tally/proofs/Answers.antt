@@ -2,19 +2,20 @@
 use Prim.Native.Nat.{ℕ, suc, ◌+◌, ◌<◌, ◌≤◌}
 use mathlib.Core.Bool.{true, false}
 use mathlib.Core.List.{List}
-use mathlib.Core.Path.{◌≡◌, refl, ap, sym, ◌∙◌}
+use mathlib.Core.Path.{◌≡◌, ap, ◌∙◌}
 use native.Mathlib.Numerals.{add-one}
 use lib.ListN.{set}
 use borrow.Author.Tests.{lt-ltb, le-ltb}
+use Rattle.std.specs.Prelude.{Ok}
+use Rattle.timetable.specs.Verdict.{refused}
 use Rattle.file_layout.specs.declared.Format.{Format}
 use Rattle.tally.specs.declared.Landing.{Landing}
-use Rattle.tally.specs.declared.Tallied.TheVariants.{Counted, Refused}
 use Rattle.tally.specs.Tally.{count_at, place_of, most_count, counts_rule, room_rule, minutes_rule, with_landing}
 use Rattle.tally.specs.Outcome.{TallyOutcome, landing_verdict, landing_outcome}
 
 -- a landing that is not counted leaves the tally
 abbrev pub not_counted : (number : ℕ) → List ℕ → TallyOutcome
-not_counted number tally = record { answer = Refused number 0; tally = tally }
+not_counted number tally = record { answer = refused number 0; tally = tally }
 
 module _ (f : Format) (l : Landing) (tally : List ℕ) where
   pub minute_refused : minutes_rule f l ≡ false → landing_outcome f l tally ≡ not_counted 14 tally
@@ -31,7 +32,7 @@ module _ (f : Format) (l : Landing) (tally : List ℕ) where
   full_refused timely kept full = simp (timely, kept, le-ltb (count_at tally (place_of f.delay l)) most_count full)
 
   pub landing_counted : minutes_rule f l ≡ true → counts_rule tally ≡ true → count_at tally (place_of f.delay l) < most_count
-      → landing_outcome f l tally ≡ record { answer = Counted; tally = with_landing f.delay l tally }
+      → landing_outcome f l tally ≡ record { answer = Ok tt; tally = with_landing f.delay l tally }
   unfolding landing_outcome landing_verdict room_rule
   landing_counted timely kept room = simp (timely, kept, lt-ltb (count_at tally (place_of f.delay l)) most_count room)
 

@@ -1,21 +1,20 @@
 -- Both calls end in one of the ways of document 02, by the outcomes' rules. Assumes nothing.
-use Prim.Native.Nat.{ℕ, zero, suc, ◌<◌, ◌≤◌}
-use mathlib.Core.Bool.{Bool, true, false, ◌&&◌}
+use Prim.Native.Nat.{ℕ, zero, suc, ◌≤◌}
+use mathlib.Core.Bool.{true, false, ◌&&◌}
 use mathlib.Core.List.{List, [], ◌∷◌}
-use mathlib.Core.Logic.{◌⊎◌, inl, inr, ⊎_elim}
-use mathlib.Core.Path.{◌≡◌, refl, ap, sym, subst, ◌∙◌}
+use mathlib.Core.Logic.{inl, inr}
+use mathlib.Core.Path.{◌≡◌, refl, sym, subst}
 use native.Mathlib.Omega.{arith}
 use lib.Dec.{leb, ltb}
-use lib.ListN.{length, get_or, set, length-set}
+use lib.ListN.{length, length-set}
 use lib.Seq.{get_or-set_same, get_or-set_other}
-use borrow.Author.Tests.{leb-true, leb-false, le-leb, ltb-true, ltb-false}
-use Rattle.laws.proofs.Tests.{ifb, both, both_left, both_right}
+use borrow.Author.Tests.{leb-true, leb-false, ltb-true, ltb-false}
+use Rattle.laws.proofs.Tests.{ifb, both_left, both_right}
 use Rattle.file_layout.specs.declared.Format.{Format}
 use Rattle.tally.specs.declared.Landing.{Landing}
-use Rattle.tally.specs.declared.Tallied.{Tallied}
-use Rattle.tally.specs.Tally.{counts, count_at, place_of, most_count, counts_rule, room_rule, minutes_rule, with_landing}
+use Rattle.tally.specs.Tally.{counts, count_at, place_of, most_count, counts_rule, minutes_rule, with_landing}
 use Rattle.tally.specs.Outcome.{TallyOutcome, landing_outcome}
-use Rattle.tally.specs.Returned.{MinuteAbove, CountAbove, CountFull, GrownAt, LandingEnds, minute, above, full, counted}
+use Rattle.tally.specs.Returned.{MinuteAbove, CountAbove, GrownAt, LandingEnds, minute, above, full, counted}
 use Rattle.tally.proofs.Places.{place_inside}
 use Rattle.tally.proofs.Answers.{minute_refused, count_refused, full_refused, landing_counted}
 

@@ -8,9 +8,9 @@ use lib.Dec.{eqb, ltb}
 use lib.ListN.{length}
 use borrow.Author.Tests.{eqb-true, eqb-false, ltb-true, ltb-false, le-leb}
 use Rattle.laws.proofs.Tests.{ifb, both}
+use Rattle.std.specs.Prelude.{Ok}
 use Rattle.file_layout.specs.declared.Format.{Format}
 use Rattle.tally.specs.declared.Landing.{Landing}
-use Rattle.tally.specs.declared.Tallied.TheVariants.{Counted}
 use Rattle.tally.specs.Tally.{counts, count_at, place_of, most_count, counts_rule, with_landing}
 use Rattle.tally.specs.Outcome.{landing_outcome}
 use Rattle.tally.proofs.Ends.{counts_kept, counts_broken, one_grows, landing_ends}
@@ -46,7 +46,7 @@ still_kept top l tally sized kept room place =
         (λ no same. absurd (apart_from (omega (arith, ltb-false c most_count same)))) refl
 
 -- so of a tally in which a landing is counted no count is above its limit, before and afterwards
-pub counted_keeps : (f : Format) (l : Landing) (tally : List ℕ) → length tally ≡ counts f.delay → (landing_outcome f l tally).answer ≡ Counted
+pub counted_keeps : (f : Format) (l : Landing) (tally : List ℕ) → length tally ≡ counts f.delay → (landing_outcome f l tally).answer ≡ Ok tt
     → (counts_rule tally ≡ true) × (counts_rule (landing_outcome f l tally).tally ≡ true)
 counted_keeps f l tally sized told =
     let found = counted_told (landing_ends f l tally) told in
@@ -58,3 +58,7 @@ counted_keeps f l tally sized told =
       ap counts_rule found.3
           ∙ limit_kept (with_landing f.delay l tally) (λ place inside. still_kept f.delay l tally sized (counts_kept tally kept) found.2 place),
     )
+
+pub kept_on : (f : Format) (l : Landing) (tally tally' : List ℕ) → length tally ≡ counts f.delay → tally' ≡ (landing_outcome f l tally).tally
+    → (landing_outcome f l tally).answer ≡ Ok tt → counts_rule tally ≡ counts_rule tally'
+kept_on f l tally tally' sized left told = let kept = counted_keeps f l tally sized told in kept.0 ∙ sym kept.1 ∙ ap counts_rule (sym left)

@@ -1,24 +1,21 @@
 -- A log tallied landing by landing from an empty tally has the tally of its landings, in whatever order they stand. Assumes nothing.
-use Prim.Native.Nat.{ℕ, zero, suc, ◌+◌, ◌<◌, ◌≤◌}
-use mathlib.Core.Bool.{Bool, true, false, cond, ◌&&◌}
+use Prim.Native.Nat.{ℕ, suc, ◌+◌, ◌<◌, ◌≤◌}
+use mathlib.Core.Bool.{true, cond}
 use mathlib.Core.List.{List, [], ◌∷◌, ◌++◌}
 use mathlib.Core.Logic.{◌↔◌}
 use mathlib.Core.Path.{◌≡◌, refl, ap, sym, subst, ◌∙◌}
 use native.Mathlib.Omega.{arith}
 use lib.Dec.{eqb, ltb}
-use lib.ListN.{length, get_or, replicate, length-replicate, get_or-replicate, get_or-eq_default}
+use lib.ListN.{length, length-replicate, get_or-replicate, get_or-eq_default}
 use lib.Seq.{ext_get_or}
-use borrow.Author.Tests.{eqb-true, eqb-false, ltb-true, ltb-false, le-leb, eq-eqb}
-use Rattle.laws.proofs.Tests.{ifb, both, cond_true}
-use Rattle.delay_tables.specs.Rising.{values_from}
+use borrow.Author.Tests.{eqb-true, eqb-false, ltb-true, ltb-false, eq-eqb}
+use Rattle.laws.proofs.Tests.{ifb, cond_true}
 use Rattle.delay_tables.proofs.Values.{length_values, value_at, values_same}
+use Rattle.std.specs.Prelude.{Result, Ok}
+use Rattle.timetable.specs.declared.Refusal.{Refusal}
 use Rattle.file_layout.specs.declared.Format.{Format}
 use Rattle.tally.specs.declared.Landing.{Landing}
-use Rattle.tally.specs.declared.Tallied.{Tallied}
-use Rattle.tally.specs.declared.Tallied.TheVariants.{Counted, Refused as NotCounted}
-use Rattle.tally.specs.declared.Logged.{Logged}
-use Rattle.tally.specs.declared.Logged.TheVariants.{All, Refused}
-use Rattle.tally.specs.Tally.{counts, count_at, place_of, most_count, counts_rule, minutes_rule, empty_tally, with_landing}
+use Rattle.tally.specs.Tally.{counts, count_at, place_of, most_count, minutes_rule, empty_tally, with_landing}
 use Rattle.tally.specs.Log.{landings_at, tally_of, GrownBy, Reordered, InWeeks, InLimit}
 use Rattle.tally.specs.Log as words
 use Rattle.tally.specs.Outcome.{TallyOutcome, landing_outcome}
@@ -91,17 +88,17 @@ module _ (f : Format) (i : ℕ) (l : Landing) (log : List Landing) (tally : List
       in
       omega (arith, own)
 
-  on_counted : landing_outcome f l tally ≡ record { answer = Counted; tally = grown_tally }
-      → ((log_outcome f (suc i) log grown_tally).answer ≡ All (suc i + length log)) × GrownBy f.delay log grown_tally (log_outcome f (suc i) log grown_tally).tally
-      → ((log_outcome f i (l ∷ log) tally).answer ≡ All (i + length (l ∷ log))) × GrownBy f.delay (l ∷ log) tally (log_outcome f i (l ∷ log) tally).tally
+  on_counted : landing_outcome f l tally ≡ record { answer = Ok tt; tally = grown_tally }
+      → ((log_outcome f (suc i) log grown_tally).answer ≡ Ok (suc i + length log)) × GrownBy f.delay log grown_tally (log_outcome f (suc i) log grown_tally).tally
+      → ((log_outcome f i (l ∷ log) tally).answer ≡ Ok (i + length (l ∷ log))) × GrownBy f.delay (l ∷ log) tally (log_outcome f i (l ∷ log) tally).tally
   unfolding log_outcome
   on_counted told behind =
       subst
       (λ (o : TallyOutcome).
-      ((goes_on i o.tally (log_outcome f (suc i) log o.tally) o.answer).answer ≡ All (i + suc (length log)))
+      ((goes_on i o.tally (log_outcome f (suc i) log o.tally) o.answer).answer ≡ Ok (i + suc (length log)))
       × GrownBy f.delay (l ∷ log) tally (goes_on i o.tally (log_outcome f (suc i) log o.tally) o.answer).tally)
       (sym told) (
-        behind.0 ∙ ap All (let same : suc i + length log ≡ i + suc (length log) = omega arith in same),
+        behind.0 ∙ ap Ok (let same : suc i + length log ≡ i + suc (length log) = omega arith in same),
         record {
           adds = λ place. behind.1.adds place ∙ adds_one place;
           same_length = behind.1.same_length ∙ (one_grows f.delay l tally sized).same_length;
@@ -111,10 +108,10 @@ module _ (f : Format) (i : ℕ) (l : Landing) (log : List Landing) (tally : List
 -- no refusal as long as the minutes are within the version's last and no count passes its limit
 pub all_counted : (f : Format) (i : ℕ) (log : List Landing) (tally : List ℕ) → length tally ≡ counts f.delay → InWeeks f log
     → ((place : ℕ) → place < counts f.delay → count_at tally place + landings_at f.delay log place ≤ most_count)
-    → ((log_outcome f i log tally).answer ≡ All (i + length log)) × GrownBy f.delay log tally (log_outcome f i log tally).tally
+    → ((log_outcome f i log tally).answer ≡ Ok (i + length log)) × GrownBy f.delay log tally (log_outcome f i log tally).tally
 unfolding log_outcome landings_at
 all_counted f i [] tally sized words.none within =
-    (ap All (let same : i ≡ i + 0 = omega arith in same), record { adds = λ place. omega arith; same_length = refl })
+    (ap Ok (let same : i ≡ i + 0 = omega arith in same), record { adds = λ place. omega arith; same_length = refl })
 all_counted f i (l ∷ log) tally sized (words.next timely later) within =
     on_counted f i l log tally sized
     (landing_counted f l tally timely (limit_kept tally (λ place inside. omega (arith, within place (omega (arith, inside, sized)))))
@@ -123,9 +120,9 @@ all_counted f i (l ∷ log) tally sized (words.next timely later) within =
     (λ place inside. omega (arith, within place inside, adds_one f i l log tally sized place)))
 
 -- where all of a log is counted, its first landing is, and so is the rest
-told_next : {f : Format} {l : Landing} {tally tally' : List ℕ} {answer : Tallied} (i : ℕ) (log : List Landing) (n : ℕ)
-    → LandingEnds f l tally answer tally' → (goes_on i tally' (log_outcome f (suc i) log tally') answer).answer ≡ All n
-    → (MinuteAbove f l → ⊥) × (CountFull f l tally → ⊥) × ((log_outcome f (suc i) log (with_landing f.delay l tally)).answer ≡ All n)
+told_next : {f : Format} {l : Landing} {tally tally' : List ℕ} {answer : Result Unit (Refusal ℕ)} (i : ℕ) (log : List Landing) (n : ℕ)
+    → LandingEnds f l tally answer tally' → (goes_on i tally' (log_outcome f (suc i) log tally') answer).answer ≡ Ok n
+    → (MinuteAbove f l → ⊥) × (CountFull f l tally → ⊥) × ((log_outcome f (suc i) log (with_landing f.delay l tally)).answer ≡ Ok n)
 told_next i log n (ways.minute high) told = absurd (let z : ◌≡◌ {A = ℕ} 0 1 = cc in let y : ⊥ = omega arith in y)
 told_next i log n (ways.above timely high) told = absurd (let z : ◌≡◌ {A = ℕ} 0 1 = cc in let y : ⊥ = omega arith in y)
 told_next i log n (ways.full timely kept at) told = absurd (let z : ◌≡◌ {A = ℕ} 0 1 = cc in let y : ⊥ = omega arith in y)
@@ -138,7 +135,7 @@ minutes_true f l timely =
 
 -- a log of which all is counted: its minutes are within the version's last, and no count passes its limit
 told_clear : (f : Format) (i : ℕ) (log : List Landing) (tally : List ℕ) (n : ℕ) → length tally ≡ counts f.delay
-    → ((place : ℕ) → count_at tally place ≤ most_count) → (log_outcome f i log tally).answer ≡ All n
+    → ((place : ℕ) → count_at tally place ≤ most_count) → (log_outcome f i log tally).answer ≡ Ok n
     → InWeeks f log × ((place : ℕ) → count_at tally place + landings_at f.delay log place ≤ most_count)
 unfolding log_outcome landings_at
 told_clear f i [] tally n sized kept told = (words.none, λ place. omega (arith, kept place))
@@ -165,15 +162,15 @@ module _ (f : Format) (log : List Landing) where
   abbrev outcome : LogOutcome
   outcome = log_outcome f 0 log (empty_tally f.delay)
 
-  counted_if : InWeeks f log → InLimit f.delay log → (outcome.answer ≡ All (length log)) × GrownBy f.delay log (empty_tally f.delay) outcome.tally
+  counted_if : InWeeks f log → InLimit f.delay log → (outcome.answer ≡ Ok (length log)) × GrownBy f.delay log (empty_tally f.delay) outcome.tally
   counted_if timely within =
       let all =
       all_counted f 0 log (empty_tally f.delay) empty_length timely
       (λ place inside. omega (arith, empty_at place, within place inside))
       in
-      (all.0 ∙ ap All (let same : 0 + length log ≡ length log = omega arith in same), all.1)
+      (all.0 ∙ ap Ok (let same : 0 + length log ≡ length log = omega arith in same), all.1)
 
-  clear_if : (n : ℕ) → outcome.answer ≡ All n → InWeeks f log × InLimit f.delay log
+  clear_if : (n : ℕ) → outcome.answer ≡ Ok n → InWeeks f log × InLimit f.delay log
   clear_if n told =
       let clear =
       told_clear f 0 log (empty_tally f.delay) n empty_length (λ place. omega (arith, empty_at place)) told
@@ -181,11 +178,11 @@ module _ (f : Format) (log : List Landing) where
       (clear.0, λ place inside. omega (arith, clear.1 place))
 
   -- a log is counted in full exactly if its minutes are within the version's last and no count of its tally passes the limit
-  pub log_exactly : (outcome.answer ≡ All (length log)) ↔ (InWeeks f log × InLimit f.delay log)
+  pub log_exactly : (outcome.answer ≡ Ok (length log)) ↔ (InWeeks f log × InLimit f.delay log)
   log_exactly = (clear_if (length log), λ clear. (counted_if clear.0 clear.1).0)
 
   -- and then its tally is that of its landings
-  pub log_tallied : (n : ℕ) → outcome.answer ≡ All n → (n ≡ length log) × (outcome.tally ≡ tally_of f.delay log)
+  pub log_tallied : (n : ℕ) → outcome.answer ≡ Ok n → (n ≡ length log) × (outcome.tally ≡ tally_of f.delay log)
   log_tallied n told =
       let clear = clear_if n told in
       let all = counted_if clear.0 clear.1 in
@@ -210,8 +207,8 @@ same_weeks f words.swapped (words.next own (words.next second later)) = words.ne
 same_weeks f (words.again first second) timely = same_weeks f second (same_weeks f first timely)
 
 pub reordered_tallied : (f : Format) {log other : List Landing} → Reordered log other
-    → (log_outcome f 0 log (empty_tally f.delay)).answer ≡ All (length log)
-    → ((log_outcome f 0 other (empty_tally f.delay)).answer ≡ All (length other))
+    → (log_outcome f 0 log (empty_tally f.delay)).answer ≡ Ok (length log)
+    → ((log_outcome f 0 other (empty_tally f.delay)).answer ≡ Ok (length other))
     × ((log_outcome f 0 other (empty_tally f.delay)).tally ≡ (log_outcome f 0 log (empty_tally f.delay)).tally)
 reordered_tallied f {log} {other} reordered told =
     let clear = (log_exactly f log).0 told in

@@ -7,7 +7,7 @@ use lib.ListN.{set}
 use Rattle.numbers.specs.Numbers.{u16_at}
 use Rattle.file_layout.specs.Format.{version_one}
 use Rattle.delay_tables.specs.Rising.{values_from}
-use Rattle.tally.specs.Landing.{landing_at, lateness, counted_as}
+use Rattle.tally.specs.Landing.{landing_at, lateness}
 use Rattle.tally.specs.Tally.{count_at, place_of, empty_tally, counts_rule, room_rule, minutes_rule, with_landing}
 use Rattle.tally.specs.Log.{landings_at, tally_of}
 use Rattle.tally.specs.LogOutcome.{LogOutcome, landings_from, landings_in, log_outcome, log_answer}

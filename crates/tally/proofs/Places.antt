@@ -1,16 +1,14 @@
 -- Laws on the place of a landing in a tally. Assumes nothing.
-use Prim.Native.Nat.{ℕ, suc, ◌+◌, ◌-◌, ◌<◌, ◌≤◌}
-use mathlib.Core.Bool.{true, cond}
-use mathlib.Core.Path.{◌≡◌, refl, ap, sym, ◌∙◌}
+use Prim.Native.Nat.{ℕ, ◌+◌, ◌-◌, ◌<◌, ◌≤◌, min}
+use mathlib.Core.Bool.{cond}
+use mathlib.Core.Path.{◌≡◌, ◌∙◌}
 use native.Mathlib.Omega.{arith}
 use lib.Dec.{leb}
-use borrow.Author.Tests.{le-leb, lt-leb, leb-true}
-use Rattle.laws.proofs.Tests.{ifb, both_left, both_right, cond_true, cond_false}
-use Rattle.file_layout.specs.declared.Format.{Format}
+use borrow.Author.Tests.{le-leb, lt-leb, leb-true, leb-false}
+use Rattle.laws.proofs.Tests.{ifb, cond_true, cond_false}
 use Rattle.tally.specs.declared.Landing.{Landing}
 use Rattle.tally.specs.Landing.{lateness, counted_as}
-use Rattle.tally.specs.Tally.{counts, apart, place_of, minutes_rule}
-use Rattle.tally.specs.Fits.{Tallyable}
+use Rattle.tally.specs.Tally.{counts, apart, place_of}
 use Rattle.tally.proofs.Differences.{counted_late}
 
 place_late : (top : ℕ) (l : Landing) → counted_as (lateness l) ≤ top → place_of top l ≡ counted_as (lateness l)
@@ -21,14 +19,7 @@ place_apart : (top : ℕ) (l : Landing) → top < counted_as (lateness l) → pl
 unfolding place_of
 place_apart top l over = cond_false _ _ (lt-leb (counted_as (lateness l)) top over)
 
--- by the counted lateness
-pub late_placed : {late : ℕ} (top : ℕ) (l : Landing) → late ≡ counted_as (lateness l) → late ≤ top → late ≡ place_of top l
-late_placed top l counted within = counted ∙ sym (place_late top l (omega (arith, counted)))
-
-pub over_placed : {late : ℕ} (top : ℕ) (l : Landing) → late ≡ counted_as (lateness l) → top < late → top + 1 ≡ place_of top l
-over_placed top l counted over = omega (arith, place_apart top l (omega (arith, counted)))
-
--- the same in the minutes of a landing: early ones at 0, which the difference is then
+-- in the minutes of a landing: early ones at 0, which the difference is then
 pub place_by_minutes : (top : ℕ) (l : Landing) → l.actual - l.planned ≤ top → place_of top l ≡ l.actual - l.planned
 place_by_minutes top l within = place_late top l (omega (arith, counted_late l)) ∙ counted_late l
 
@@ -41,12 +32,9 @@ place_inside top l =
     ifb (λ t. cond t (counted_as (lateness l)) (apart top) < counts top) (leb (counted_as (lateness l)) top)
     (λ within. omega (arith, leb-true (counted_as (lateness l)) top within)) (λ over. omega arith)
 
--- minutes within the version's last are small
-pub minutes_small : (f : Format) (l : Landing) → Tallyable f → minutes_rule f l ≡ true
-    → (l.planned < 2147483648) × (l.actual < 2147483648) × (f.delay < 2147483648)
-unfolding minutes_rule
-minutes_small f l limits kept = (
-  omega (arith, leb-true l.planned f.lastminute (both_left _ _ kept), limits.minutes),
-  omega (arith, leb-true l.actual f.lastminute (both_right (leb l.planned f.lastminute) _ kept), limits.minutes),
-  limits.delays,
-)
+-- the minutes that a landing is late, or the place behind the top one if they are more
+pub place_capped : (top : ℕ) (l : Landing) → min (l.actual - l.planned) (top + 1) ≡ place_of top l
+place_capped top l =
+    ifb (λ t. min (l.actual - l.planned) (top + 1) ≡ place_of top l) (leb (l.actual - l.planned) top)
+    (λ within. omega (arith, leb-true _ top within, place_by_minutes top l (leb-true _ top within)))
+    (λ over. omega (arith, leb-false _ top over, place_over top l (leb-false _ top over)))

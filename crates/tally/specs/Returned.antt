@@ -1,9 +1,9 @@
 -- What is true of what the call for a landing returns: how it ends, in document 02's words.
-use Rattle.std.specs.Prelude.{ℕ, suc, ◌<◌, List, ◌⊎◌, ◌≡◌, length}
+use Rattle.std.specs.Prelude.{ℕ, suc, ◌<◌, List, ◌⊎◌, ◌≡◌, length, Result, Ok}
+use Rattle.timetable.specs.Verdict.{refused}
+use Rattle.timetable.specs.declared.Refusal.{Refusal}
 use Rattle.file_layout.specs.declared.Format.{Format}
 use Rattle.tally.specs.declared.Landing.{Landing}
-use Rattle.tally.specs.declared.Tallied.{Tallied}
-use Rattle.tally.specs.declared.Tallied.TheVariants.{Counted, Refused}
 use Rattle.tally.specs.Tally.{count_at, place_of, most_count, with_landing}
 
 -- a minute above the version's last, either one
@@ -25,9 +25,9 @@ pub record GrownAt (place : ℕ) (tally tally' : List ℕ) : Type 0 where
   pub same_length : length tally' ≡ length tally
 
 -- how a landing ends
-pub data LandingEnds (f : Format) (l : Landing) (tally : List ℕ) : Tallied → List ℕ → Type 0 where
-  minute : MinuteAbove f l → LandingEnds f l tally (Refused 14 0) tally
-  above : (MinuteAbove f l → ⊥) → CountAbove tally → LandingEnds f l tally (Refused 15 0) tally
-  full : (MinuteAbove f l → ⊥) → (CountAbove tally → ⊥) → CountFull f l tally → LandingEnds f l tally (Refused 15 0) tally
+pub data LandingEnds (f : Format) (l : Landing) (tally : List ℕ) : Result Unit (Refusal ℕ) → List ℕ → Type 0 where
+  minute : MinuteAbove f l → LandingEnds f l tally (refused 14 0) tally
+  above : (MinuteAbove f l → ⊥) → CountAbove tally → LandingEnds f l tally (refused 15 0) tally
+  full : (MinuteAbove f l → ⊥) → (CountAbove tally → ⊥) → CountFull f l tally → LandingEnds f l tally (refused 15 0) tally
   counted : (MinuteAbove f l → ⊥) → (CountAbove tally → ⊥) → (CountFull f l tally → ⊥)
-      → LandingEnds f l tally Counted (with_landing f.delay l tally)
+      → LandingEnds f l tally (Ok tt) (with_landing f.delay l tally)

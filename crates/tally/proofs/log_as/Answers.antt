@@ -1,85 +1,33 @@
--- `tally::log_as` meets its contract: the whole log's outcome is that of what is left of it from here. Assumes nothing.
-use Prim.Native.Nat.{◌-◌}
+-- Where a landing is refused, the log's refusal is the landing's with its number in the log as the place.
+use Rattle.std.proofs.Common.{rules, ◌≡◌, ℕ, Result, Ok, Err}
+use Rattle.std.specs.Result.{MatchResult}
+use Rattle.std.proofs.lemmas.Result.{err_from_is_err_and, MatchResult-weaker}
 use mathlib.Core.Path.{refl, ap, sym, ◌∙◌}
-use native.Mathlib.Omega.{arith}
-use lib.ListN.{length}
-use Rattle.tally.specs.Tally.{counts_rule}
-use Rattle.tally.specs.LogOutcome.{LogOutcome}
-use Rattle.tally.proofs.Kept.{counted_keeps}
-use Rattle.tally.proofs.LogSteps.{outcome_length, log_on, log_stopped, log_end, log_whole}
+use Rattle.timetable.specs.declared.Refusal.{Refusal}
+use Rattle.tally.specs.LogOutcome.{LogOutcome, landings_in, log_outcome}
+use Rattle.tally.proofs.LogSteps.{log_stopped}
 use Rattle.tally.proofs.log_as.Goals as goal
 
-pub loop-i-init : goal.loop-i-init
-loop-i-init c =
-    let a = c.args in
-    (omega arith, omega arith, refl, c.counts_rule-kept.ensures, log_whole a.f a.log.now a.tally.now)
+placed_anew : (counted : Result Unit (Refusal ℕ)) (i : ℕ) (refusal : Refusal ℕ)
+    → MatchResult counted (λ x. ◌≡◌ {A = Result Unit (Refusal ℕ)} (Err refusal) (Ok x)) (λ e. refusal ≡ record { number = e.number; place = i })
+    → (e : Refusal ℕ) × (counted ≡ Err e) × (refusal ≡ record { number = e.number; place = i })
+placed_anew (Ok x) i refusal told = absurd (let z : ⊥ = cc in z)
+placed_anew (Err e) i refusal told = (e, refl, told)
 
-pub overflow_mul-i : goal.overflow_mul-i
-overflow_mul-i c = omega arith
-
-pub landing_at-requires : goal.landing_at-requires
-landing_at-requires c = omega arith
-
-pub count-tallied-requires : goal.count-tallied-requires
-count-tallied-requires c =
-    let at = c in
-    let start = c in
-    (record { limits = start.requires.limits; sized = at.loop-i.invariant.2 ∙ start.requires.sized }, at.loop-i.invariant.3)
-
-pub shape_of-tally-in-Refused : goal.shape_of-tally-in-Refused
-shape_of-tally-in-Refused c =
-    let called = c in
-    let at = c in
-    let a = at.args in
-    ap length called.count-tallied.ensures.1 ∙ outcome_length a.f _ at.loop-i.tally ∙ at.loop-i.invariant.2
-
-pub returns-in-Refused : goal.returns-in-Refused
-returns-in-Refused c =
-    let arm = c in
-    let called = c in
-    let read = c in
-    let at = c in
-    let a = at.args in
-    let told =
-    sym
-    (log_stopped a.f a.log.now _ at.loop-i.i _ at.loop-i.tally _ read.loop-i-test.true read.landing_at.ensures
-    called.count-tallied.ensures.1 _ _ (sym called.count-tallied.ensures.0 ∙ arm.in-Refused.is))
-    ∙ at.loop-i.invariant.4
+pub returns-in_err-map_err : goal.returns-in_err-map_err
+returns-in_err-map_err c =
+    let anew =
+    placed_anew c.count.result c.in-Some.i c.in_err-map_err.field-0.0
+    (MatchResult-weaker c.count.result (c.in_err-map_err.ensures {u = tt}).cases (λ x is. is) (λ e is. search rules))
     in
-    (ap (λ (o : LogOutcome). o.answer) told, ap (λ (o : LogOutcome). o.tally) told)
-
-pub overflow_add-i : goal.overflow_add-i
-overflow_add-i c = omega arith
-
-pub loop-i-smaller : goal.loop-i-smaller
-loop-i-smaller c = omega arith
-
-pub loop-i-preserved : goal.loop-i-preserved
-loop-i-preserved c =
-    let called = c in
-    let read = c in
-    let at = c in
-    let start = c in
-    let a = start.args in
-    let kept =
-    counted_keeps a.f _ at.loop-i.tally (at.loop-i.invariant.2 ∙ start.requires.sized) (sym called.count-tallied.ensures.0 ∙ c.in_default.is)
-    in (
-      omega arith,
-      omega arith,
-      ap length called.count-tallied.ensures.1 ∙ outcome_length a.f _ at.loop-i.tally ∙ at.loop-i.invariant.2,
-      at.loop-i.invariant.3 ∙ kept.0 ∙ sym kept.1 ∙ ap counts_rule (sym called.count-tallied.ensures.1),
-      sym
-          (log_on a.f a.log.now _ at.loop-i.i _ at.loop-i.tally _ read.loop-i-test.true read.landing_at.ensures
-          called.count-tallied.ensures.1 (sym called.count-tallied.ensures.0 ∙ c.in_default.is))
-          ∙ at.loop-i.invariant.4,
-    )
-
-pub shape_of-tally : goal.shape_of-tally
-shape_of-tally c = c.loop-i.invariant.2
-
-pub returns : goal.returns
-returns c =
-    let at = c in
-    let a = at.args in
-    let told = sym (log_end a.f a.log.now _ at.loop-i.i at.loop-i.tally c.loop-i-test.false at.loop-i.invariant.0) ∙ at.loop-i.invariant.4 in
-    (ap (λ (o : LogOutcome). o.answer) told, ap (λ (o : LogOutcome). o.tally) told)
+    let answer = err_from_is_err_and c.from_residual.result c.from_residual.ensures.1 in
+    let turn = (c.in-Some.ensures {u = tt}).steps in
+    let four = c.loop-i.invariant.four in
+    let stopped =
+    log_stopped c.args.f c.in-Some.i c.loop-i.i-iterator.iter.rest.now c.in-Some.bytes.now c.next.new.self.iter.rest.now c.landing_of.result
+    c.loop-i.tally c.count.new.tally turn.0.1.0 (cc) c.landing_of.ensures c.count.ensures.1 anew.0 (sym c.count.ensures.0 ∙ anew.1)
+    in
+    let outcome =
+    sym stopped ∙ ap (λ (k : ℕ). log_outcome c.args.f k (landings_in c.loop-i.i-iterator.iter.rest.now) c.loop-i.tally) turn.1 ∙ c.loop-i.invariant.outcome
+    in
+    (answer.1 ∙ ap Err (answer.2 ∙ anew.2) ∙ ap (λ (o : LogOutcome). o.answer) outcome, ap (λ (o : LogOutcome). o.tally) outcome)
