@@ -1,5 +1,5 @@
 -- Getting off a row whose landing stop's stack is there: what the stack answers, and what each way out is worth. Assumes nothing.
-use Prim.Native.Nat.{ℕ, suc, pred, ◌+◌, ◌-◌, ◌*◌, ◌≤◌, ◌<◌}
+use Prim.Native.Nat.{ℕ, suc, pred, ◌+◌, ◌-◌, ◌*◌, ◌/◌, ◌≤◌, ◌<◌}
 use mathlib.Core.Bool.{true, false}
 use mathlib.Core.List.{List, []}
 use mathlib.Core.Option.{none, some}
@@ -15,7 +15,7 @@ use Rattle.timetable.specs.Classes.{share_total}
 use Rattle.timetable.specs.Timetable.{maximum_delay}
 use Rattle.timetable.specs.declared.Row.{Row}
 use Rattle.plan_cells.specs.Cells.{cell_of, missing}
-use Rattle.plan_stacks.specs.Stacks.{stack_start, stack_size, Falling, FirstOpenAt, entry_departure, entry_worth}
+use Rattle.plan_stacks.specs.Stacks.{key_step, stack_start, stack_size, Falling, FirstOpenAt, entry_departure, entry_worth}
 use Rattle.plans.specs.declared.Goal.{Goal}
 use Rattle.plans.specs.Rides.{ready}
 use Rattle.plans.specs.Journeys.{within}
@@ -149,6 +149,17 @@ module _ {row : Row} {tables work shares : List ℕ} {chosen : List Valued} (giv
               omega (arith, worths (size - suc k) k place, (fits (size - suc k) k place).worth);
           catches = catches;
         }
+
+  -- the last landing, and when the bottom ride departs, as they are read
+  pub lands_by : {longest : ℕ} → longest ≡ get_or tables (256 * row.class + 0) 0 → row.arrival + longest ≡ row.arrival + maximum_delay shares
+  lands_by read =
+      let there : 256 * row.class + 0 ≡ 256 * row.class = omega arith in
+      ap (λ m. row.arrival + m) (read ∙ ap (λ k. get_or tables k 0) there ∙ given.block.longest_held)
+
+  pub bottom_is : {start departure : ℕ} → start ≡ stack_start work row.land → departure ≡ get_or work start 0 / key_step
+      → departure ≡ entry_departure work (stack_start work row.land) 0
+  bottom_is {start} there read =
+      let bottom : start ≡ stack_start work row.land + 2 * 0 = omega arith in read ∙ ap (λ x. get_or work x 0 / key_step) bottom
 
   -- the expected delay in ticks is below that of the longest table
   pub expected_fits : 256 * row.arrival + get_or tables (256 * row.class + 1) 0 < 4294967296

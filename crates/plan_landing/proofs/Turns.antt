@@ -11,7 +11,7 @@ use Rattle.laws.proofs.Tests.{ifb}
 use Rattle.timetable.specs.Classes.{sum}
 use Rattle.plans.specs.Worth.{weigh}
 use Rattle.plan_stacks.specs.Stacks.{key_step, entry_departure}
-use Rattle.plan_landing.specs.Boarding.{Boarding}
+use Rattle.plan_landing.specs.Boarding.{Boarding, SomeBoarding}
 use Rattle.plan_landing.proofs.Runs.{longest_on, sum_rest, sum_take_grows, weigh_on, weigh_end}
 
 -- `entry` is the cell of the entry at `place`; `passed` delays are counted, which catch the entries above it
@@ -155,3 +155,21 @@ module _ {work tables : List ℕ} {start first soon last cell : ℕ} {shares : L
         ∙ ap (λ x. (4096 - x) * get_or work (entry + 1) 0) (sym t.counted)
         in
         omega (arith, t.so_far)
+
+-- what each turn begins with, for every stack, shares and worths that the cells stand for
+pub record Going (work tables : List ℕ) (at soon last cell entry departure done total : ℕ) : Type 0 where
+  pub room : Room work soon entry departure done total
+  pub more : departure < last → MoreRoom tables soon cell entry departure done
+  pub turn :
+      (start first : ℕ) (shares : List ℕ) (caught : ℕ → ℕ) → at ≡ start + 2 * first
+      → Boarding work tables start first soon last cell shares caught
+      → Turn work start first soon shares caught entry departure done total
+
+pub going : {work tables : List ℕ} {at soon last cell entry departure done total : ℕ} → SomeBoarding work tables at soon last cell
+    → ((start first : ℕ) (shares : List ℕ) (caught : ℕ → ℕ) → at ≡ start + 2 * first
+    → Boarding work tables start first soon last cell shares caught
+    → Turn work start first soon shares caught entry departure done total)
+    → Going work tables at soon last cell entry departure done total
+going some turn =
+    let here = turn some.start some.first some.shares some.caught some.stands some.boarding in
+    record { room = room some.boarding here; more = more_room some.boarding here; turn = turn }

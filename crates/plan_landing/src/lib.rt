@@ -23,7 +23,7 @@ use timetable::Row;
 // A share counts 4,096ths.
 const SHARE_TOTAL: u64 = 4096;
 
-// What getting off is worth; NONE where it is not open.
+// What getting off is worth; NONE where it is not open, for the scan keeps it in a cell, above all worths: with an Option it would be told apart first.
 pub fn getting_off(row: Row, tables: &[u32], goal: Goal, work: &[u32]) -> u32
     requires { SomeLandable row tables.now work.now × (goal.gate ≤ most_gate) }
     ensures { (shares : List ℕ) (chosen : List Valued) → Landable row tables.now work.now shares chosen
@@ -60,7 +60,8 @@ fn bounded(bound: usize, minute: usize) -> bool
 
 // The sum over delays of share x worth of the ride caught, in runs of delays that catch the same ride,
 // divided by 4,096 and rounded up. The first entry caught is at cell `at`; `soon` is when one who lands
-// at a is ready, `last` at a + M, `shares` the cell of the class's first cumulative share.
+// at a is ready, `last` at a + M, `shares` the cell of the class's first cumulative share. `while`: down the
+// stack to the first entry that departs late enough, no index is counted.
 fn changing(work: &[u32], at: usize, soon: usize, last: usize, tables: &[u32], shares: usize) -> u32
     requires { SomeBoarding work.now tables.now at soon last shares }
     ensures { (start first : ℕ) (held : List ℕ) (caught : ℕ → ℕ) → at ≡ start + 2 * first
