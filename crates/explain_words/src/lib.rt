@@ -19,11 +19,7 @@ pub fn say_number(out: &Output, words: &[u8], number: usize) {
 // Words, then a number and the thing that it counts, which has a form for 1 and one for all others.
 pub fn say_count(out: &Output, words: &[u8], count: usize, one: &[u8], many: &[u8]) {
     say_number(out, words, count);
-    if count == 1 {
-        say(out, one);
-    } else {
-        say(out, many);
-    }
+    say(out, if count == 1 { one } else { many });
 }
 
 // Words, then a time.
@@ -45,13 +41,5 @@ pub fn say_expected(out: &Output, words: &[u8], ticks: u32) {
 
 fn say_clock(out: &Output, time: Minute) {
     let text = time.time_text();
-    let bytes = text.bytes;
-    say_from(out, &bytes, text.start);
-}
-
-// The bytes from `start` on.
-fn say_from(out: &Output, bytes: &[u8], start: usize) {
-    if start < bytes.len() {
-        say(out, &bytes[start..]);
-    }
+    say(out, &text.bytes[text.start..]);
 }

@@ -1,10 +1,8 @@
 // Files at both sides of every line of the check (tests/run_check/make.py packs them): prints what `check` answers to each.
 #![tactic(auto)]
 
-use files::{Output, ended, fail, open_out, write_number, write_out};
-use rooms::{SAILINGS, sailings_room};
-use std::fs::File;
-use std::io::Read;
+use files::{Output, ended, open_out, write_number, write_out};
+use packed::for_each_case;
 use std::process::ExitCode;
 
 fn print_number(out: &Output, n: usize) {
@@ -30,33 +28,11 @@ fn print_answer(out: &Output, file: &[u8]) {
     write_out(out, b"\n");
 }
 
-// Prints what the check answers to the next file; false where there is none.
-fn print_next(out: &Output, from: &mut impl Read, place: usize) -> bool {
-    let mut file = sailings_room();
-    let long = packed::read_next(from, &mut file);
-    if long == SAILINGS {
-        return false;
-    }
-    write_number(out, place);
-    print_answer(out, &file[..long]);
-    true
-}
-
 fn main(rt: HostRuntime) -> ExitCode {
     let out = open_out(rt.stdout(), rt.stderr());
-    let mut from = match File::open(&rt, "files") {
-        Ok(from) => from,
-        Err(error) => {
-            fail(&out, b"files", &error);
-            return ended(&out);
-        }
-    };
-    let mut place: usize = 0;
-    while place < 1000 {
-        if !print_next(&out, &mut from, place) {
-            return ended(&out);
-        }
-        place += 1;
-    }
+    for_each_case(&rt, &out, "files", |_, place, file| {
+        write_number(&out, place);
+        print_answer(&out, file);
+    });
     ended(&out)
 }

@@ -2,48 +2,31 @@
 #![tactic(auto)]
 
 use explain_words::{say, say_number};
-use files::{Ending, Output, ended, fail, open_out};
-use rooms::{SAILINGS, query_room, sailings_room};
-use std::fs::File;
+use files::{Ending, Output, ended, open_out};
+use packed::{for_each_case, read_next};
+use rooms::{QUERY, query_room};
 use std::io::Read;
 use std::process::ExitCode;
 
-// Explains the next two files, each with room of its own; false where there is none.
-fn explain_next(out: &Output, from: &mut impl Read, place: usize) -> bool {
-    let mut sailings = sailings_room();
+// Explains two files, each with room of its own. Where no query fits, all of its room is the query.
+fn explain_case(out: &Output, from: &mut impl Read, place: usize, sailings: &[u8]) {
     let mut query = query_room();
-    let long = packed::read_next(from, &mut sailings);
-    if long == SAILINGS {
-        return false;
-    }
-    let short = packed::read_next(from, &mut query);
+    let short = read_next(from, &mut query).unwrap_or(QUERY);
     say_number(out, b"-- ", place);
     say(out, b"\n");
     explain_all::explain(
         out,
-        &sailings[..long],
+        sailings,
         Ending::Whole,
         &query[..short],
         Ending::Whole,
     );
-    true
 }
 
 fn main(rt: HostRuntime) -> ExitCode {
     let out = open_out(rt.stdout(), rt.stderr());
-    let mut from = match File::open(&rt, "files") {
-        Ok(from) => from,
-        Err(error) => {
-            fail(&out, b"files", &error);
-            return ended(&out);
-        }
-    };
-    let mut place: usize = 0;
-    while place < 1000 {
-        if !explain_next(&out, &mut from, place) {
-            return ended(&out);
-        }
-        place += 1;
-    }
+    for_each_case(&rt, &out, "files", |from, place, sailings| {
+        explain_case(&out, from, place, sailings);
+    });
     ended(&out)
 }

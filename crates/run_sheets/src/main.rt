@@ -1,10 +1,10 @@
 // Stored cases of the sheet (tests/run_sheets/make.py packs them): prints the sheet of each.
 #![tactic(auto)]
 
-use files::{Output, ended, fail, open_out, write_number, write_out};
+use files::{Output, ended, open_out, write_number, write_out};
+use packed::{for_each_case, read_next};
 use rooms::{SAILINGS, sailings_room};
 use sheet_text::{SHEET_ROOM, Sheeted, sheet_room};
-use std::fs::File;
 use std::io::Read;
 use std::process::ExitCode;
 
@@ -21,34 +21,17 @@ fn print_sheet(out: &Output, place: usize, sailings: &[u8], query: &[u8]) {
     }
 }
 
-// Prints the sheet of the next case; false where there is none.
-fn print_next(out: &Output, from: &mut impl Read, place: usize) -> bool {
-    let mut sailings = sailings_room();
+// Prints the sheet of a case. Where no query fits, all of its room is the query.
+fn print_case(out: &Output, from: &mut impl Read, place: usize, sailings: &[u8]) {
     let mut query = sailings_room();
-    let long = packed::read_next(from, &mut sailings);
-    if long == SAILINGS {
-        return false;
-    }
-    let short = packed::read_next(from, &mut query);
-    print_sheet(out, place, &sailings[..long], &query[..short]);
-    true
+    let short = read_next(from, &mut query).unwrap_or(SAILINGS);
+    print_sheet(out, place, sailings, &query[..short]);
 }
 
 fn main(rt: HostRuntime) -> ExitCode {
     let out = open_out(rt.stdout(), rt.stderr());
-    let mut from = match File::open(&rt, "cases") {
-        Ok(from) => from,
-        Err(error) => {
-            fail(&out, b"cases", &error);
-            return ended(&out);
-        }
-    };
-    let mut place: usize = 0;
-    while place < 1000 {
-        if !print_next(&out, &mut from, place) {
-            return ended(&out);
-        }
-        place += 1;
-    }
+    for_each_case(&rt, &out, "cases", |from, place, sailings| {
+        print_case(&out, from, place, sailings);
+    });
     ended(&out)
 }
