@@ -1,31 +1,23 @@
 -- Keys: two are the same exactly if they are equal, and an id's key tells the id. Assumes nothing.
-use Prim.Native.Nat.{ℕ, ◌-◌, ◌≤◌}
+use Prim.Native.Nat.{ℕ, ◌≤◌, ◌<◌, min}
 use mathlib.Core.Bool.{true, false, ◌&&◌, false≢true}
 use mathlib.Core.List.{List, ◌++◌}
 use mathlib.Core.Path.{◌≡◌, refl, sym, ap, subst, ◌∙◌}
 use native.Mathlib.Omega.{arith}
-use borrow.Author.Tests.{eqb-true, eq-eqb}
-use lib.Dec.{eqb}
+use borrow.Author.Tests.{eqb-true, eq-eqb, leb-true, leb-false}
+use lib.Dec.{eqb, leb}
 use lib.ListN.{length, take, drop, length-take, length-drop, take-append-drop, drop_of_length-le}
-use lib.Seq.{take_all}
-use Rattle.laws.proofs.Tests.{ifb, both, both_left, both_right, false_right}
+use lib.Seq.{take_all, take-length, drop-length}
+use Rattle.laws.proofs.Tests.{ifb, both, both_left, both_right, both_both}
 use Rattle.numbers.specs.Bytes.{Bytes}
 use Rattle.gtfs_ids.specs.declared.Key.{Key}
-use Rattle.gtfs_ids.specs.Keys.{packed, packed_behind, key_of, same_key}
+use Rattle.gtfs_ids.specs.Keys.{packed, key_of, same_key}
 use Rattle.gtfs_ids.proofs.Packing.{take_bytes, drop_bytes, packed_once}
 
--- the first of a key's numbers that differs decides
-pub front_decides : (a b : Key) → eqb a.front b.front ≡ false → false ≡ same_key a b
+-- keys are compared by their numbers, one after the other
+pub compared_key : (a b : Key) → same_key a b ≡ (eqb a.front b.front && (eqb a.back b.back && eqb a.size b.size))
 unfolding same_key
-front_decides a b p = rw p
-
-pub back_decides : (a b : Key) → eqb a.back b.back ≡ false → false ≡ same_key a b
-unfolding same_key
-back_decides a b q = rw (q, false_right (eqb a.front b.front))
-
-pub size_decides : (a b : Key) → eqb a.front b.front ≡ true → eqb a.back b.back ≡ true → eqb a.size b.size ≡ same_key a b
-unfolding same_key
-size_decides a b p q = rw (p, q)
+compared_key a b = both_both (eqb a.front b.front) (eqb a.back b.back) (eqb a.size b.size)
 
 pub same_key_equal : (a b : Key) → same_key a b ≡ true → a ≡ b
 unfolding same_key
@@ -51,16 +43,26 @@ different_other_key a b apart = ifb (λ t. t ≡ false) (same_key a b) (λ same.
 pub other_different_key : (a b : Key) → same_key a b ≡ false → a ≡ b → ⊥
 other_different_key a b other e = false≢true (subst (λ t. t ≡ true) other (equal_same_key a b e))
 
--- the key of an id that fills no more than its front
-pub front_key : (id : List ℕ) (front : ℕ) → length id ≤ 8 → front ≡ packed id → record { front = front; back = 0; size = length id } ≡ key_of id
-unfolding key_of packed packed_behind
-front_key id front short e = rw (take_all 8 id short, drop_of_length-le id short, e)
+-- an id of eight bytes or fewer has nothing behind its front
+front_of : (id : List ℕ) → (take (min (length id) 8) id ≡ take 8 id) × (drop (min (length id) 8) id ≡ drop 8 id)
+front_of id =
+    ifb (λ _. (take (min (length id) 8) id ≡ take 8 id) × (drop (min (length id) 8) id ≡ drop 8 id)) (leb (length id) 8)
+    (λ short.
+    let few : length id ≤ 8 = leb-true (length id) 8 short in
+    let all : min (length id) 8 ≡ length id = omega arith in
+    (rw (all, take-length id, take_all 8 id few), rw (all, drop_of_length-le id few) (drop-length id)))
+    (λ long.
+    let more : 8 < length id = leb-false (length id) 8 long in
+    let eight : min (length id) 8 ≡ 8 = omega arith in
+    (ap (λ n. take n id) eight, ap (λ n. drop n id) eight))
 
--- and of one that goes on behind it
-pub long_key : (id : List ℕ) (front back : ℕ) → front ≡ packed (take 8 id) → back ≡ packed (take (length id - 8) (drop 8 id))
-    → record { front = front; back = back; size = length id } ≡ key_of id
+pub cut_key : (id front back : List ℕ) {one other : ℕ} → front ≡ take (min (length id) 8) id → back ≡ drop (min (length id) 8) id
+    → one ≡ packed front → other ≡ packed back → record { front = one; back = other; size = length id } ≡ key_of id
 unfolding key_of
-long_key id front back p q = rw (p, q, take_all (length id - 8) (drop 8 id) (simp length-drop (omega arith)))
+cut_key id front back p q r s =
+    let first : front ≡ take 8 id = p ∙ (front_of id).0 in
+    let others : back ≡ drop 8 id = q ∙ (front_of id).1 in
+    rw (r, s, first, others)
 
 -- ids of bytes are equal if their keys are
 pub key_once : (a b : List ℕ) → Bytes a → Bytes b → key_of a ≡ key_of b → a ≡ b

@@ -1,20 +1,12 @@
--- `gtfs_ids::key_of` meets its contract: an id of eight bytes or fewer has nothing behind its front. Assumes nothing.
-use native.Mathlib.Omega.{arith}
-use lib.ListN.{length-take}
-use Rattle.gtfs_ids.proofs.Keys.{front_key, long_key}
+-- `gtfs_ids::key_of` meets its contract: the first eight bytes, and the others. Assumes nothing.
+use mathlib.Core.Path.{ap, ◌∙◌}
+use lib.ListN.{take, drop}
+use Rattle.gtfs_ids.proofs.Keys.{cut_key}
 use Rattle.gtfs_ids.proofs.key_of.Goals as goal
-
-pub returns-then-size-le8 : goal.returns-then-size-le8
-returns-then-size-le8 c =
-    front_key c.args.id.now c.packed_bytes.result (omega arith) c.packed_bytes.ensures
-
-pub slice_bounds-packed_bytes-end : goal.slice_bounds-packed_bytes-end
-slice_bounds-packed_bytes-end c = simp length-take (omega arith)
-
-pub packed_bytes-front-requires : goal.packed_bytes-front-requires
-packed_bytes-front-requires c = simp length-take (omega arith)
 
 pub returns : goal.returns
 returns c =
-    long_key c.args.id.now c.packed_bytes-front.result c.packed_bytes-back.result
-    c.packed_bytes-front.ensures c.packed_bytes-back.ensures
+    let id = c.args.id.now in
+    let parts = c.split_at in
+    cut_key id parts.result.0.now parts.result.1.now (parts.ensures.front ∙ ap (λ n. take n id) c.min.ensures)
+    (parts.ensures.back ∙ ap (λ n. drop n id) c.min.ensures) c.packed_bytes.ensures c.packed_bytes-2.ensures
