@@ -3,7 +3,8 @@ use Prim.Native.Nat.{ℕ, suc, ◌≤◌}
 use mathlib.Core.Bool.{Bool, true, false, not}
 use mathlib.Core.List.{List, [], ◌∷◌}
 use native.Mathlib.Omega.{arith}
-use lib.Dec.{leb, ltb}
+use lib.Dec.{leb}
+use Rattle.std.specs.Prelude.{is_some}
 use lib.ListN.{length, drop, get_or}
 use Rattle.timetable.specs.Limits.{most_stops, most_rows, most_trips}
 use Rattle.timetable.specs.Verdict.{Verdict, fine, fault, or_else, unless, by_verdict}
@@ -75,10 +76,10 @@ header_known : (quoted : Bool) (columns : Columns) → Known (header_verdict quo
 unfolding header_verdict
 header_known quoted columns =
     rule_then (not quoted) _ (unreadable (omega arith))
-    (rule_then (ltb 0 columns.trip) _ (unreadable (omega arith))
-    (rule_then (ltb 0 columns.arrival) _ (unreadable (omega arith))
-    (rule_then (ltb 0 columns.departure) _ (unreadable (omega arith))
-    (rule_then (ltb 0 columns.stop) _ (unreadable (omega arith)) (last_rule (ltb 0 columns.sequence) (unreadable (omega arith)))))))
+    (rule_then (is_some columns.trip) _ (unreadable (omega arith))
+    (rule_then (is_some columns.arrival) _ (unreadable (omega arith))
+    (rule_then (is_some columns.departure) _ (unreadable (omega arith))
+    (rule_then (is_some columns.stop) _ (unreadable (omega arith)) (last_rule (is_some columns.sequence) (unreadable (omega arith)))))))
 
 -- by a line's verdict, or what the lines behind it say
 verdict_known : (line : ℕ) (on : Reading) (v : Verdict) → 1 ≤ line → Known v → FaultKnown on

@@ -1,5 +1,5 @@
 -- Document 02, E2: a line's first fault: 11, 12, 13, 9, in this order, with the column that it is in; and the header's.
-use Rattle.std.specs.Prelude.{ℕ, Bool, not, List, ◌∷◌, leb, ltb, length}
+use Rattle.std.specs.Prelude.{ℕ, Bool, not, List, ◌∷◌, leb, is_some, length}
 use Rattle.timetable.specs.Limits.{most_stops, most_rows, most_trips}
 use Rattle.timetable.specs.Verdict.{Verdict, or_else, unless}
 use Rattle.gtfs_lines.specs.declared.Columns.{Columns}
@@ -26,7 +26,7 @@ line_verdict columns start back line =
 unfoldable pub header_verdict : (quoted : Bool) → Columns → Verdict
 header_verdict quoted columns =
     or_else (unless (not quoted) 11 0)
-    (or_else (unless (ltb 0 columns.trip) 11 1)
-    (or_else (unless (ltb 0 columns.arrival) 11 2)
-    (or_else (unless (ltb 0 columns.departure) 11 3)
-    (or_else (unless (ltb 0 columns.stop) 11 4) (unless (ltb 0 columns.sequence) 11 5)))))
+    (or_else (unless (is_some columns.trip) 11 1)
+    (or_else (unless (is_some columns.arrival) 11 2)
+    (or_else (unless (is_some columns.departure) 11 3)
+    (or_else (unless (is_some columns.stop) 11 4) (unless (is_some columns.sequence) 11 5)))))

@@ -4,11 +4,8 @@ use mathlib.Core.Bool.{Bool, true, false, cond, not}
 use mathlib.Core.List.{List, [], ◌∷◌}
 use mathlib.Core.Path.{◌≡◌, refl, sym, ap, subst, ◌∙◌}
 use native.Mathlib.Omega.{arith}
-use borrow.Author.Tests.{eqb-true, eqb-false, lt-ltb, le-ltb}
-use lib.Dec.{eqb, ltb}
 use lib.ListN.{length, drop, get_or, length-drop}
-use Rattle.laws.proofs.Tests.{ifb}
-use Rattle.std.specs.Prelude.{Option, Some, None}
+use Rattle.std.specs.Prelude.{Option, Some, None, is_some, is_none}
 use Rattle.timetable.specs.Verdict.{Verdict, fine, fault, or_else, unless, by_verdict}
 use Rattle.gtfs_lines.specs.declared.Columns.{Columns}
 use Rattle.gtfs_lines.specs.Lines.{lines_of, fields_of, parts, has_quote}
@@ -44,44 +41,22 @@ by_first start text =
     ∙ ap (λ (l : List (List ℕ)). by_verdict (λ fault column. wrong fault 1 column) (read_from (columns_of (first_line text)) start [] 2 l)
     (header_verdict (has_quote (first_line text)) (columns_of (first_line text)))) (lines_behind text)
 
--- a column that is there is not 0
-there : (column : ℕ) → ltb 0 column ≡ not (eqb column 0)
-there column =
-    ifb (λ b. ltb 0 column ≡ not b) (eqb column 0) (λ none. le-ltb 0 column (omega (arith, eqb-true column 0 none)))
-    (λ some. lt-ltb 0 column (positive column (eqb-false column 0 some)))
-  where
-    positive : (n : ℕ) → (n ≡ 0 → ⊥) → 0 < n
-    positive zero apart = absurd (apart refl)
-    positive (suc n) apart = omega arith
-
 -- the verdict on a header without a quote mark, by the column that it lacks
 unquoted_verdict : (columns : Columns) → header_verdict false columns ≡ in_column 11 (missing_column columns)
 unfolding header_verdict missing_column
-unquoted_verdict columns =
-    by (ltb 0 columns.trip) (ltb 0 columns.arrival) (ltb 0 columns.departure) (ltb 0 columns.stop) (ltb 0 columns.sequence)
-    (eqb columns.trip 0) (eqb columns.arrival 0) (eqb columns.departure 0) (eqb columns.stop 0) (eqb columns.sequence 0)
-    (there columns.trip) (there columns.arrival) (there columns.departure) (there columns.stop) (there columns.sequence)
+unquoted_verdict columns = cases columns.trip columns.arrival columns.departure columns.stop columns.sequence
   where
-    cases : (a b c d e : Bool)
-        → or_else (unless (not a) 11 1) (or_else (unless (not b) 11 2) (or_else (unless (not c) 11 3) (or_else (unless (not d) 11 4) (unless (not e) 11 5))))
-        ≡ in_column 11 (cond a (Some 1) (cond b (Some 2) (cond c (Some 3) (cond d (Some 4) (cond e (Some 5) None)))))
-    cases true b c d e = refl
-    cases false true c d e = refl
-    cases false false true d e = refl
-    cases false false false true e = refl
-    cases false false false false true = refl
-    cases false false false false false = refl
-
-    by : (a b c d e a' b' c' d' e' : Bool) → a ≡ not a' → b ≡ not b' → c ≡ not c' → d ≡ not d' → e ≡ not e'
-        → or_else (unless a 11 1) (or_else (unless b 11 2) (or_else (unless c 11 3) (or_else (unless d 11 4) (unless e 11 5))))
-        ≡ in_column 11 (cond a' (Some 1) (cond b' (Some 2) (cond c' (Some 3) (cond d' (Some 4) (cond e' (Some 5) None)))))
-    by a b c d e a' b' c' d' e' p q r s t =
-        ap (λ x. or_else (unless x 11 1) (or_else (unless b 11 2) (or_else (unless c 11 3) (or_else (unless d 11 4) (unless e 11 5))))) p
-        ∙ ap (λ x. or_else (unless (not a') 11 1) (or_else (unless x 11 2) (or_else (unless c 11 3) (or_else (unless d 11 4) (unless e 11 5))))) q
-        ∙ ap (λ x. or_else (unless (not a') 11 1) (or_else (unless (not b') 11 2) (or_else (unless x 11 3) (or_else (unless d 11 4) (unless e 11 5))))) r
-        ∙ ap (λ x. or_else (unless (not a') 11 1) (or_else (unless (not b') 11 2) (or_else (unless (not c') 11 3) (or_else (unless x 11 4) (unless e 11 5))))) s
-        ∙ ap (λ x. or_else (unless (not a') 11 1) (or_else (unless (not b') 11 2) (or_else (unless (not c') 11 3) (or_else (unless (not d') 11 4) (unless x 11 5))))) t
-        ∙ cases a' b' c' d' e'
+    cases : (a b c d e : Option ℕ)
+        → or_else (unless (is_some a) 11 1) (or_else (unless (is_some b) 11 2) (or_else (unless (is_some c) 11 3)
+        (or_else (unless (is_some d) 11 4) (unless (is_some e) 11 5))))
+        ≡ in_column 11 (cond (is_none a) (Some 1) (cond (is_none b) (Some 2) (cond (is_none c) (Some 3) (cond (is_none d) (Some 4)
+        (cond (is_none e) (Some 5) None)))))
+    cases None b c d e = refl
+    cases (Some a) None c d e = refl
+    cases (Some a) (Some b) None d e = refl
+    cases (Some a) (Some b) (Some c) None e = refl
+    cases (Some a) (Some b) (Some c) (Some d) None = refl
+    cases (Some a) (Some b) (Some c) (Some d) (Some e) = refl
 
 -- a text without bytes names no column
 empty_lacks : missing_column (columns_of (first_line [])) ≡ Some 1

@@ -1,5 +1,5 @@
 -- What a line adds to the notes, and what all lines come to.
-use Rattle.std.specs.Prelude.{ℕ, ◌+◌, ◌≤◌, ◌<◌, cond, List, [], ◌∷◌, ◌≡◌, eqb, length, drop, Result, Ok, Err, Option, Some, None}
+use Rattle.std.specs.Prelude.{ℕ, ◌+◌, ◌≤◌, ◌<◌, cond, List, [], ◌∷◌, ◌≡◌, length, drop, Result, Ok, Err, Option, Some, None, is_none}
 use Rattle.timetable.specs.Verdict.{fine, fault}
 use Rattle.gtfs_lines.specs.declared.Columns.{Columns}
 use Rattle.gtfs_lines.specs.Lines.{lines_of}
@@ -43,5 +43,5 @@ read_behind text begin service = read_from service.columns service.start [] 2 (l
 -- the first of the five columns that the header lacks
 unfoldable pub missing_column : Columns → Option ℕ
 missing_column columns =
-    cond (eqb columns.trip 0) (Some 1) (cond (eqb columns.arrival 0) (Some 2) (cond (eqb columns.departure 0) (Some 3)
-    (cond (eqb columns.stop 0) (Some 4) (cond (eqb columns.sequence 0) (Some 5) None))))
+    cond (is_none columns.trip) (Some 1) (cond (is_none columns.arrival) (Some 2) (cond (is_none columns.departure) (Some 3)
+    (cond (is_none columns.stop) (Some 4) (cond (is_none columns.sequence) (Some 5) None))))

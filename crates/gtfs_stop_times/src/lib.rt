@@ -109,19 +109,19 @@ fn enter(book: &mut [u64], count: usize, number: usize, key: Key, place: usize) 
 fn missing_column(columns: Columns) -> Option<usize>
     ensures { result ≡ missing_column columns }
 {
-    if columns.trip == 0 {
+    if columns.trip.is_none() {
         return Some(1);
     }
-    if columns.arrival == 0 {
+    if columns.arrival.is_none() {
         return Some(2);
     }
-    if columns.departure == 0 {
+    if columns.departure.is_none() {
         return Some(3);
     }
-    if columns.stop == 0 {
+    if columns.stop.is_none() {
         return Some(4);
     }
-    if columns.sequence == 0 {
+    if columns.sequence.is_none() {
         return Some(5);
     }
     None
