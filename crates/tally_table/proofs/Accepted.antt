@@ -2,13 +2,12 @@
 use Prim.Native.Nat.{ℕ, zero, suc, ◌+◌, ◌<◌, ◌≤◌}
 use mathlib.Core.Bool.{true}
 use mathlib.Core.List.{List, [], ◌∷◌, ◌++◌}
-use mathlib.Core.Path.{◌≡◌, refl, ap, sym, ◌∙◌}
+use mathlib.Core.Path.{◌≡◌}
 use native.Mathlib.Omega.{arith}
 use lib.Dec.{leb, eqb}
 use lib.ListN.{length, get_or, take, drop}
 use borrow.Author.Tests.{eqb-true}
 use Rattle.laws.proofs.Tests.{both_left}
-use Rattle.timetable.specs.Timetable.{maximum_delay}
 use Rattle.timetable.specs.Classes.{share_total, sum, last_share, shares_rule}
 use Rattle.timetable.specs.Verdict.{fine}
 use Rattle.file_layout.specs.declared.Format.{Format}
@@ -18,7 +17,7 @@ use Rattle.file_encoding.specs.Encode.{table_bytes}
 use Rattle.file_encoding.specs.Writable.{WritableTable}
 use Rattle.file_encoding.proofs.EncodeCheck.{class_fine}
 use Rattle.file_encoding.proofs.Sizes.{table_size}
-use Rattle.file_encoding.proofs.Written.{BlockAt, table_written}
+use Rattle.file_encoding.proofs.Written.{table_written}
 use Rattle.tally_table.specs.Returned.{TableStands}
 use Rattle.tally_table.proofs.Tables.{cumulative_length}
 

@@ -5,15 +5,15 @@ use mathlib.Core.List.{List}
 use mathlib.Core.Path.{◌≡◌}
 use borrow.Author.Tests.{lt-ltb, le-ltb}
 use Rattle.numbers.specs.Over.{over}
+use Rattle.timetable.specs.Verdict.{refused}
 use Rattle.file_layout.specs.declared.Format.{Format}
 use Rattle.tally.specs.Tally.{counts_rule}
-use Rattle.tally_table.specs.declared.Made.TheVariants.{Refused}
 use Rattle.tally_table.specs.Table.{landings_tallied, table_of}
 use Rattle.tally_table.specs.Outcome.{TableOutcome, table_verdict, made_of, table_outcome}
 
 -- a tally of which no table is made leaves the numbers lent
 abbrev pub not_made : (number : ℕ) → List ℕ → TableOutcome
-not_made number shares = record { answer = Refused number 0; shares = shares }
+not_made number shares = record { answer = refused number 0; shares = shares }
 
 module _ (f : Format) (tally shares : List ℕ) where
   pub counts_refused : counts_rule tally ≡ false → table_outcome f tally shares ≡ not_made 15 shares

@@ -1,32 +1,20 @@
 -- Laws on the greatest lateness tallied, found by looking down: left early, one step more, the end; and that it is the greatest.
 -- Assumes nothing.
 use Prim.Native.Nat.{ℕ, zero, suc, ◌+◌, ◌-◌, ◌<◌, ◌≤◌}
-use mathlib.Core.Bool.{cond}
+use mathlib.Core.Bool.{Bool, cond}
 use mathlib.Core.List.{List}
 use mathlib.Core.Path.{◌≡◌, refl, ap, sym, ◌∙◌}
 use native.Mathlib.Omega.{arith}
 use lib.Dec.{leb, ltb}
-use borrow.Author.Tests.{lt-ltb, le-ltb, ltb-true, ltb-false, leb-true, leb-false}
-use Rattle.laws.proofs.Tests.{ifb, cond_true, cond_false}
+use lib.ListN.{length, get_or, take, get_or-eq_default}
+use lib.Seq.{length-take-le}
+use Rattle.std.proofs.lemmas.List.{get_or-take}
+use Rattle.std.specs.Prelude.{Option, Some, None, unwrap_or, MatchOption}
+use borrow.Author.Tests.{le-ltb, ltb-true, ltb-false, leb-true, leb-false}
+use Rattle.laws.proofs.Tests.{ifb, cond_false}
 use Rattle.tally.specs.Tally.{count_at}
 use Rattle.tally_table.specs.Table.{landings_by, landings_tallied, IsGreatest, greatest_late}
 use Rattle.tally_table.proofs.Shares.{sum_more, first_landings}
-
-pub found_here : (x : ℕ) (tally : List ℕ) → 0 < x → 0 < count_at tally x → x ≡ greatest_late x tally
-unfolding greatest_late
-found_here zero tally some counted = absurd (let z : ⊥ = omega arith in z)
-found_here (suc x) tally some counted = sym (cond_true _ _ (lt-ltb 0 (count_at tally (suc x)) counted))
-
-pub found_earlier : (x : ℕ) (tally : List ℕ) → 0 < x → count_at tally x ≤ 0 → greatest_late x tally ≡ greatest_late (x - 1) tally
-unfolding greatest_late
-found_earlier zero tally some none = absurd (let z : ⊥ = omega arith in z)
-found_earlier (suc x) tally some none =
-    cond_false _ _ (le-ltb 0 (count_at tally (suc x)) none) ∙ ap (λ (k : ℕ). greatest_late k tally) (let same : x ≡ suc x - 1 = omega arith in same)
-
-pub found_at_last : (x : ℕ) (tally : List ℕ) → x ≤ 0 → 0 ≡ greatest_late x tally
-unfolding greatest_late
-found_at_last zero tally none = refl
-found_at_last (suc x) tally none = absurd (let z : ⊥ = omega arith in z)
 
 pub found_within : (x : ℕ) (tally : List ℕ) → greatest_late x tally ≤ x
 unfolding greatest_late
@@ -90,3 +78,54 @@ all_by_greatest (suc top) tally m inside none =
       all_by_greatest top tally m (leb-true m top same) (λ x past within. none x past (omega (arith, within))),
     ))
     (λ above same. ap (landings_by tally) (let last : m ≡ suc top = omega (arith, leb-false m top same) in last)) refl
+
+-- the last count that is not 0 stands at the greatest lateness found by looking down
+found_last : (top : ℕ) (tally : List ℕ) (i : ℕ) → i ≤ top → 0 < count_at tally i → ((k : ℕ) → i < k → k ≤ top → count_at tally k ≡ 0)
+    → i ≡ greatest_late top tally
+unfolding greatest_late
+found_last zero tally i inside some none = omega arith
+found_last (suc top) tally i inside some none =
+    ifb (λ t. i ≡ cond t (suc top) (greatest_late top tally)) (ltb 0 (count_at tally (suc top)))
+    (λ yes.
+    ifb (λ (_ : Bool). i ≡ suc top) (leb i top)
+    (λ below. absurd (omega (arith, ltb-true 0 _ yes, none (suc top) (omega (arith, leb-true i top below)) (omega arith))))
+    (λ at. omega (arith, leb-false i top at)))
+    (λ no.
+    ifb (λ (_ : Bool). i ≡ greatest_late top tally) (leb i top)
+    (λ below. found_last top tally i (leb-true i top below) some (λ k past within. none k past (omega arith)))
+    (λ at. let last : i ≡ suc top = omega (arith, leb-false i top at) in absurd (omega (arith, ltb-false 0 _ no, ap (count_at tally) last))))
+
+found_none : (top : ℕ) (tally : List ℕ) → ((k : ℕ) → k ≤ top → count_at tally k ≡ 0) → 0 ≡ greatest_late top tally
+unfolding greatest_late
+found_none zero tally none = refl
+found_none (suc top) tally none =
+    found_none top tally (λ k within. none k (omega arith))
+    ∙ sym (cond_false _ _ (le-ltb 0 (count_at tally (suc top)) (omega (arith, none (suc top) (omega arith)))))
+
+pub last_tallied : (tally : List ℕ) (last : Option ℕ)
+    → MatchOption last ((k : ℕ) → k < length tally → get_or tally k 0 ≡ 0)
+    (λ i. (i < length tally) × (0 < get_or tally i 0) × ((k : ℕ) → i < k → k < length tally → get_or tally k 0 ≡ 0))
+    → unwrap_or last 0 ≡ greatest_late (length tally - 1) tally
+last_tallied tally None none =
+    found_none (length tally - 1) tally
+    (λ k within.
+    ifb (λ (_ : Bool). count_at tally k ≡ 0) (ltb k (length tally)) (λ inside. none k (ltb-true k (length tally) inside))
+    (λ past. get_or-eq_default tally 0 {n = k} (ltb-false k (length tally) past)))
+last_tallied tally (Some i) found =
+    found_last (length tally - 1) tally i (omega (arith, found.0)) found.1 (λ k past within. found.2 k past (omega (arith, found.0)))
+
+-- which depends on the counts up to the top one alone
+same_late : (top : ℕ) (one other : List ℕ) → ((k : ℕ) → k ≤ top → count_at one k ≡ count_at other k) → greatest_late top one ≡ greatest_late top other
+unfolding greatest_late
+same_late zero one other same = refl
+same_late (suc top) one other same =
+    ap (λ (n : ℕ). cond (ltb 0 n) (suc top) (greatest_late top one)) (same (suc top) (omega arith))
+    ∙ ap (cond (ltb 0 (count_at other (suc top))) (suc top)) (same_late top one other (λ k within. same k (omega arith)))
+
+pub first_decide : (top : ℕ) (tally : List ℕ) (delay : ℕ) → top < length tally
+    → delay ≡ greatest_late (length (take (top + 1) tally) - 1) (take (top + 1) tally) → delay ≡ greatest_late top tally
+first_decide top tally delay inside found =
+    found
+    ∙ ap (λ (n : ℕ). greatest_late n (take (top + 1) tally))
+    (let last : length (take (top + 1) tally) - 1 ≡ top = omega (arith, length-take-le (top + 1) tally (omega arith)) in last)
+    ∙ same_late top (take (top + 1) tally) tally (λ k within. get_or-take (top + 1) tally k 0 (omega arith))

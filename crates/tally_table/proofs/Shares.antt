@@ -14,6 +14,7 @@ use Rattle.delay_tables.specs.Rising.{differences, shares_of_cumulative, values_
 use Rattle.delay_tables.proofs.RisingTables.{length_differences}
 use Rattle.delay_tables.proofs.Values.{length_values}
 use Rattle.tally_table.specs.Table.{landings_by, share_of, cumulative_share, cumulative_shares}
+use Rattle.tally_table.specs.Fits.{SharesFit, ShareFits}
 
 -- landings by a lateness are those below it and those at it
 pub sum_more : (tally : List ℕ) (x : ℕ) → sum (take (suc x) tally) ≡ sum (take x tally) + get_or tally x 0
@@ -73,9 +74,15 @@ module _ (tally : List ℕ) (landings delay : ℕ) where
   shares_on shares x late h below = ap (sets shares x) (rest_more x late h below)
 
   -- landings up to a delay are among those tallied
-  pub turn_within : (x late : ℕ) → x ≤ delay → late ≡ sum (take x tally) → landings_by tally delay ≤ landings
-      → late + get_or tally x 0 ≤ landings
-  turn_within x late h below among = omega (arith, sum_more tally x, landings_rise tally x delay h)
+  pub turn_fits : {shares : List ℕ} (x late count : ℕ) → SharesFit tally landings delay shares → x ≤ delay → late ≡ sum (take x tally)
+      → count ≡ get_or tally x 0 → ShareFits (late + count) landings (17592186044416 / landings)
+  turn_fits x late count fits h below read =
+      record {
+        some = fits.some;
+        among = omega (arith, sum_more tally x, landings_rise tally x delay h, fits.among);
+        small = fits.small;
+        reciprocal_of = refl;
+      }
 
   -- what one turn of the loop leaves as it was
   pub turn_keeps : (shares whole : List ℕ) (x late ahead count share_here : ℕ) → x ≤ delay → late ≡ sum (take x tally)
@@ -109,3 +116,12 @@ module _ (tally : List ℕ) (landings delay : ℕ) where
       ∙ ap (λ (k : ℕ). differences 0 (values_from share 0 (suc delay)) ++ drop k shares)
       (let first : 0 + length (differences 0 (values_from share 0 (suc delay))) ≡ length (differences 0 (values_from share 0 (suc delay))) = omega arith
       in first)
+
+  -- the last turn leaves all of them as they are to be
+  pub last_turn : (initial shares : List ℕ) (x late ahead count share_here : ℕ) → delay < length initial → x ≡ delay → late ≡ sum (take x tally)
+      → ahead ≡ share_of landings late → count ≡ get_or tally x 0 → share_here ≡ share_of landings (late + count) - ahead
+      → sets shares x (rest x late) ≡ sets initial 0 (rest 0 0)
+      → set shares x share_here ≡ over (shares_of_cumulative (cumulative_shares landings tally delay)) initial
+  last_turn initial shares x late ahead count share_here room last below from read is so_far =
+      sym (shares_end (set shares x share_here) (x + 1) (late + count) (omega (arith, last)))
+      ∙ turn_keeps shares _ x late ahead count share_here (omega (arith, last)) below from read is so_far ∙ shares_whole initial room

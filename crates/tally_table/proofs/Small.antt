@@ -1,28 +1,29 @@
 -- The numbers of every answer are small. Assumes nothing.
-use Prim.Native.Nat.{ℕ, suc, ◌+◌, ◌*◌, ◌≤◌}
+use Prim.Native.Nat.{ℕ, suc, ◌*◌, ◌≤◌}
 use mathlib.Core.Bool.{true}
 use mathlib.Core.List.{List}
 use mathlib.Core.Logic.{⊎_elim}
 use mathlib.Core.Path.{◌≡◌, refl}
 use native.Mathlib.Omega.{arith}
 use Rattle.laws.proofs.Tests.{ifb}
+use Rattle.timetable.specs.Verdict.{refused}
+use Rattle.tally_table.specs.Outcome.{tabled}
 use Rattle.file_layout.specs.declared.Format.{Format}
 use Rattle.tally.specs.Tally.{apart, most_count, counts_rule}
 use Rattle.tally.proofs.Ends.{counts_kept, counts_broken}
-use Rattle.tally_table.specs.declared.Made.TheVariants.{Table, Refused}
 use Rattle.tally_table.specs.Outcome.{table_outcome}
 use Rattle.tally_table.proofs.Sums.{first_within}
 use Rattle.tally_table.proofs.TableEnding.{table_ends}
 use Rattle.tally_table.proofs.Endings.{table_refused, table_told}
 
 module _ (f : Format) (tally shares : List ℕ) where
-  pub refused_small : (number place : ℕ) → (table_outcome f tally shares).answer ≡ Refused number place → (number ≤ 16) × (place ≤ 0)
+  pub refused_small : (number place : ℕ) → (table_outcome f tally shares).answer ≡ refused number place → (number ≤ 16) × (place ≤ 0)
   refused_small number place told =
       let found = table_refused (table_ends f tally shares) told in
       (⊎_elim (λ e. omega arith) (λ e. omega arith) found.1, omega (arith, found.2))
 
   -- a table's M, the landings that it rests on and those that stand apart
-  pub table_small : (m landings standing : ℕ) → (table_outcome f tally shares).answer ≡ Table m landings standing
+  pub table_small : (m landings standing : ℕ) → (table_outcome f tally shares).answer ≡ tabled m landings standing
       → (m ≤ f.delay) × (landings ≤ suc f.delay * most_count) × (standing ≤ most_count)
   table_small m landings standing told =
       let found = table_told (table_ends f tally shares) told in

@@ -2,24 +2,26 @@
 use Prim.Native.Nat.{ℕ, zero, suc, ◌+◌, ◌*◌, ◌<◌, ◌≤◌}
 use mathlib.Core.Bool.{true}
 use mathlib.Core.List.{List, [], ◌∷◌}
-use mathlib.Core.Path.{◌≡◌, refl, ap}
+use mathlib.Core.Path.{◌≡◌, refl}
 use native.Mathlib.Omega.{arith}
 use lib.Dec.{leb}
-use lib.ListN.{length, get_or, take, drop, drop_of_length-le, length-take}
-use lib.Seq.{drop-cons, length-take-le}
+use lib.ListN.{length, take, length-take}
 use borrow.Author.Tests.{leb-true}
 use Rattle.laws.proofs.Tests.{both, both_left, both_right}
+use Rattle.std.specs.Prelude.{fold, sum as sum_of}
 use Rattle.timetable.specs.Classes.{sum}
+use Rattle.file_layout.specs.declared.Format.{Format}
 use Rattle.tally.specs.Tally.{most_count, counts_rule}
+use Rattle.tally_table.specs.Fits.{TableFits}
 
--- a sum by its next number, and at its end
-pub sum_on : (counts : List ℕ) (i : ℕ) → i < length counts → sum (drop i counts) ≡ get_or counts i 0 + sum (drop (suc i) counts)
+-- a sum by addition from the first number on
+sum_from : (before : ℕ) (counts : List ℕ) → fold (λ (a : ℕ) (x : ℕ). a + x) before counts ≡ before + sum counts
 unfolding sum
-sum_on counts i h = ap sum (drop-cons counts i 0 h)
+sum_from before [] = omega arith
+sum_from before (c ∷ counts) = omega (arith, sum_from (before + c) counts)
 
-pub sum_end : (counts : List ℕ) (i : ℕ) → length counts ≤ i → sum (drop i counts) ≡ 0
-unfolding sum
-sum_end counts i h = ap sum (drop_of_length-le counts h)
+pub same_sum : (counts : List ℕ) → sum_of counts ≡ sum counts
+same_sum counts = omega (arith, sum_from 0 counts)
 
 -- counts within their limit have a sum within as many limits
 pub sum_within : (counts : List ℕ) → counts_rule counts ≡ true → sum counts ≤ length counts * most_count
@@ -41,10 +43,11 @@ rule_first (c ∷ counts) (suc n) kept =
     both (both_left (leb c most_count) (counts_rule counts) kept)
     (rule_first counts n (both_right (leb c most_count) (counts_rule counts) kept))
 
--- what summing the first counts needs, and gives
-pub first_fit : (counts : List ℕ) (n : ℕ) → counts_rule counts ≡ true → n ≤ length counts → n * most_count < 4294967296
-    → (counts_rule (take n counts) ≡ true) × (length (take n counts) * most_count < 4294967296)
-first_fit counts n kept inside small = (rule_first counts n kept, rw (length-take-le n counts inside) small)
-
+-- so their sum is small
 pub first_within : (counts : List ℕ) (n : ℕ) → counts_rule counts ≡ true → sum (take n counts) ≤ n * most_count
 first_within counts n kept = omega (arith, sum_within (take n counts) (rule_first counts n kept), length-take n counts)
+
+pub first_small : (f : Format) (tally shares : List ℕ) → TableFits f tally shares → counts_rule tally ≡ true
+    → sum_of (take (f.delay + 1) tally) < 4294967296
+first_small f tally shares fits kept =
+    omega (arith, same_sum (take (f.delay + 1) tally), first_within tally (f.delay + 1) kept, fits.limits.landings)

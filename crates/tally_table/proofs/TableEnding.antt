@@ -1,7 +1,6 @@
 -- The making of a table ends in one of three ways. Assumes nothing.
 use Prim.Native.Nat.{ℕ, zero, suc, pred, ◌+◌, ◌<◌, ◌≤◌}
-use mathlib.Core.Bool.{true, false}
-use mathlib.Core.List.{List, ◌++◌}
+use mathlib.Core.List.{List}
 use mathlib.Core.Path.{◌≡◌, refl, ap, sym, subst, ◌∙◌}
 use native.Mathlib.Omega.{arith}
 use lib.Dec.{ltb}
@@ -13,11 +12,9 @@ use Rattle.numbers.specs.Over.{over}
 use Rattle.timetable.specs.Timetable.{maximum_delay}
 use Rattle.file_layout.specs.declared.Format.{Format}
 use Rattle.delay_tables.specs.Rising.{MadeOf, cumulative_of_shares}
-use Rattle.tally_table.specs.declared.Made.TheVariants.{Table}
-use Rattle.tally.specs.Tally.{counts, apart, count_at, counts_rule}
-use Rattle.tally_table.specs.Table.{landings_by, landings_tallied, share_of, cumulative_shares, greatest_late, table_of}
+use Rattle.tally.specs.Tally.{apart, count_at, counts_rule}
+use Rattle.tally_table.specs.Table.{landings_tallied, cumulative_shares, greatest_late, table_of}
 use Rattle.tally_table.specs.Outcome.{TableOutcome, made_of, table_outcome}
-use Rattle.tally.specs.Returned.{CountAbove}
 use Rattle.tally_table.specs.Returned.{NoneTallied, TableStands, TableEnds, above, nothing, table}
 use Rattle.tally_table.proofs.Shares.{sum_more, landings_rise, first_landings}
 use Rattle.tally_table.proofs.Greatest.{found_greatest, found_within}

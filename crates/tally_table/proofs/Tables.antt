@@ -1,13 +1,13 @@
 -- The cumulative shares of a tally rise, and so every table made is one that the check accepts. Assumes nothing.
-use Prim.Native.Nat.{ℕ, zero, suc, ◌+◌, ◌*◌, ◌/◌, ◌<◌, ◌≤◌}
+use Prim.Native.Nat.{ℕ, zero, suc, ◌+◌, ◌*◌, ◌<◌, ◌≤◌}
 use mathlib.Core.List.{List}
-use mathlib.Core.Path.{◌≡◌, refl, ap, sym, ◌∙◌}
-use native.Mathlib.Nat.{mul-div_cancel, mul_comm}
+use mathlib.Core.Path.{◌≡◌, ap, ◌∙◌}
+use native.Mathlib.Nat.{mul-div_cancel}
 use native.Mathlib.Omega.{arith}
 use lib.ListN.{length, get_or}
 use Rattle.laws.proofs.Quotients.{quotient_below}
 use Rattle.timetable.specs.Classes.{share_total}
-use Rattle.delay_tables.specs.Rising.{Rising, MadeOf, shares_of_cumulative}
+use Rattle.delay_tables.specs.Rising.{Rising, MadeOf}
 use Rattle.delay_tables.proofs.RisingTables.{rising_table_accepted}
 use Rattle.delay_tables.proofs.RisingValues.{rising_values}
 use Rattle.delay_tables.proofs.Values.{length_values, value_at}

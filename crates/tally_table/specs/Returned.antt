@@ -1,13 +1,15 @@
 -- What is true of what the call for a table returns: how it ends, in document 02's words.
-use Rattle.std.specs.Prelude.{ℕ, suc, ◌<◌, ◌≤◌, List, ◌≡◌, get_or, take, drop}
+use Rattle.std.specs.Prelude.{ℕ, suc, ◌<◌, ◌≤◌, List, ◌≡◌, get_or, take, drop, Result}
 use Rattle.timetable.specs.Timetable.{maximum_delay}
+use Rattle.timetable.specs.Verdict.{refused}
+use Rattle.timetable.specs.declared.Refusal.{Refusal}
 use Rattle.file_layout.specs.declared.Format.{Format}
 use Rattle.delay_tables.specs.Rising.{cumulative_of_shares, MadeOf}
 use Rattle.tally.specs.Tally.{apart, count_at}
 use Rattle.tally.specs.Returned.{CountAbove}
-use Rattle.tally_table.specs.declared.Made.{Made}
-use Rattle.tally_table.specs.declared.Made.TheVariants.{Table, Refused}
+use Rattle.tally_table.specs.declared.Table.{Table}
 use Rattle.tally_table.specs.Table.{landings_tallied, landings_by, share_of, IsGreatest, cumulative_shares}
+use Rattle.tally_table.specs.Outcome.{tabled}
 
 -- no landing is tallied
 abbrev pub NoneTallied : (top : ℕ) → List ℕ → Type 0
@@ -26,8 +28,8 @@ pub record TableStands (f : Format) (tally shares shares' : List ℕ) (m landing
   pub others : drop (suc m) shares' ≡ drop (suc m) shares
 
 -- how the making of a table ends
-pub data TableEnds (f : Format) (tally shares : List ℕ) : Made → List ℕ → Type 0 where
-  above : CountAbove tally → TableEnds f tally shares (Refused 15 0) shares
-  nothing : (CountAbove tally → ⊥) → NoneTallied f.delay tally → TableEnds f tally shares (Refused 16 0) shares
+pub data TableEnds (f : Format) (tally shares : List ℕ) : Result Table (Refusal ℕ) → List ℕ → Type 0 where
+  above : CountAbove tally → TableEnds f tally shares (refused 15 0) shares
+  nothing : (CountAbove tally → ⊥) → NoneTallied f.delay tally → TableEnds f tally shares (refused 16 0) shares
   table : {m landings standing : ℕ} {shares' : List ℕ} → (CountAbove tally → ⊥)
-      → TableStands f tally shares shares' m landings standing → TableEnds f tally shares (Table m landings standing) shares'
+      → TableStands f tally shares shares' m landings standing → TableEnds f tally shares (tabled m landings standing) shares'
