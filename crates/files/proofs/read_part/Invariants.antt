@@ -1,9 +1,9 @@
 -- `read_part` ends, since each turn leaves less to fill.
-use Rattle.std.proofs.Common.{length, ◌-◌, ◌≡◌, ◌≤◌}
+use Rattle.std.proofs.Common.{length, ◌-◌, ◌≤◌}
 use Rattle.files.proofs.read_part.Given as goal
 
 abbrev pub invariant-loop-done : goal.invariant-loop-done
-invariant-loop-done g l = (length l.room ≡ length l.initial.room) × (l.done ≤ length l.room)
+invariant-loop-done g l = l.done ≤ length l.room
 
 abbrev pub decreases-loop-done : goal.decreases-loop-done
 decreases-loop-done g l = length l.room - l.done
