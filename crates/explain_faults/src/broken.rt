@@ -6,7 +6,7 @@ ghost use Rattle.explain_faults.specs.Broken.{row_in};
 
 use file_check::{Found, RowBytes};
 use file_layout::{Format, Trailer};
-use file_sections::shares_sum;
+use file_sections::{class_blocks, shares_sum};
 use timetable::Row;
 
 // The trailer and the row that are not there.
@@ -28,44 +28,6 @@ const NO_ROW: Row = Row {
     class: 0,
 };
 
-// The number of two bytes at `at`.
-pub fn number_at(file: &[u8], at: usize) -> usize
-    ensures { result < 65536 }
-{
-    if file.len().saturating_sub(at) < 2 {
-        return 0;
-    }
-    numbers::u16_at(file, at)
-}
-
-// The sum of the shares of the class block at `at`, whose maximum delay is `delay`.
-pub fn shares_in(file: &[u8], at: usize, delay: usize) -> usize
-    requires { delay < 65536 }
-{
-    if file.len().saturating_sub(at) < 4 + 2 * delay {
-        return 0;
-    }
-    shares_sum(file, at + 2, delay + 1)
-}
-
-// Where the trailer starts.
-pub fn trailer_start(file: &[u8], f: Format) -> usize
-    ensures { result ≡ length file.now - f.trailer }
-{
-    file.len().saturating_sub(f.trailer)
-}
-
-// The trailer's numbers.
-pub fn trailer_in(file: &[u8], f: Format) -> Trailer
-    requires { Readable f }
-    ensures { SmallTrailer result }
-{
-    if file.len() < f.trailer {
-        return NO_TRAILER;
-    }
-    file_layout::trailer_at(file, file.len() - f.trailer)
-}
-
 // The row of that number, the rows starting at `start`.
 #[tactic(auto, unfolding(crate::specs::Broken::row_in))]
 pub fn row_in(file: &[u8], f: Format, start: usize, place: usize) -> Row
@@ -78,19 +40,100 @@ pub fn row_in(file: &[u8], f: Format, start: usize, place: usize) -> Row
     file_layout::row_at(file, start + f.width * place)
 }
 
-// The nearest row of `trip` ahead of row `place`, the rows starting at `start`; none where not all of these rows are there.
-pub fn last_in(file: &[u8], f: Format, start: usize, place: usize, trip: usize) -> Option<Found>
-    requires { Readable f }
-{
-    let behind = file.len().checked_sub(start)?;
-    if behind / f.width < place {
-        return None;
+// A class by its number, and the byte where its block starts.
+#[derive(Clone, Copy)]
+pub struct Block {
+    pub class: usize,
+    pub at: usize,
+}
+
+// A file of a version that may be broken anywhere, and the numbers of its trailer.
+#[derive(Clone, Copy)]
+pub struct BrokenFile<'a> {
+    pub bytes: &'a [u8],
+    pub f: Format,
+    pub trailer: Trailer,
+    pub ghost readable: { Readable f },
+    pub ghost small: { SmallTrailer trailer },
+}
+
+impl<'a> BrokenFile<'a> {
+    pub fn of(bytes: &'a [u8], f: Format) -> BrokenFile<'a>
+        requires { Readable f }
+        ensures { result.f ≡ f }
+    {
+        let trailer = if bytes.len() < f.trailer {
+            NO_TRAILER
+        } else {
+            file_layout::trailer_at(bytes, bytes.len() - f.trailer)
+        };
+        BrokenFile { bytes, f, trailer }
     }
-    let rows = RowBytes {
-        file,
-        start,
-        width: f.width,
-        count: place,
-    };
-    rows.look_back(place, trip)
+
+    // Where the trailer starts.
+    pub fn trailer_start(&self) -> usize
+        ensures { result ≡ length self.now.bytes.now - self.now.f.trailer }
+    {
+        self.bytes.len().saturating_sub(self.f.trailer)
+    }
+
+    // Where the class blocks end, or the first in which the check finds a fault.
+    pub fn tables_end(&self) -> Result<usize, Block> {
+        let mut at = self.trailer.tablestart;
+        for class in 0..self.trailer.classes {
+            let Some(next) = self.blocks_end(at, 1) else {
+                return Err(Block { class, at });
+            };
+            at = next;
+        }
+        Ok(at)
+    }
+
+    // Where `count` class blocks end, the first of them at `at`, if the check finds no fault in them.
+    pub fn blocks_end(&self, at: usize, count: usize) -> Option<usize> {
+        class_blocks(self.bytes, self.f, self.trailer_start(), at, count).ok()
+    }
+
+    // The number of two bytes at `at`.
+    pub fn number_at(&self, at: usize) -> usize
+        ensures { result < 65536 }
+    {
+        if self.bytes.len().saturating_sub(at) < 2 {
+            return 0;
+        }
+        numbers::u16_at(self.bytes, at)
+    }
+
+    // The sum of the shares of the class block at `at`, whose maximum delay is `delay`.
+    pub fn shares_in(&self, at: usize, delay: usize) -> usize
+        requires { delay < 65536 }
+    {
+        if self.bytes.len().saturating_sub(at) < 4 + 2 * delay {
+            return 0;
+        }
+        shares_sum(self.bytes, at + 2, delay + 1)
+    }
+
+    // The row of that number.
+    pub fn row(&self, place: usize) -> Row
+        ensures { SmallRow result }
+    {
+        row_in(self.bytes, self.f, self.trailer.rowstart, place)
+    }
+
+    // The nearest row of `trip` ahead of row `place`; none where not all of these rows are there.
+    pub fn last_of_trip(&self, place: usize, trip: usize) -> Option<Found> {
+        let start = self.trailer.rowstart;
+        let behind = self.bytes.len().checked_sub(start)?;
+        if behind / self.f.width < place {
+            return None;
+        }
+        let rows = RowBytes {
+            file: self.bytes,
+            start,
+            width: self.f.width,
+            count: place,
+        };
+        rows.look_back(place, trip)
+    }
 }

@@ -9,6 +9,7 @@ mod classes;
 mod rows;
 mod sizes;
 
+use broken::BrokenFile;
 pub use broken::row_in;
 use file_layout::Format;
 use files::Output;
@@ -24,12 +25,12 @@ pub fn print_file_fault(
 )
     requires { Readable f × (f.lastminute < 65536) }
 {
-    let trailer = broken::trailer_in(file, f);
+    let broken = BrokenFile::of(file, f);
     match number {
-        1 => sizes::print_size_fault(out, f, file.len(), more, trailer),
-        2 => classes::print_layout_fault(out, file, f, trailer),
-        3 => classes::print_class_fault(out, file, f, trailer, place),
-        4 => rows::print_own_fault(out, file, f, trailer, place),
-        _ => rows::print_order_fault(out, file, f, trailer, place),
+        1 => sizes::print_size_fault(out, f, file.len(), more, broken.trailer),
+        2 => classes::print_layout_fault(out, broken),
+        3 => classes::print_class_fault(out, broken, place),
+        4 => rows::print_own_fault(out, broken, place),
+        _ => rows::print_order_fault(out, broken, place),
     }
 }

@@ -1,12 +1,10 @@
 // Refusals 4 and 5: a row about itself alone, and behind the rows before it.
 ghost use Rattle.std.specs.Prelude.{◌<◌};
-ghost use Rattle.file_layout.specs.Format.{Readable};
 ghost use Rattle.file_layout.specs.Small.{SmallRow};
 
-use crate::broken::{last_in, row_in};
+use crate::broken::BrokenFile;
 use explain_words::{say, say_number, say_time};
 use file_check::Found;
-use file_layout::{Format, Trailer};
 use files::Output;
 use timetable::{
     MOST_TRIPS, Ranges, Row, departure_rule, lands_there, minute_rule, onward, stop_rule,
@@ -14,14 +12,14 @@ use timetable::{
 };
 
 // 4: the first rule about itself alone that the row breaks.
-pub fn print_own_fault(out: &Output, file: &[u8], f: Format, trailer: Trailer, place: usize)
-    requires { Readable f × (f.lastminute < 65536) }
+pub fn print_own_fault(out: &Output, broken: BrokenFile, place: usize)
+    requires { broken.f.lastminute < 65536 }
 {
-    let row = row_in(file, f, trailer.rowstart, place);
+    let row = broken.row(place);
     let ranges = Ranges {
-        stops: trailer.stops,
-        classes: trailer.classes,
-        lastminute: f.lastminute,
+        stops: broken.trailer.stops,
+        classes: broken.trailer.classes,
+        lastminute: broken.f.lastminute,
     };
     say_number(out, b"Row ", place);
     say_own_fault(out, row, ranges);
@@ -99,18 +97,16 @@ fn print_row(out: &Output, place: usize, row: Row)
 }
 
 // 5: the row departs before the one ahead of it, or its trip breaks off.
-pub fn print_order_fault(out: &Output, file: &[u8], f: Format, trailer: Trailer, place: usize)
-    requires { Readable f }
-{
-    let row = row_in(file, f, trailer.rowstart, place);
+pub fn print_order_fault(out: &Output, broken: BrokenFile, place: usize) {
+    let row = broken.row(place);
     if 0 < place {
-        let ahead = row_in(file, f, trailer.rowstart, place - 1);
+        let ahead = broken.row(place - 1);
         if !departure_rule(ahead.departure, row) {
             print_departure_fault(out, place, row, ahead);
             return;
         }
     }
-    print_trip_fault(out, file, f, trailer.rowstart, place, row);
+    print_trip_fault(out, broken, place, row);
 }
 
 // The row departs before `ahead`, the one ahead of it.
@@ -127,13 +123,13 @@ fn print_departure_fault(out: &Output, place: usize, row: Row, ahead: Row)
 }
 
 // The trip leaves from another stop than where it last landed, or before it lands.
-fn print_trip_fault(out: &Output, file: &[u8], f: Format, start: usize, place: usize, row: Row)
-    requires { Readable f × SmallRow row }
+fn print_trip_fault(out: &Output, broken: BrokenFile, place: usize, row: Row)
+    requires { SmallRow row }
 {
-    let Some(Found { place: last, .. }) = last_in(file, f, start, place, row.trip) else {
+    let Some(Found { place: last, .. }) = broken.last_of_trip(place, row.trip) else {
         return;
     };
-    let earlier = row_in(file, f, start, last);
+    let earlier = broken.row(last);
     say_number(out, b"Row ", place);
     say_number(out, b": trip ", row.trip);
     if lands_there(earlier, row) {
