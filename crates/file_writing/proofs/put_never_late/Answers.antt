@@ -8,8 +8,4 @@ use Rattle.file_writing.proofs.put_never_late.Goals as goal
 
 pub returns : goal.returns
 unfolding tables_bytes table_bytes shares_bytes u16_bytes
-returns c =
-    let share = c in
-    let maximum = c in
-    let a = maximum.args in
-    sets_on a.out.now a.at (u16_bytes 0) (u16_bytes share_total) 2 refl maximum.put_u16.ensures share.put_u16-2.ensures
+returns c = sets_on c.args.out.now c.args.at (u16_bytes 0) (u16_bytes share_total) 2 refl c.put_u16.ensures c.put_u16-2.ensures

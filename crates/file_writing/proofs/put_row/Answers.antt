@@ -8,17 +8,8 @@ use Rattle.file_writing.proofs.put_row.Goals as goal
 pub returns : goal.returns
 unfolding row_bytes u16_bytes
 returns c =
-    let class = c in
-    let trip = c in
-    let arrival = c in
-    let departure = c in
-    let land = c in
-    let board = c in
-    let a = board.args in
+    let a = c.args in
     let r = a.row in
-    let four =
-    four_stored a.out.now a.at r.board r.land r.departure r.arrival board.put_u16.ensures land.put_u16-2.ensures
-    departure.put_u16-3.ensures arrival.put_u16-4.ensures
-    in
-    six_stored a.out.now a.at r.board r.land r.departure r.arrival (u16_bytes r.trip) (u16_bytes r.class) 10 refl four
-    trip.put_u16-5.ensures class.put_u16-6.ensures
+    six_stored a.out.now a.at r.board r.land r.departure r.arrival (u16_bytes r.trip) (u16_bytes r.class) 10 refl
+    (four_stored a.out.now a.at r.board r.land r.departure r.arrival c.put_u16.ensures c.put_u16-2.ensures c.put_u16-3.ensures c.put_u16-4.ensures)
+    c.put_u16-5.ensures c.put_u16-6.ensures

@@ -8,17 +8,8 @@ use Rattle.file_writing.proofs.put_trailer.Goals as goal
 pub returns : goal.returns
 unfolding bytes_of_trailer u32_bytes u16_bytes
 returns c =
-    let tables = c in
-    let start = c in
-    let classes = c in
-    let rows = c in
-    let stops = c in
-    let version = c in
-    let a = version.args in
+    let a = c.args in
     let h = a.trailer in
-    let four =
-    four_stored a.out.now a.at h.version h.stops h.rows h.classes version.put_u16.ensures stops.put_u16-2.ensures
-    rows.put_u16-3.ensures classes.put_u16-4.ensures
-    in
     six_stored a.out.now a.at h.version h.stops h.rows h.classes (u32_bytes h.rowstart) (u32_bytes h.tablestart) 12 refl
-    four start.put_u32.ensures tables.put_u32-2.ensures
+    (four_stored a.out.now a.at h.version h.stops h.rows h.classes c.put_u16.ensures c.put_u16-2.ensures c.put_u16-3.ensures c.put_u16-4.ensures)
+    c.put_u32.ensures c.put_u32-2.ensures
