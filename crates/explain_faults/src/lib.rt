@@ -13,20 +13,15 @@ use broken::BrokenFile;
 pub use broken::row_in;
 use file_layout::Format;
 use files::Output;
+use timetable::Refusal;
 
-// The reason for a refusal of the check of a file of a version, by its number and place; `more` says that the file goes on beyond these bytes.
-pub fn print_file_fault(
-    out: &Output,
-    file: &[u8],
-    f: Format,
-    number: usize,
-    place: usize,
-    more: bool,
-)
+// The reason for a refusal of the check of a file of a version; `more` says that the file goes on beyond these bytes.
+pub fn print_file_fault(out: &Output, file: &[u8], f: Format, refusal: Refusal<usize>, more: bool)
     requires { Readable f × (f.lastminute < 65536) }
 {
     let broken = BrokenFile::of(file, f);
-    match number {
+    let place = refusal.place;
+    match refusal.number {
         1 => sizes::print_size_fault(out, f, file.len(), more, broken.trailer),
         2 => classes::print_layout_fault(out, broken),
         3 => classes::print_class_fault(out, broken, place),
