@@ -4,7 +4,7 @@ ghost use Rattle.file_layout.specs.Format.{Readable};
 ghost use Rattle.file_layout.specs.Small.{SmallTrailer, SmallRow};
 ghost use Rattle.explain_faults.specs.Broken.{row_in};
 
-use file_check::{Found, RowBytes};
+use file_check::RowBytes;
 use file_layout::{Format, Trailer};
 use file_sections::{class_blocks, shares_sum};
 use timetable::Row;
@@ -45,6 +45,14 @@ pub fn row_in(file: &[u8], f: Format, start: usize, place: usize) -> Row
 pub struct Block {
     pub class: usize,
     pub at: usize,
+}
+
+// A row of the file with its number.
+#[derive(Clone, Copy)]
+pub struct NumberedRow {
+    pub place: usize,
+    pub row: Row,
+    pub ghost small: { SmallRow row },
 }
 
 // A file of a version that may be broken anywhere, and the numbers of its trailer.
@@ -115,25 +123,27 @@ impl<'a> BrokenFile<'a> {
     }
 
     // The row of that number.
-    pub fn row(&self, place: usize) -> Row
-        ensures { SmallRow result }
-    {
-        row_in(self.bytes, self.f, self.trailer.rowstart, place)
+    pub fn row(&self, place: usize) -> NumberedRow {
+        NumberedRow {
+            place,
+            row: row_in(self.bytes, self.f, self.trailer.rowstart, place),
+        }
     }
 
-    // The nearest row of `trip` ahead of row `place`; none where not all of these rows are there.
-    pub fn last_of_trip(&self, place: usize, trip: usize) -> Option<Found> {
+    // The nearest row of its trip ahead of that row; none where not all rows ahead are there.
+    pub fn last_of_trip(&self, numbered: NumberedRow) -> Option<NumberedRow> {
         let start = self.trailer.rowstart;
         let behind = self.bytes.len().checked_sub(start)?;
-        if behind / self.f.width < place {
+        if behind / self.f.width < numbered.place {
             return None;
         }
         let rows = RowBytes {
             file: self.bytes,
             start,
             width: self.f.width,
-            count: place,
+            count: numbered.place,
         };
-        rows.look_back(place, trip)
+        let found = rows.look_back(numbered.place, numbered.row.trip)?;
+        Some(self.row(found.place))
     }
 }

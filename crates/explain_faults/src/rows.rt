@@ -1,10 +1,8 @@
 // Refusals 4 and 5: a row about itself alone, and behind the rows before it.
 ghost use Rattle.std.specs.Prelude.{◌<◌};
-ghost use Rattle.file_layout.specs.Small.{SmallRow};
 
-use crate::broken::BrokenFile;
+use crate::broken::{BrokenFile, NumberedRow};
 use explain_words::{say, say_number, say_time};
-use file_check::Found;
 use files::Output;
 use timetable::{
     MOST_TRIPS, Ranges, Row, departure_rule, lands_there, minute_rule, onward, stop_rule,
@@ -15,21 +13,22 @@ use timetable::{
 pub fn print_own_fault(out: &Output, broken: BrokenFile, place: usize)
     requires { broken.f.lastminute < 65536 }
 {
-    let row = broken.row(place);
+    let numbered = broken.row(place);
     let ranges = Ranges {
         stops: broken.trailer.stops,
         classes: broken.trailer.classes,
         lastminute: broken.f.lastminute,
     };
     say_number(out, b"Row ", place);
-    say_own_fault(out, row, ranges);
-    print_row(out, place, row);
+    say_own_fault(out, numbered, ranges);
+    print_row(out, numbered);
 }
 
 // Where the rules of stops, minutes and trip are kept, that of the class is broken.
-fn say_own_fault(out: &Output, row: Row, g: Ranges)
-    requires { SmallRow row × (g.lastminute < 65536) }
+fn say_own_fault(out: &Output, numbered: NumberedRow, g: Ranges)
+    requires { g.lastminute < 65536 }
 {
+    let row = numbered.row;
     if !stop_rule(row.board, g) {
         say_too_high(out, b": boarding stop ", row.board, g.stops, b" stops");
     } else if !stop_rule(row.land, g) {
@@ -37,7 +36,7 @@ fn say_own_fault(out: &Output, row: Row, g: Ranges)
     } else if !stops_differ(row) {
         say_same_stop(out, row);
     } else if !onward(row) {
-        say_not_onward(out, row);
+        say_not_onward(out, numbered);
     } else if !minute_rule(row.departure, g) {
         say_past_last(out, b" departs at ", row.departure, g.lastminute);
     } else if !minute_rule(row.arrival, g) {
@@ -66,11 +65,9 @@ fn say_same_stop(out: &Output, row: Row) {
     say(out, b".\n");
 }
 
-fn say_not_onward(out: &Output, row: Row)
-    requires { SmallRow row }
-{
-    say_time(out, b" departs at ", row.departure);
-    say_time(out, b", but arrives at ", row.arrival);
+fn say_not_onward(out: &Output, numbered: NumberedRow) {
+    say_time(out, b" departs at ", numbered.row.departure);
+    say_time(out, b", but arrives at ", numbered.row.arrival);
     say(out, b", not later.\n");
 }
 
@@ -83,10 +80,9 @@ fn say_past_last(out: &Output, words: &[u8], minute: usize, last: usize)
 }
 
 // The row's numbers, on a line of their own.
-fn print_row(out: &Output, place: usize, row: Row)
-    requires { SmallRow row }
-{
-    say_number(out, b"Row ", place);
+fn print_row(out: &Output, numbered: NumberedRow) {
+    let row = numbered.row;
+    say_number(out, b"Row ", numbered.place);
     say_number(out, b" reads: from stop ", row.board);
     say_number(out, b" to stop ", row.land);
     say_time(out, b", departs ", row.departure);
@@ -98,39 +94,36 @@ fn print_row(out: &Output, place: usize, row: Row)
 
 // 5: the row departs before the one ahead of it, or its trip breaks off.
 pub fn print_order_fault(out: &Output, broken: BrokenFile, place: usize) {
-    let row = broken.row(place);
+    let numbered = broken.row(place);
     if 0 < place {
         let ahead = broken.row(place - 1);
-        if !departure_rule(ahead.departure, row) {
-            print_departure_fault(out, place, row, ahead);
+        if !departure_rule(ahead.row.departure, numbered.row) {
+            print_departure_fault(out, numbered, ahead);
             return;
         }
     }
-    print_trip_fault(out, broken, place, row);
+    print_trip_fault(out, broken, numbered);
 }
 
 // The row departs before `ahead`, the one ahead of it.
-fn print_departure_fault(out: &Output, place: usize, row: Row, ahead: Row)
-    requires { (0 < place) × SmallRow row × SmallRow ahead }
-{
-    say_number(out, b"Row ", place);
-    say_time(out, b" departs at ", row.departure);
-    say_number(out, b", before row ", place - 1);
-    say_time(out, b" at ", ahead.departure);
+fn print_departure_fault(out: &Output, numbered: NumberedRow, ahead: NumberedRow) {
+    say_number(out, b"Row ", numbered.place);
+    say_time(out, b" departs at ", numbered.row.departure);
+    say_number(out, b", before row ", ahead.place);
+    say_time(out, b" at ", ahead.row.departure);
     say(out, b".\n");
-    print_row(out, place, row);
-    print_row(out, place - 1, ahead);
+    print_row(out, numbered);
+    print_row(out, ahead);
 }
 
 // The trip leaves from another stop than where it last landed, or before it lands.
-fn print_trip_fault(out: &Output, broken: BrokenFile, place: usize, row: Row)
-    requires { SmallRow row }
-{
-    let Some(Found { place: last, .. }) = broken.last_of_trip(place, row.trip) else {
+fn print_trip_fault(out: &Output, broken: BrokenFile, numbered: NumberedRow) {
+    let Some(last) = broken.last_of_trip(numbered) else {
         return;
     };
-    let earlier = broken.row(last);
-    say_number(out, b"Row ", place);
+    let row = numbered.row;
+    let earlier = last.row;
+    say_number(out, b"Row ", numbered.place);
     say_number(out, b": trip ", row.trip);
     if lands_there(earlier, row) {
         say_time(out, b" leaves at ", row.departure);
@@ -139,8 +132,8 @@ fn print_trip_fault(out: &Output, broken: BrokenFile, place: usize, row: Row)
         say_number(out, b" leaves from stop ", row.board);
         say_number(out, b" but last landed at stop ", earlier.land);
     }
-    say_number(out, b" (row ", last);
+    say_number(out, b" (row ", last.place);
     say(out, b").\n");
-    print_row(out, place, row);
-    print_row(out, last, earlier);
+    print_row(out, numbered);
+    print_row(out, last);
 }
