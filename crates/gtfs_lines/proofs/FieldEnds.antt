@@ -7,11 +7,10 @@ use native.Mathlib.Omega.{arith}
 use lib.Dec.{eqb}
 use lib.ListN.{length, drop, get_or, drop_of_length-le}
 use lib.Seq.{slice, drop-cons, length-slice}
-use Rattle.gtfs_lines.specs.declared.Columns.{Columns}
-use Rattle.gtfs_lines.specs.declared.Fields.{Fields}
-use Rattle.std.specs.Prelude.{None}
+use Rattle.gtfs_lines.specs.declared.Span.{Span}
+use Rattle.std.specs.Prelude.{Some, None}
 use Rattle.gtfs_lines.specs.Lines.{line_feed, quote_mark, comma, without_return, fields_of, has_quote}
-use Rattle.gtfs_lines.specs.Cut.{cut, ahead_of_feed, first_line, behind_line, with_field, last_end, cut_from}
+use Rattle.gtfs_lines.specs.Cut.{ahead_of_feed, first_line, behind_line, last_end, read_from}
 use Rattle.gtfs_lines.specs.Joined.{Without}
 use Rattle.gtfs_lines.proofs.Parts.{one_part, first_part}
 use Rattle.gtfs_lines.proofs.Returns.{without_return_lem}
@@ -21,7 +20,7 @@ use Rattle.gtfs_lines.proofs.Slices.{slice_behind, last_slice, last_rises, last_
 use Rattle.gtfs_lines.proofs.Marked.{Marked, mark_splits, comma_left}
 
 -- the field is the line's last, and the next line starts at `next`
-pub record LastField (text : List ℕ) (from to next : ℕ) : Type 0 where
+pub record LastField (text : List ℕ) (from to next : ℕ) : Type 1 where
   pub rises : from ≤ to
   pub ahead : to ≤ next
   pub inside : next ≤ length text
@@ -29,8 +28,8 @@ pub record LastField (text : List ℕ) (from to next : ℕ) : Type 0 where
   pub fields : fields_of (first_line (drop from text)) ≡ slice from to text ∷ []
   pub unquoted : has_quote (first_line (drop from text)) ≡ false
   pub behind : behind_line (drop from text) ≡ drop next text
-  pub cuts : (columns : Columns) (column : ℕ) (fields : Fields)
-      → cut_from text columns column from from fields (drop from text) ≡ cut (with_field columns column (record { from = from; to = to }) fields) next
+  pub reads : {K R : Type 0} (told : K → ℕ → R) (keep : ℕ → Span → K → K) (column : ℕ) (kept : K)
+      → read_from told keep text column from from kept (drop from text) ≡ Some (told (keep column (record { from = from; to = to }) kept) next)
 
 -- the same, in other words
 pub last_as : {text : List ℕ} {from to to' next next' : ℕ} → LastField text from to next → to' ≡ to → next' ≡ next → LastField text from to' next'
@@ -38,48 +37,48 @@ last_as {text} {from} {to} {to'} {next} last p q =
     subst⁻¹ (λ n. LastField text from to' n) q (subst⁻¹ (λ t. LastField text from t next) p last)
 
 -- a comma stands at `at`, and the line goes on behind it
-pub record NextField (text : List ℕ) (from at : ℕ) : Type 0 where
+pub record NextField (text : List ℕ) (from at : ℕ) : Type 1 where
   pub rises : from ≤ at
   pub inside : at < length text
   pub fields : fields_of (first_line (drop from text)) ≡ slice from at text ∷ fields_of (first_line (drop (suc at) text))
   pub quotes : has_quote (first_line (drop from text)) ≡ has_quote (first_line (drop (suc at) text))
   pub behind : behind_line (drop from text) ≡ behind_line (drop (suc at) text)
-  pub cuts : (columns : Columns) (column : ℕ) (fields : Fields)
-      → cut_from text columns column from from fields (drop from text)
-      ≡ cut_from text columns (suc column) (suc at) (suc at) (with_field columns column (record { from = from; to = at }) fields) (drop (suc at) text)
+  pub reads : {K R : Type 0} (told : K → ℕ → R) (keep : ℕ → Span → K → K) (column : ℕ) (kept : K)
+      → read_from told keep text column from from kept (drop from text)
+      ≡ read_from told keep text (suc column) (suc at) (suc at) (keep column (record { from = from; to = at }) kept) (drop (suc at) text)
 
 -- a quote mark stands in the field
-pub record QuotedField (text : List ℕ) (from : ℕ) : Type 0 where
+pub record QuotedField (text : List ℕ) (from : ℕ) : Type 1 where
   pub quoted : has_quote (first_line (drop from text)) ≡ true
-  pub cuts : (columns : Columns) (column : ℕ) (fields : Fields) → cut_from text columns column from from fields (drop from text) ≡ None
+  pub reads : {K R : Type 0} (told : K → ℕ → R) (keep : ℕ → Span → K → K) (column : ℕ) (kept : K)
+      → read_from told keep text column from from kept (drop from text) ≡ None
 
-module _ (text : List ℕ) (columns : Columns) (column from at : ℕ) (fields : Fields) where
+module _ {K R : Type 0} (told : K → ℕ → R) (keep : ℕ → Span → K → K) (text : List ℕ) (column from : ℕ) (kept : K) where
   -- a byte that is no mark belongs to the field
-  cut_byte : (byte : ℕ) (rest : List ℕ) → eqb byte comma ≡ false → eqb byte line_feed ≡ false → eqb byte quote_mark ≡ false
-      → cut_from text columns column from at fields (byte ∷ rest) ≡ cut_from text columns column from (suc at) fields rest
-  unfolding cut_from
-  cut_byte byte rest no_comma no_feed no_quote = simp (no_comma, no_feed, no_quote)
+  read_byte : (at byte : ℕ) (rest : List ℕ) → eqb byte comma ≡ false → eqb byte line_feed ≡ false → eqb byte quote_mark ≡ false
+      → read_from told keep text column from at kept (byte ∷ rest) ≡ read_from told keep text column from (suc at) kept rest
+  unfolding read_from
+  read_byte at byte rest no_comma no_feed no_quote = simp (no_comma, no_feed, no_quote)
 
--- and so do all plain bytes
-pub cut_plain : (text : List ℕ) (columns : Columns) (column from at : ℕ) (fields : Fields) (plain rest : List ℕ)
-    → Without comma plain → Without line_feed plain → Without quote_mark plain
-    → cut_from text columns column from at fields (plain ++ rest) ≡ cut_from text columns column from (at + length plain) fields rest
-cut_plain text columns column from at fields [] rest commas feeds quotes = ap (λ n. cut_from text columns column from n fields rest) (omega arith)
-cut_plain text columns column from at fields (byte ∷ plain) rest commas feeds quotes =
-    cut_byte text columns column from at fields byte (plain ++ rest) commas.0 feeds.0 quotes.0
-    ∙ cut_plain text columns column from (suc at) fields plain rest commas.1 feeds.1 quotes.1
-    ∙ ap (λ n. cut_from text columns column from n fields rest) (omega arith)
+  -- and so do all plain bytes
+  read_plain : (at : ℕ) (plain rest : List ℕ) → Without comma plain → Without line_feed plain → Without quote_mark plain
+      → read_from told keep text column from at kept (plain ++ rest) ≡ read_from told keep text column from (at + length plain) kept rest
+  read_plain at [] rest commas feeds quotes = ap (λ n. read_from told keep text column from n kept rest) (omega arith)
+  read_plain at (byte ∷ plain) rest commas feeds quotes =
+      read_byte at byte (plain ++ rest) commas.0 feeds.0 quotes.0
+      ∙ read_plain (suc at) plain rest commas.1 feeds.1 quotes.1
+      ∙ ap (λ n. read_from told keep text column from n kept rest) (omega arith)
 
 module _ {text : List ℕ} {from at : ℕ} (m : Marked text from at) where
   whole_field : from + length (slice from at text) ≡ at
   whole_field = omega (arith, length-slice from at text m.inside, m.rises)
 
-  cut_to : (columns : Columns) (column : ℕ) (fields : Fields)
-      → cut_from text columns column from from fields (drop from text) ≡ cut_from text columns column from at fields (drop at text)
-  cut_to columns column fields =
-      ap (cut_from text columns column from from fields) (slice_behind text from at m.rises m.inside)
-      ∙ cut_plain text columns column from from fields (slice from at text) (drop at text) m.no_comma m.no_feed m.no_quote
-      ∙ ap (λ n. cut_from text columns column from n fields (drop at text)) whole_field
+  read_to : {K R : Type 0} (told : K → ℕ → R) (keep : ℕ → Span → K → K) (column : ℕ) (kept : K)
+      → read_from told keep text column from from kept (drop from text) ≡ read_from told keep text column from at kept (drop at text)
+  read_to told keep column kept =
+      ap (read_from told keep text column from from kept) (slice_behind text from at m.rises m.inside)
+      ∙ read_plain told keep text column from kept from (slice from at text) (drop at text) m.no_comma m.no_feed m.no_quote
+      ∙ ap (λ n. read_from told keep text column from n kept (drop at text)) whole_field
 
   no_quotes : has_quote (slice from at text) ≡ false
   unfolding has_quote
@@ -87,7 +86,7 @@ module _ {text : List ℕ} {from at : ℕ} (m : Marked text from at) where
 
   -- the file's end
   pub at_end : length text ≤ at → LastField text from at at
-  unfolding cut_from fields_of
+  unfolding read_from fields_of
   at_end none_left =
       let none : drop at text ≡ [] = drop_of_length-le text none_left in
       let whole : drop from text ≡ slice from at text =
@@ -102,19 +101,20 @@ module _ {text : List ℕ} {from at : ℕ} (m : Marked text from at) where
         fields = ap fields_of line ∙ one_part comma (slice from at text) m.no_comma;
         unquoted = ap has_quote line ∙ no_quotes;
         behind = ap behind_line whole ∙ behind_last (slice from at text) m.no_feed ∙ sym none;
-        cuts = λ columns column fields. cut_to columns column fields ∙ ap (cut_from text columns column from at fields) none;
+        reads = λ told keep column kept. read_to told keep column kept ∙ ap (read_from told keep text column from at kept) none;
       }
 
   module _ (within : at < length text) where
-    cut_mark : (mark : ℕ) → get_or text at 0 ≡ mark → (columns : Columns) (column : ℕ) (fields : Fields)
-        → cut_from text columns column from from fields (drop from text) ≡ cut_from text columns column from at fields (mark ∷ drop (suc at) text)
-    cut_mark mark is columns column fields =
-        cut_to columns column fields ∙ ap (cut_from text columns column from at fields) (drop-cons text at 0 within)
-        ∙ ap (λ b. cut_from text columns column from at fields (b ∷ drop (suc at) text)) is
+    read_mark : (mark : ℕ) → get_or text at 0 ≡ mark → {K R : Type 0} (told : K → ℕ → R) (keep : ℕ → Span → K → K) (column : ℕ) (kept : K)
+        → read_from told keep text column from from kept (drop from text)
+        ≡ read_from told keep text column from at kept (mark ∷ drop (suc at) text)
+    read_mark mark is told keep column kept =
+        read_to told keep column kept ∙ ap (read_from told keep text column from at kept) (drop-cons text at 0 within)
+        ∙ ap (λ b. read_from told keep text column from at kept (b ∷ drop (suc at) text)) is
 
     -- an LF, and a CR just before it
     pub at_feed : get_or text at 0 ≡ line_feed → LastField text from (last_end text from at) (suc at)
-    unfolding cut_from fields_of
+    unfolding read_from fields_of
     at_feed is =
         let whole = mark_splits m line_feed within is in
         let line = without_return (slice from at text) in
@@ -131,22 +131,22 @@ module _ {text : List ℕ} {from at : ℕ} (m : Marked text from at) where
               quotes_ahead (drop from text)
               ∙ ap has_quote (ap ahead_of_feed whole ∙ ahead_feed (slice from at text) m.no_feed (drop (suc at) text)) ∙ no_quotes;
           behind = ap behind_line whole ∙ behind_feed (slice from at text) m.no_feed (drop (suc at) text);
-          cuts = cut_mark line_feed is;
+          reads = read_mark line_feed is;
         }
 
     pub at_quote : get_or text at 0 ≡ quote_mark → QuotedField text from
-    unfolding cut_from
+    unfolding read_from
     at_quote is =
         record {
           quoted =
               ap (λ l. has_quote (first_line l)) (mark_splits m quote_mark within is)
               ∙ quote_ahead (slice from at text) m.no_feed (drop (suc at) text);
-          cuts = cut_mark quote_mark is;
+          reads = read_mark quote_mark is;
         }
 
     -- a mark that is neither of them
     pub at_comma : (get_or text at 0 ≡ line_feed → ⊥) → (get_or text at 0 ≡ quote_mark → ⊥) → NextField text from at
-    unfolding cut_from fields_of has_quote
+    unfolding read_from fields_of has_quote
     at_comma no_feed no_quote =
         let is : get_or text at 0 ≡ comma = comma_left (get_or text at 0) (m.marked within) no_feed no_quote in
         let whole = mark_splits m comma within is in
@@ -159,5 +159,5 @@ module _ {text : List ℕ} {from at : ℕ} (m : Marked text from at) where
           fields = ap fields_of line ∙ first_part comma (slice from at text) (first_line (drop (suc at) text)) m.no_comma;
           quotes = ap has_quote line ∙ quotes_on (slice from at text) (comma ∷ first_line (drop (suc at) text)) m.no_quote;
           behind = ap behind_line whole ∙ behind_comma (slice from at text) m.no_feed (drop (suc at) text);
-          cuts = cut_mark comma is;
+          reads = read_mark comma is;
         }

@@ -11,7 +11,7 @@ use Rattle.gtfs_lines.specs.Marks.{plain_ahead}
 use Rattle.gtfs_lines.proofs.Marked.{Marked, mark_at}
 use Rattle.gtfs_lines.proofs.FieldEnds.{LastField, NextField, QuotedField, at_end, at_feed, at_quote, at_comma}
 
-pub data Walk (text : List ℕ) : ℕ → Type 0 where
+pub data Walk (text : List ℕ) : ℕ → Type 1 where
   last : {from : ℕ} (to next : ℕ) → LastField text from to next → Walk text from
   more : {from : ℕ} (at : ℕ) → NextField text from at → Walk text (suc at) → Walk text from
   quoted : {from : ℕ} → QuotedField text from → Walk text from

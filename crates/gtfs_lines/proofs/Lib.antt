@@ -4,12 +4,14 @@ pub mod Returns
 pub mod LineEnds
 pub mod TextLines
 pub mod Marks
+pub mod Along
 pub mod SameText
 pub mod Slices
 pub mod Naming
 pub mod Marked
 pub mod FieldEnds
 pub mod HeaderSteps
+pub mod HeaderReads
 pub mod FieldWalk
 pub mod KeptFields
 pub mod LineCuts

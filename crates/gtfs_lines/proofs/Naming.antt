@@ -2,8 +2,10 @@
 use Prim.Native.Nat.{ℕ, suc}
 use mathlib.Core.Bool.{Bool, true, false, cond}
 use mathlib.Core.List.{List, [], ◌∷◌}
-use mathlib.Core.Path.{◌≡◌, refl}
+use mathlib.Core.Path.{◌≡◌, refl, sym}
 use Rattle.std.specs.Prelude.{Option, Some, None}
+use Rattle.std.specs.Option.{option_or}
+use Rattle.laws.proofs.Tests.{cond_true, cond_false}
 use Rattle.text.specs.Same.{same_bytes}
 use Rattle.gtfs_lines.specs.declared.Columns.{Columns}
 use Rattle.gtfs_lines.specs.Columns.{column_from, column_of, columns_of, trip_name, arrival_name, departure_name, stop_name, sequence_name}
@@ -26,6 +28,19 @@ module _ (field : List ℕ) (column : ℕ) (columns : Columns) where
       (with_name field column columns)
   unfolding with_name
   with_name_lem p q r s t = same_columns p q r s t
+
+-- a name that was found before stays, and else this field is it or not
+pub found_same : (field name : List ℕ) (column : ℕ) (before : Option ℕ) → same_bytes field name ≡ true
+    → option_or before (Some column) ≡ found field name column before
+unfolding found
+found_same field name column None same = sym (cond_true (Some column) None same)
+found_same field name column (Some before) same = refl
+
+pub found_other : (field name : List ℕ) (column : ℕ) (before : Option ℕ) → same_bytes field name ≡ false
+    → before ≡ found field name column before
+unfolding found
+found_other field name column None differ = sym (cond_false (Some column) None differ)
+found_other field name column (Some before) differ = refl
 
 -- what was found before, or else the first of the fields that is the name
 abbrev pub found_in : (name : List ℕ) → (column : ℕ) → (before : Option ℕ) → List (List ℕ) → Option ℕ

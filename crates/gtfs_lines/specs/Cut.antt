@@ -33,11 +33,17 @@ abbrev pub no_fields : Fields
 no_fields = record { trip = no_span; arrival = no_span; departure = no_span; stop = no_span; sequence = no_span }
 
 -- a line that was cut, and a header that was read: none is where a quote mark stands in it
+abbrev pub cut_of : Fields → (next : ℕ) → Cut
+cut_of fields next = record { fields = fields; next = next }
+
 abbrev pub cut : Fields → (next : ℕ) → Option Cut
-cut fields next = Some (record { fields = fields; next = next })
+cut fields next = Some (cut_of fields next)
+
+abbrev pub heading_of : Columns → (next : ℕ) → Heading
+heading_of columns next = record { columns = columns; next = next }
 
 abbrev pub named : Columns → (next : ℕ) → Option Heading
-named columns next = Some (record { columns = columns; next = next })
+named columns next = Some (heading_of columns next)
 
 -- a field of a column that is wanted is kept
 abbrev pub is_wanted : (wanted : Option ℕ) → (column : ℕ) → Bool
@@ -61,18 +67,24 @@ with_field columns column span fields =
 unfoldable pub last_end : (text : List ℕ) (from at : ℕ) → ℕ
 last_end text from at = cond (ltb from at && eqb (get_or text (at - 1) 0) carriage_return) (at - 1) at
 
--- the line's fields, byte by byte: `rest` is the text from `at` on, and the field of `column` starts at `from`
-unfoldable pub cut_from : (text : List ℕ) → Columns → (column from at : ℕ) → Fields → (rest : List ℕ) → Option Cut
-cut_from text columns column from at fields [] = cut (with_field columns column (record { from = from; to = at }) fields) at
-cut_from text columns column from at fields (byte ∷ rest) =
-    let feed = cut (with_field columns column (record { from = from; to = last_end text from at }) fields) (suc at) in
-    let next = cut_from text columns (suc column) (suc at) (suc at) (with_field columns column (record { from = from; to = at }) fields) rest in
-    let on = cut_from text columns column from (suc at) fields rest in
+-- what is told of a line, byte by byte, where each field is kept by `keep`, and what is kept by `told` with where the next line starts:
+-- none, if a quote mark stands in it; `rest` is the text from `at` on, and the field of `column` starts at `from`
+unfoldable pub read_from : {K R : Type 0} → (told : K → ℕ → R) → (keep : ℕ → Span → K → K) → (text : List ℕ) → (column from at : ℕ) → K
+    → (rest : List ℕ) → Option R
+read_from told keep text column from at kept [] = Some (told (keep column (record { from = from; to = at }) kept) at)
+read_from told keep text column from at kept (byte ∷ rest) =
+    let feed = Some (told (keep column (record { from = from; to = last_end text from at }) kept) (suc at)) in
+    let next = read_from told keep text (suc column) (suc at) (suc at) (keep column (record { from = from; to = at }) kept) rest in
+    let on = read_from told keep text column from (suc at) kept rest in
     cond (eqb byte line_feed) feed (cond (eqb byte quote_mark) None (cond (eqb byte comma) next on))
 
 -- the line that starts at `start`
+unfoldable pub read_at : {K R : Type 0} → (told : K → ℕ → R) → (keep : ℕ → Span → K → K) → (text : List ℕ) → (start : ℕ) → K → Option R
+read_at told keep text start kept = read_from told keep text 1 start start kept (drop start text)
+
+-- its fields
 unfoldable pub cut_at : List ℕ → Columns → (start : ℕ) → Option Cut
-cut_at text columns start = cut_from text columns 1 start start no_fields (drop start text)
+cut_at text columns start = read_at cut_of (with_field columns) text start no_fields
 
 -- the header is line 1: its columns and where the next line starts; a text that has no line has no column
 unfoldable pub header_of : List ℕ → Option Heading

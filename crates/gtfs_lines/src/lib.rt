@@ -1,10 +1,10 @@
 // Document 02, E2: the lines of `stop_times.txt`, and where their fields lie.
 #![tactic(auto)]
 
-ghost use Rattle.std.specs.Prelude.{◌≡◌, ◌+◌, ◌≤◌, length, drop};
+ghost use Rattle.std.specs.Prelude.{◌≡◌, ◌+◌, ◌-◌, ◌≤◌, ℕ, List, length, drop};
 ghost use Rattle.std.proofs.Math.Seq.{slice};
-ghost use Rattle.text.specs.Same.{same_bytes};
-ghost use Rattle.gtfs_lines.specs.Cut.{cut_at, header_of, kept as kept_span, with_field, last_end};
+ghost use Rattle.gtfs_lines.specs.declared.Span.{Span};
+ghost use Rattle.gtfs_lines.specs.Cut.{cut_at, cut_of, heading_of, header_of, kept as kept_span, read_at, with_field, last_end};
 ghost use Rattle.gtfs_lines.specs.Marks.{marked_by, plain_ahead};
 ghost use Rattle.gtfs_lines.specs.Naming.{found as found_column, with_name};
 
@@ -21,6 +21,24 @@ const COMMA: u8 = b',';
 pub struct Span {
     pub from: usize,
     pub to: usize,
+}
+
+impl Span {
+    // How many bytes lie there.
+    pub fn len(self) -> usize
+        requires { self.from ≤ self.to }
+        ensures { result ≡ self.to - self.from }
+    {
+        self.to - self.from
+    }
+
+    // The bytes of the text that lie there.
+    pub fn text_of(self, text: &[u8]) -> &[u8]
+        requires { (self.from ≤ self.to) × (self.to ≤ length text.now) }
+        ensures { result.now ≡ slice self.from self.to text.now }
+    {
+        &text[self.from..self.to]
+    }
 }
 
 // The columns that are wanted, counted from 1, where the header has one of that name.
@@ -75,12 +93,98 @@ const NO_COLUMNS: Columns = Columns {
     sequence: None,
 };
 
+// What is kept of a line's fields, one after the other, and told at the line's end.
+trait Reading: Copy {
+    type Told;
+
+    ghost kept: { List ℕ → ℕ → Span → Self → Self };
+
+    ghost told: { Self → ℕ → Self.Told };
+
+    // What is kept once the field of this column is read.
+    fn keep(self, text: &[u8], column: usize, span: Span) -> Self
+        requires { (span.from ≤ span.to) × (span.to ≤ length text.now) }
+        ensures { result ≡ kept text.now column span self };
+
+    // What is told once all fields are read, with where the next line starts.
+    fn tell(self, next: usize) -> Self::Told
+        ensures { result ≡ told self next };
+}
+
+// The fields so far of the columns that are wanted.
+#[derive(Clone, Copy)]
+struct Wanted {
+    columns: Columns,
+    fields: Fields,
+}
+
+impl Reading for Wanted {
+    type Told = Cut;
+
+    ghost kept = { λ text column span wanted.
+        record { columns = wanted.columns; fields = with_field wanted.columns column span wanted.fields } };
+
+    ghost told = { λ wanted next. cut_of wanted.fields next };
+
+    fn keep(self, _text: &[u8], column: usize, span: Span) -> Wanted {
+        Wanted {
+            columns: self.columns,
+            fields: with_field(self.columns, column, span, self.fields),
+        }
+    }
+
+    fn tell(self, next: usize) -> Cut {
+        Cut {
+            fields: self.fields,
+            next,
+        }
+    }
+}
+
+impl Reading for Columns {
+    type Told = Heading;
+
+    ghost kept = { λ text column span columns. with_name (slice span.from span.to text) column columns };
+
+    ghost told = { heading_of };
+
+    fn keep(self, text: &[u8], column: usize, span: Span) -> Columns {
+        with_name(text, span, column, self)
+    }
+
+    fn tell(self, next: usize) -> Heading {
+        Heading {
+            columns: self,
+            next,
+        }
+    }
+}
+
 // The line that starts at `start`, unless a quote mark stands in it.
 pub fn line_at(text: &[u8], start: usize, columns: Columns) -> Option<Cut>
     requires { start ≤ length text.now }
     ensures { result ≡ cut_at text.now columns start }
 {
-    let mut fields = NO_FIELDS;
+    let wanted = Wanted {
+        columns,
+        fields: NO_FIELDS,
+    };
+    read_at(text, start, wanted)
+}
+
+// The columns of the header, which starts at byte 0, unless a quote mark stands in it.
+pub fn header_columns(text: &[u8]) -> Option<Heading>
+    ensures { result ≡ header_of text.now }
+{
+    read_at(text, 0, NO_COLUMNS)
+}
+
+// What is told of the line that starts at `start`, unless a quote mark stands in it.
+fn read_at<R: Reading>(text: &[u8], start: usize, none: R) -> Option<R::Told>
+    requires { start ≤ length text.now }
+    ensures { result ≡ read_at R.told (R.kept text.now) text.now start none }
+{
+    let mut read = none;
     let mut column = 1;
     let mut from = start;
     let mut at = mark_from(text, from);
@@ -89,55 +193,17 @@ pub fn line_at(text: &[u8], start: usize, columns: Columns) -> Option<Cut>
         let next = at + 1;
         if byte == LINE_FEED {
             let to = last_end(text, from, at);
-            return Some(Cut {
-                fields: with_field(columns, column, from, to, fields),
-                next,
-            });
+            return Some(read.keep(text, column, Span { from, to }).tell(next));
         }
         if byte == QUOTE_MARK {
             return None;
         }
-        fields = with_field(columns, column, from, at, fields);
+        read = read.keep(text, column, Span { from, to: at });
         column += 1;
         from = next;
         at = mark_from(text, from);
     }
-    Some(Cut {
-        fields: with_field(columns, column, from, at, fields),
-        next: at,
-    })
-}
-
-// The columns of the header, which starts at byte 0, unless a quote mark stands in it.
-pub fn header_columns(text: &[u8]) -> Option<Heading>
-    ensures { result ≡ header_of text.now }
-{
-    let mut columns = NO_COLUMNS;
-    let mut column = 1;
-    let mut from = 0;
-    let mut at = mark_from(text, from);
-    while at < text.len() {
-        let byte = text[at];
-        let next = at + 1;
-        if byte == LINE_FEED {
-            let to = last_end(text, from, at);
-            return Some(Heading {
-                columns: with_name(text, from, to, column, columns),
-                next,
-            });
-        }
-        if byte == QUOTE_MARK {
-            return None;
-        }
-        columns = with_name(text, from, at, column, columns);
-        column += 1;
-        from = next;
-        at = mark_from(text, from);
-    }
-    Some(Heading {
-        columns: with_name(text, from, at, column, columns),
-        next: at,
-    })
+    Some(read.keep(text, column, Span { from, to: at }).tell(at))
 }
 
 // The first byte from `from` on that is an LF, a quote mark or a comma, or the text's end.
@@ -186,10 +252,9 @@ fn last_end(text: &[u8], from: usize, at: usize) -> usize
 }
 
 // The fields with that of `column`, where it is wanted.
-fn with_field(columns: Columns, column: usize, from: usize, to: usize, fields: Fields) -> Fields
-    ensures { result ≡ with_field columns column (record { from = from; to = to }) fields }
+fn with_field(columns: Columns, column: usize, span: Span, fields: Fields) -> Fields
+    ensures { result ≡ with_field columns column span fields }
 {
-    let span = Span { from, to };
     Fields {
         trip: kept(columns.trip, column, fields.trip, span),
         arrival: kept(columns.arrival, column, fields.arrival, span),
@@ -207,53 +272,27 @@ fn kept(wanted: Option<usize>, column: usize, old: Span, new: Span) -> Span
 }
 
 // The columns with this one, where it has a name that none before it had.
-fn with_name(text: &[u8], from: usize, to: usize, column: usize, columns: Columns) -> Columns
-    requires { (from ≤ to) × (to ≤ length text.now) }
-    ensures { result ≡ with_name (slice from to text.now) column columns }
+fn with_name(text: &[u8], span: Span, column: usize, columns: Columns) -> Columns
+    requires { (span.from ≤ span.to) × (span.to ≤ length text.now) }
+    ensures { result ≡ with_name (slice span.from span.to text.now) column columns }
 {
+    let field = span.text_of(text);
     Columns {
-        trip: found(text, from, to, b"trip_id", column, columns.trip),
-        arrival: found(text, from, to, b"arrival_time", column, columns.arrival),
-        departure: found(text, from, to, b"departure_time", column, columns.departure),
-        stop: found(text, from, to, b"stop_id", column, columns.stop),
-        sequence: found(text, from, to, b"stop_sequence", column, columns.sequence),
+        trip: found(field, b"trip_id", column, columns.trip),
+        arrival: found(field, b"arrival_time", column, columns.arrival),
+        departure: found(field, b"departure_time", column, columns.departure),
+        stop: found(field, b"stop_id", column, columns.stop),
+        sequence: found(field, b"stop_sequence", column, columns.sequence),
     }
 }
 
 // Of a column that stands twice the first counts.
-#[tactic(auto, unfolding(crate::specs::Naming::found))]
-fn found(
-    text: &[u8],
-    from: usize,
-    to: usize,
-    name: &[u8],
-    column: usize,
-    before: Option<usize>,
-) -> Option<usize>
-    requires { (from ≤ to) × (to ≤ length text.now) }
-    ensures { result ≡ found_column (slice from to text.now) name.now column before }
+fn found(field: &[u8], name: &[u8], column: usize, before: Option<usize>) -> Option<usize>
+    ensures { result ≡ found_column field.now name.now column before }
 {
-    if same_text(text, from, to, name) {
+    if field == name {
         before.or(Some(column))
     } else {
         before
     }
-}
-
-// Whether a part of the text is the name.
-fn same_text(text: &[u8], from: usize, to: usize, name: &[u8]) -> bool
-    requires { (from ≤ to) × (to ≤ length text.now) }
-    ensures { result ≡ same_bytes (slice from to text.now) name.now }
-{
-    if to - from != name.len() {
-        return false;
-    }
-    let mut i = 0;
-    while i < name.len() {
-        if text[from + i] != name[i] {
-            return false;
-        }
-        i += 1;
-    }
-    true
 }
