@@ -5,8 +5,8 @@ use mathlib.Core.List.{List}
 use mathlib.Core.Path.{◌≡◌, refl, ap, sym, ◌∙◌}
 use native.Mathlib.Omega.{arith}
 use lib.Dec.{leb, ltb}
-use lib.ListN.{length, take, drop, get_or}
-use lib.Seq.{slice, get_or-drop, get_or-take, length-slice, length-take-le, take-add, drop_at}
+use lib.ListN.{length, take, get_or}
+use lib.Seq.{slice, get_or-drop, get_or-take, length-slice}
 use borrow.Author.Tests.{leb-true}
 use Rattle.std.specs.Prelude.{Some, None}
 use Rattle.laws.proofs.Tests.{both_right}
@@ -29,18 +29,6 @@ module _ (text : List ℕ) (span : Span) (inside : Inside (length text) span) wh
   lies_there =
       let ends : span.from + length (text_at text span) ≡ span.to = omega (arith, span_length, inside.rises) in
       record { inside = (let z : span.from + length (text_at text span) ≤ length text = omega (arith, inside.ends) in z); says = ap (λ k. slice span.from k text) ends }
-
-  -- a field is the part of the text that is lent
-  pub part_there : take (span.to - span.from) (drop span.from text) ≡ text_at text span
-  part_there =
-      let from = span.from in
-      let size = span.to - span.from in
-      let rises = inside.rises in
-      let ends = inside.ends in
-      let sum : from + size ≡ span.to = omega arith in
-      let front : length (take from text) ≡ from = length-take-le from text (omega arith) in
-      sym (drop_at (take from text) (take size (drop from text)) from front) ∙ ap (drop from) (sym (take-add from size text))
-      ∙ ap (λ n. drop from (take n text)) sum
 
   pub bytes_there : Bytes text → Bytes (text_at text span)
   bytes_there bytes =
@@ -98,7 +86,8 @@ module _ (text : List ℕ) (fields : Fields) (inside : AllInside (length text) f
 
 -- an id that lies there is short
 pub short_there : (text : List ℕ) (span : Span) → Inside (length text) span → id_rule (text_at text span) ≡ true
-    → span.to - span.from ≤ longest_id
+    → length (text_at text span) ≤ longest_id
+unfolding id_rule
 short_there text span inside e =
-    let size = span.to - span.from in
-    leb-true size longest_id (both_right (leb 1 size) (leb size longest_id) (sym (id_there text span inside) ∙ e))
+    let size = length (text_at text span) in
+    leb-true size longest_id (both_right (leb 1 size) (leb size longest_id) e)

@@ -1,13 +1,9 @@
 // Document 02, E2: what one line of `stop_times.txt` says by itself: a call, or the first fault of its fields.
 #![tactic(auto)]
 
-ghost use Rattle.std.specs.Prelude.{◌≡◌, ◌-◌, ◌≤◌, length};
-ghost use Rattle.gtfs_fields.specs.Time.{time_within};
-ghost use Rattle.gtfs_fields.specs.Whole.{whole_below};
-ghost use Rattle.gtfs_ids.specs.Ids.{longest_id};
-ghost use Rattle.gtfs_ids.specs.Keys.{key_of};
-ghost use Rattle.gtfs_stop_time.specs.StopTime.{last_minute, sequence_limit};
-ghost use Rattle.gtfs_stop_time.specs.Said.{AllInside, Inside, said_of, span_filled, span_id, text_at, unfilled_column};
+ghost use Rattle.std.specs.Prelude.{◌≡◌, ◌≤◌, length};
+ghost use Rattle.gtfs_stop_time.specs.StopTime.{last_minute};
+ghost use Rattle.gtfs_stop_time.specs.Said.{AllInside, said_of, span_filled, span_id, unfilled_column};
 
 use gtfs_fields::{time_within, whole_below};
 use gtfs_ids::{Key, key_of};
@@ -46,7 +42,7 @@ fn is_id(span: Span) -> bool
     requires { span.from ≤ span.to }
     ensures { result ≡ span_id span }
 {
-    let size = span.to - span.from;
+    let size = span.len();
     1 <= size && size <= LONGEST_ID
 }
 
@@ -55,7 +51,7 @@ fn is_filled(span: Span) -> bool
     requires { span.from ≤ span.to }
     ensures { result ≡ span_filled span }
 {
-    0 < span.to - span.from
+    0 < span.len()
 }
 
 // The first column whose field is missing, empty, or an id too long.
@@ -82,36 +78,6 @@ fn unfilled(fields: Fields, bytes: usize) -> Option<usize>
     None
 }
 
-// The time that a field says, in minutes from the service day's start.
-fn time_at(text: &[u8], span: Span, most: usize) -> Option<usize>
-    requires { Inside (length text.now) span × (most ≤ last_minute) }
-    ensures { result ≡ time_within most (text_at text.now span) }
-{
-    let from = span.from;
-    let to = span.to;
-    time_within(&text[from..to], most)
-}
-
-// The stop_sequence that a field says.
-fn sequence_at(text: &[u8], span: Span) -> Option<usize>
-    requires { Inside (length text.now) span }
-    ensures { result ≡ whole_below sequence_limit (text_at text.now span) }
-{
-    let from = span.from;
-    let to = span.to;
-    whole_below(&text[from..to], SEQUENCE_LIMIT)
-}
-
-// The key of the id that lies there.
-fn key_at(text: &[u8], span: Span) -> Key
-    requires { Inside (length text.now) span × (span.to - span.from ≤ longest_id) }
-    ensures { result ≡ key_of (text_at text.now span) }
-{
-    let from = span.from;
-    let to = span.to;
-    key_of(&text[from..to])
-}
-
 // What the fields of a line say, on a service day that starts at minute `start`.
 pub fn call_of(text: &[u8], fields: Fields, start: usize) -> Result<Call, FieldFault>
     requires { AllInside (length text.now) fields × (start ≤ last_minute) }
@@ -121,11 +87,11 @@ pub fn call_of(text: &[u8], fields: Fields, start: usize) -> Result<Call, FieldF
         return Err(FieldFault { number: 11, column });
     }
     let most = LAST_MINUTE - start;
-    let arrival = time_at(text, fields.arrival, most).ok_or(FieldFault {
+    let arrival = time_within(fields.arrival.text_of(text), most).ok_or(FieldFault {
         number: 12,
         column: 2,
     })?;
-    let departure = time_at(text, fields.departure, most).ok_or(FieldFault {
+    let departure = time_within(fields.departure.text_of(text), most).ok_or(FieldFault {
         number: 12,
         column: 3,
     })?;
@@ -135,14 +101,14 @@ pub fn call_of(text: &[u8], fields: Fields, start: usize) -> Result<Call, FieldF
             column: 0,
         });
     }
-    let sequence = sequence_at(text, fields.sequence).ok_or(FieldFault {
+    let sequence = whole_below(fields.sequence.text_of(text), SEQUENCE_LIMIT).ok_or(FieldFault {
         number: 13,
         column: 5,
     })?;
     Ok(Call {
-        trip: key_at(text, fields.trip),
+        trip: key_of(fields.trip.text_of(text)),
         tripplace: fields.trip.from,
-        stop: key_at(text, fields.stop),
+        stop: key_of(fields.stop.text_of(text)),
         stopplace: fields.stop.from,
         arrival: start + arrival,
         departure: start + departure,
