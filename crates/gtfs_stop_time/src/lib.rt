@@ -1,7 +1,7 @@
 // Document 02, E2: what one line of `stop_times.txt` says by itself: a call, or the first fault of its fields.
 #![tactic(auto)]
 
-ghost use Rattle.std.specs.Prelude.{◌≡◌, ◌≤◌, length};
+ghost use Rattle.std.specs.Prelude.{◌≡◌, ◌≤◌, ℕ, length};
 ghost use Rattle.gtfs_stop_time.specs.StopTime.{last_minute};
 ghost use Rattle.gtfs_stop_time.specs.Said.{AllInside, said_of, span_filled, span_id, unfilled_column};
 
@@ -56,8 +56,8 @@ fn is_filled(span: Span) -> bool
 
 // The first column whose field is missing, empty, or an id too long.
 #[tactic(auto, unfolding(crate::specs::Said::unfilled_column))]
-fn unfilled(fields: Fields, bytes: usize) -> Option<usize>
-    requires { AllInside bytes fields }
+fn unfilled(fields: Fields) -> Option<usize>
+    requires { (bytes : ℕ) × AllInside bytes fields }
     ensures { result ≡ unfilled_column fields }
 {
     if !is_id(fields.trip) {
@@ -83,7 +83,7 @@ pub fn call_of(text: &[u8], fields: Fields, start: usize) -> Result<Call, FieldF
     requires { AllInside (length text.now) fields × (start ≤ last_minute) }
     ensures { result ≡ said_of start text.now fields }
 {
-    if let Some(column) = unfilled(fields, text.len()) {
+    if let Some(column) = unfilled(fields) {
         return Err(FieldFault { number: 11, column });
     }
     let most = LAST_MINUTE - start;
