@@ -5,7 +5,7 @@ ghost use Rattle.std.specs.Prelude.{◌≡◌};
 ghost use Rattle.gtfs_import.specs.Import.{import_answer, import_outcome};
 ghost use Rattle.trial_answers.specs.Seen.{seen};
 
-use gtfs_import::{Imported, import_stop_times};
+use gtfs_import::import_stop_times;
 use numbers::{cell, number};
 use trial_answers::put_six;
 
@@ -15,20 +15,24 @@ pub extern "C" fn trial_import(text: &[u8], day: u32, out: &mut [u8], answer: &m
     ensures { (answer.new ≡ seen (import_answer (import_outcome text.now day out.old).answer) answer.old)
         × (out.new ≡ (import_outcome text.now day out.old).out) }
 {
-    let imported = import_stop_times(text, number(day), out);
-    match imported {
-        Imported::Written { trailer, bytes } => put_six(
+    match import_stop_times(text, number(day), out) {
+        Ok(file) => put_six(
             0,
             0,
-            cell(trailer.stops),
-            cell(trailer.rows),
-            cell(trailer.classes),
-            cell(bytes),
+            cell(file.trailer.stops),
+            cell(file.trailer.rows),
+            cell(file.trailer.classes),
+            cell(file.bytes),
             answer,
         ),
-        Imported::Refused {
-            number: refusal,
-            place,
-        } => put_six(cell(refusal), cell(place), 0, 0, 0, 0, answer),
+        Err(refusal) => put_six(
+            cell(refusal.number),
+            cell(refusal.place),
+            0,
+            0,
+            0,
+            0,
+            answer,
+        ),
     }
 }
