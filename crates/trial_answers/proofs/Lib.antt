@@ -1,3 +1,2 @@
--- Laws of an answer as six numbers.
-pub mod Six
+-- What a buffer of six numbers settles.
 pub mod Settled
