@@ -6,7 +6,11 @@ use mathlib.Core.Logic.{⊎_elim}
 use mathlib.Core.Path.{◌≡◌, refl}
 use native.Mathlib.Omega.{arith}
 use Rattle.laws.proofs.Tests.{ifb}
+use Rattle.std.specs.Prelude.{Result, Ok, Err}
+use Rattle.std.specs.Result.{MatchResult}
 use Rattle.timetable.specs.Verdict.{refused}
+use Rattle.timetable.specs.declared.Refusal.{Refusal}
+use Rattle.tally_table.specs.declared.Table.{Table}
 use Rattle.tally_table.specs.Outcome.{tabled}
 use Rattle.file_layout.specs.declared.Format.{Format}
 use Rattle.tally.specs.Tally.{apart, most_count, counts_rule}
@@ -36,3 +40,16 @@ module _ (f : Format) (tally shares : List ℕ) where
         omega (arith, stands.rests_on, first_within tally (suc f.delay) kept),
         omega (arith, stands.stand_apart, counts_kept tally kept (apart f.delay)),
       )
+
+  -- the same of whatever is answered; the first part names the outcome, for a tactic that looks for it
+  pub table_fits : (table_outcome f tally shares ≡ table_outcome f tally shares)
+      × MatchResult (table_outcome f tally shares).answer
+      (λ table. (table.delay ≤ f.delay) × (table.landings ≤ suc f.delay * most_count) × (table.apart ≤ most_count))
+      (λ refusal. (refusal.number ≤ 16) × (refusal.place ≤ 0))
+  table_fits = (refl, of_answer (table_outcome f tally shares).answer refl)
+    where
+      of_answer : (answer : Result Table (Refusal ℕ)) → (table_outcome f tally shares).answer ≡ answer
+          → MatchResult answer (λ table. (table.delay ≤ f.delay) × (table.landings ≤ suc f.delay * most_count) × (table.apart ≤ most_count))
+          (λ refusal. (refusal.number ≤ 16) × (refusal.place ≤ 0))
+      of_answer (Ok table) told = table_small table.delay table.landings table.apart told
+      of_answer (Err refusal) told = refused_small refusal.number refusal.place told

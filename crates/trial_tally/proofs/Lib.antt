@@ -1,3 +1,2 @@
--- Laws of what the comparison sees of tallies and tables.
-pub mod Six
+-- What the calls for the comparison settle.
 pub mod Settled

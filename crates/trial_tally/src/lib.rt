@@ -9,11 +9,12 @@ ghost use Rattle.tally_table.specs.Outcome.{table_outcome, table_answer};
 ghost use Rattle.trial_answers.specs.Seen.{seen};
 
 use numbers::{cell, number};
-use tally::{COUNTS, Landing, Tallied, tally_landing};
-use tally_table::{Made, SHARES, table_of};
+use tally::{COUNTS, Landing, tally_landing};
+use tally_table::{SHARES, table_of};
 use trial_answers::put_six;
 
 // A landing: number and place; and the tally.
+#[tactic(auto, using(tally::proofs::Small::landing_fits), unfolding(trial_answers::specs::Seen::seen, trial_answers::specs::Seen::six, tally::specs::Outcome::tally_answer))]
 #[unsafe(no_mangle)]
 pub extern "C" fn trial_tally(
     planned: u32,
@@ -28,32 +29,45 @@ pub extern "C" fn trial_tally(
         planned: number(planned),
         actual: number(actual),
     };
-    let tallied = tally_landing(landing, tally);
-    match tallied {
-        Tallied::Counted => put_six(0, 0, 0, 0, 0, 0, answer),
-        Tallied::Refused {
-            number: refusal,
-            place,
-        } => put_six(cell(refusal), cell(place), 0, 0, 0, 0, answer),
+    match tally_landing(landing, tally) {
+        Ok(()) => put_six(0, 0, 0, 0, 0, 0, answer),
+        Err(refusal) => put_six(
+            cell(refusal.number),
+            cell(refusal.place),
+            0,
+            0,
+            0,
+            0,
+            answer,
+        ),
     }
 }
 
 // The table of a tally: number, place, M, the landings that it rests on, those that stand apart; and the shares.
+#[tactic(auto, using(tally_table::proofs::Small::table_fits), unfolding(trial_answers::specs::Seen::seen, trial_answers::specs::Seen::six, tally_table::specs::Outcome::table_answer))]
 #[unsafe(no_mangle)]
 pub extern "C" fn trial_table(tally: &[u32; COUNTS], shares: &mut [u32; SHARES], answer: &mut [u32])
     ensures { (answer.new ≡ seen (table_answer (table_outcome version_one tally.now shares.old).answer) answer.old)
         × (shares.new ≡ (table_outcome version_one tally.now shares.old).shares) }
 {
-    let made = table_of(tally, shares);
-    match made {
-        Made::Table {
-            delay,
-            landings,
-            apart,
-        } => put_six(0, 0, cell(delay), cell(landings), cell(apart), 0, answer),
-        Made::Refused {
-            number: refusal,
-            place,
-        } => put_six(cell(refusal), cell(place), 0, 0, 0, 0, answer),
+    match table_of(tally, shares) {
+        Ok(table) => put_six(
+            0,
+            0,
+            cell(table.delay),
+            cell(table.landings),
+            cell(table.apart),
+            0,
+            answer,
+        ),
+        Err(refusal) => put_six(
+            cell(refusal.number),
+            cell(refusal.place),
+            0,
+            0,
+            0,
+            0,
+            answer,
+        ),
     }
 }
