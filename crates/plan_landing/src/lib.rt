@@ -16,7 +16,7 @@ ghost use Rattle.plan_landing.specs.Boarding.{Boarding, SomeBoarding};
 use numbers::{cell, long, number, short};
 use plan_cells::NONE;
 use plan_rows::{BLOCK, EXPECTED, MAX_DELAY, SHARES, can_board, ready};
-use plan_stacks::{departure_of, first_open, stack_of};
+use plan_stacks::{departure_of, stack_of};
 use plans::Goal;
 use timetable::Row;
 
@@ -47,7 +47,7 @@ pub fn getting_off(row: Row, tables: &[u32], goal: Goal, work: &[u32]) -> u32
         return NONE;
     }
     let soon = ready(goal.gate, row.arrival);
-    let at = first_open(work, stack, soon);
+    let at = stack.first_open(work, soon);
     changing(work, at, soon, last, tables, class + SHARES)
 }
 

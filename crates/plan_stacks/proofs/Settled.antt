@@ -21,14 +21,14 @@ use Rattle.plan_stacks.proofs.reserve.Kinds as reserve_kinds
 use Rattle.plan_stacks.proofs.reserve.Reads as reserve_reads
 use Rattle.plan_stacks.proofs.part_stacks.Kinds as part_stacks_kinds
 use Rattle.plan_stacks.proofs.part_stacks.Reads as part_stacks_reads
-use Rattle.plan_stacks.proofs.top.Kinds as top_kinds
-use Rattle.plan_stacks.proofs.top.Reads as top_reads
-use Rattle.plan_stacks.proofs.push.Kinds as push_kinds
-use Rattle.plan_stacks.proofs.push.Reads as push_reads
-use Rattle.plan_stacks.proofs.replace_top.Kinds as replace_top_kinds
-use Rattle.plan_stacks.proofs.replace_top.Reads as replace_top_reads
-use Rattle.plan_stacks.proofs.first_open.Kinds as first_open_kinds
-use Rattle.plan_stacks.proofs.first_open.Reads as first_open_reads
+use Rattle.plan_stacks.proofs.Stack.top.Kinds as top_kinds
+use Rattle.plan_stacks.proofs.Stack.top.Reads as top_reads
+use Rattle.plan_stacks.proofs.Stack.push.Kinds as push_kinds
+use Rattle.plan_stacks.proofs.Stack.push.Reads as push_reads
+use Rattle.plan_stacks.proofs.Stack.replace_top.Kinds as replace_top_kinds
+use Rattle.plan_stacks.proofs.Stack.replace_top.Reads as replace_top_reads
+use Rattle.plan_stacks.proofs.Stack.first_open.Kinds as first_open_kinds
+use Rattle.plan_stacks.proofs.Stack.first_open.Reads as first_open_reads
 
 pub departure_of_settled : SettlesResult 0 departure_of_kinds.ps departure_of_kinds.r departure_of_reads.Post
 departure_of_settled κs arguments one other ending another first second = first ∙ sym second
@@ -62,13 +62,13 @@ top_settled κs arguments one other ending another first second =
 pub push_settled :
     (κs : Lfts 1) (arguments : Dens κs push_kinds.ps) (one other : (res_t push_kinds.r κs).Denot)
     (ending another : AtExit (ended_of 1 push_kinds.ps push_kinds.r) κs) → push_reads.Post κs arguments one ending
-    → push_reads.Post κs arguments other another → ending.0.now ≡ another.0.now
+    → push_reads.Post κs arguments other another → ending.1.0.now ≡ another.1.0.now
 push_settled κs arguments one other ending another first second = first ∙ sym second
 
 pub replace_top_settled :
     (κs : Lfts 1) (arguments : Dens κs replace_top_kinds.ps) (one other : (res_t replace_top_kinds.r κs).Denot)
     (ending another : AtExit (ended_of 1 replace_top_kinds.ps replace_top_kinds.r) κs) → replace_top_reads.Post κs arguments one ending
-    → replace_top_reads.Post κs arguments other another → ending.0.now ≡ another.0.now
+    → replace_top_reads.Post κs arguments other another → ending.1.0.now ≡ another.1.0.now
 replace_top_settled κs arguments one other ending another first second = first ∙ sym second
 
 pub reserve_settled :

@@ -23,9 +23,9 @@ pub struct Stack {
     pub size: usize,
 }
 
-// A stack's top entry: its row, when it departs, and what it is worth.
+// A chosen row as an entry says it: its row, when it departs, and what it is worth.
 #[derive(Clone, Copy)]
-pub struct TopEntry {
+pub struct ChosenRow {
     pub row: usize,
     pub departure: usize,
     pub worth: u32,
@@ -76,59 +76,105 @@ pub fn row_of(key: u32) -> usize
     number(key) % KEY
 }
 
-// The first chosen row of a stack that is not empty.
-pub fn top(work: &[u32], stack: Stack) -> TopEntry
-    requires { (0 < stack.size) × (stack.start + 2 * stack.size ≤ length work.now) }
-    ensures { (result.row ≡ entry_row work.now stack.start (stack.size - 1))
-        × (result.departure ≡ entry_departure work.now stack.start (stack.size - 1))
-        × (result.worth ≡ entry_worth work.now stack.start (stack.size - 1)) }
-{
-    let at = stack.start + 2 * (stack.size - 1);
-    TopEntry {
-        row: row_of(work[at]),
-        departure: departure_of(work[at]),
-        worth: work[at + 1],
+impl Stack {
+    // The first chosen row of a stack that is not empty.
+    pub fn top(self, work: &[u32]) -> ChosenRow
+        requires { (0 < self.size) × (self.start + 2 * self.size ≤ length work.now) }
+        ensures { (result.row ≡ entry_row work.now self.start (self.size - 1))
+            × (result.departure ≡ entry_departure work.now self.start (self.size - 1))
+            × (result.worth ≡ entry_worth work.now self.start (self.size - 1)) }
+    {
+        let at = self.start + 2 * (self.size - 1);
+        ChosenRow {
+            row: row_of(work[at]),
+            departure: departure_of(work[at]),
+            worth: work[at + 1],
+        }
     }
-}
 
-// A chosen row goes on top of its stop's stack.
-pub fn push(work: &mut [u32], stop: usize, stack: Stack, departure: usize, row: usize, worth: u32)
-    requires { (stop < most_stops) × (pair_cells ≤ stack.start) × (stack.size < 4294967295)
-        × (stack.start + 2 * stack.size + 1 < length work.old) × (key_of departure row < 4294967296) }
-    ensures { work.new
-        ≡ with_size (with_entry work.old stack.start stack.size departure row worth) stop (suc stack.size) }
-{
-    write_entry(work, stack.start + 2 * stack.size, departure, row, worth);
-    work[SIZE_CELLS + stop] = cell(stack.size + 1);
-}
+    // A chosen row goes on top of its stop's stack.
+    pub fn push(self, work: &mut [u32], stop: usize, chosen: ChosenRow)
+        requires { (stop < most_stops) × (pair_cells ≤ self.start) × (self.size < 4294967295)
+            × (self.start + 2 * self.size + 1 < length work.old) × (key_of chosen.departure chosen.row < 4294967296) }
+        ensures { work.new ≡ with_size
+            (with_entry work.old self.start self.size chosen.departure chosen.row chosen.worth) stop (suc self.size) }
+    {
+        write_entry(work, self.start + 2 * self.size, chosen);
+        work[SIZE_CELLS + stop] = cell(self.size + 1);
+    }
 
-// A chosen row takes the place of the top one.
-pub fn replace_top(work: &mut [u32], stack: Stack, departure: usize, row: usize, worth: u32)
-    requires { (0 < stack.size) × (stack.start + 2 * stack.size ≤ length work.old) × (key_of departure row < 4294967296) }
-    ensures { work.new ≡ with_entry work.old stack.start (stack.size - 1) departure row worth }
-{
-    let at = stack.start + 2 * (stack.size - 1);
-    write_entry(work, at, departure, row, worth);
-}
+    // A chosen row takes the place of the top one.
+    pub fn replace_top(self, work: &mut [u32], chosen: ChosenRow)
+        requires { (0 < self.size) × (self.start + 2 * self.size ≤ length work.old)
+            × (key_of chosen.departure chosen.row < 4294967296) }
+        ensures { work.new ≡ with_entry work.old self.start (self.size - 1) chosen.departure chosen.row chosen.worth }
+    {
+        let at = self.start + 2 * (self.size - 1);
+        write_entry(work, at, chosen);
+    }
 
-// The entry of a row at cell `at`.
-fn write_entry(work: &mut [u32], at: usize, departure: usize, row: usize, worth: u32)
-    requires { (key_of departure row < 4294967296) × (at + 1 < length work.old) }
-    ensures { work.new ≡ two_at work.old at (key_of departure row) worth }
-{
-    work[at] = cell(KEY * departure + row);
-    work[at + 1] = worth;
-}
+    // The cell of the stack's first entry that one who stands there at `minute` can board.
+    pub fn first_open(self, work: &[u32], minute: usize) -> usize
+        requires { Falling work.now self.start self.size minute }
+        ensures { FirstOpenAt work.now self.start self.size minute result }
+    {
+        let span = self.span_from_top(work, minute);
+        let short = self.quarter(work, span, minute);
+        self.start + 2 * self.last_open(work, short, minute)
+    }
 
-// The cell of the stack's first entry that one who stands there at `minute` can board.
-pub fn first_open(work: &[u32], stack: Stack, minute: usize) -> usize
-    requires { Falling work.now stack.start stack.size minute }
-    ensures { FirstOpenAt work.now stack.start stack.size minute result }
-{
-    let start = stack.start;
-    let span = span_from_top(work, start, stack.size, minute);
-    let short = quarter(work, start, span, minute);
-    start + 2 * last_open(work, start, short, minute)
+    // In steps that double, from the top: most rides land soon, where the next rows leave. `while`: no index is counted.
+    fn span_from_top(self, work: &[u32], minute: usize) -> Span
+        requires { Falling work.now self.start self.size minute }
+        ensures { Narrowed work.now self.start self.size minute result.low result.left }
+    {
+        let mut high = self.size;
+        let mut step = 1;
+        while step < high {
+            let low = high - step;
+            if open_at(work, self.start + 2 * low, minute) == 1 {
+                return Span { low, left: step };
+            }
+            high = low;
+            step *= 2;
+        }
+        Span { low: 0, left: high }
+    }
+
+    // By quarters, as long as a span has four entries: three looks at once and no branch on what they see. `while`: no index is counted.
+    fn quarter(self, work: &[u32], span: Span, minute: usize) -> Span
+        requires { Searched work.now self.start minute span.low span.left }
+        ensures { Narrowed work.now self.start (span.low + span.left) minute result.low result.left × (result.left < 4) }
+    {
+        let start = self.start;
+        let mut low = span.low;
+        let mut left = span.left;
+        while 4 <= left {
+            let step = left / 4;
+            left -= 3 * step;
+            low += step
+                * (open_at(work, start + 2 * (low + step), minute)
+                    + open_at(work, start + 2 * (low + 2 * step), minute)
+                    + open_at(work, start + 2 * (low + 3 * step), minute));
+        }
+        Span { low, left }
+    }
+
+    // The last entry that can be boarded in a span of at most three.
+    fn last_open(self, work: &[u32], span: Span, minute: usize) -> usize
+        requires { Searched work.now self.start minute span.low span.left × (span.left < 4) }
+        ensures { Narrowed work.now self.start (span.low + span.left) minute result 1 }
+    {
+        let low = span.low;
+        let at = self.start + 2 * low;
+        if span.left == 1 {
+            return low;
+        }
+        if span.left == 2 {
+            return low + open_at(work, at + 2, minute);
+        }
+        low + open_at(work, at + 2, minute) + open_at(work, at + 4, minute)
+    }
 }
 
 // Entries of a stack, `left` of them from place `low` on: the highest that can be boarded is among them.
@@ -138,56 +184,13 @@ struct Span {
     left: usize,
 }
 
-// In steps that double, from the top: most rides land soon, where the next rows leave. `while`: no index is counted.
-fn span_from_top(work: &[u32], start: usize, size: usize, minute: usize) -> Span
-    requires { Falling work.now start size minute }
-    ensures { Narrowed work.now start size minute result.low result.left }
+// The entry of a chosen row at cell `at`.
+fn write_entry(work: &mut [u32], at: usize, chosen: ChosenRow)
+    requires { (key_of chosen.departure chosen.row < 4294967296) × (at + 1 < length work.old) }
+    ensures { work.new ≡ two_at work.old at (key_of chosen.departure chosen.row) chosen.worth }
 {
-    let mut high = size;
-    let mut step = 1;
-    while step < high {
-        let low = high - step;
-        if open_at(work, start + 2 * low, minute) == 1 {
-            return Span { low, left: step };
-        }
-        high = low;
-        step *= 2;
-    }
-    Span { low: 0, left: high }
-}
-
-// By quarters, as long as a span has four entries: three looks at once and no branch on what they see. `while`: no index is counted.
-fn quarter(work: &[u32], start: usize, span: Span, minute: usize) -> Span
-    requires { Searched work.now start minute span.low span.left }
-    ensures { Narrowed work.now start (span.low + span.left) minute result.low result.left × (result.left < 4) }
-{
-    let mut low = span.low;
-    let mut left = span.left;
-    while 4 <= left {
-        let step = left / 4;
-        left -= 3 * step;
-        low += step
-            * (open_at(work, start + 2 * (low + step), minute)
-                + open_at(work, start + 2 * (low + 2 * step), minute)
-                + open_at(work, start + 2 * (low + 3 * step), minute));
-    }
-    Span { low, left }
-}
-
-// The last entry that can be boarded in a span of at most three.
-fn last_open(work: &[u32], start: usize, span: Span, minute: usize) -> usize
-    requires { Searched work.now start minute span.low span.left × (span.left < 4) }
-    ensures { Narrowed work.now start (span.low + span.left) minute result 1 }
-{
-    let low = span.low;
-    let at = start + 2 * low;
-    if span.left == 1 {
-        return low;
-    }
-    if span.left == 2 {
-        return low + open_at(work, at + 2, minute);
-    }
-    low + open_at(work, at + 2, minute) + open_at(work, at + 4, minute)
+    work[at] = cell(KEY * chosen.departure + chosen.row);
+    work[at + 1] = chosen.worth;
 }
 
 // 1 if the entry at cell `at` can be boarded at `minute`, else 0: a step's factor, where a bool would be a branch. Keys are compared: no division.
