@@ -6,7 +6,7 @@ ghost use Rattle.timetable.specs.Timetable.{row_of};
 ghost use Rattle.file_layout.specs.Small.{SmallRow};
 ghost use Rattle.query.specs.Query.{most_gate};
 ghost use Rattle.plans.specs.Rides.{ready as ready_from};
-ghost use Rattle.plan_rows.specs.Reading.{rows_in, FileReadable, Cut};
+ghost use Rattle.plan_rows.specs.Reading.{Cut};
 ghost use Rattle.plan_rows.specs.Sailings.{rows_of};
 
 mod sailings;
@@ -65,14 +65,6 @@ impl<'a> Sailings<'a> {
     }
 }
 
-// Row number `i`.
-pub fn nth_row(file: &[u8], s: SectionPlaces, i: usize) -> Row
-    requires { FileReadable file.now s × (i < s.rows) }
-    ensures { (result ≡ row_of (rows_in file.now s) i) × SmallRow result }
-{
-    row_at(file, s.rowstart + s.width * i)
-}
-
 // When one who is at a stop from `minute` on is ready to board there.
 pub fn ready(gate: usize, minute: usize) -> usize
     requires { (gate ≤ most_gate) × (minute < 4294967296) }
@@ -86,23 +78,4 @@ pub fn can_board(departure: usize, minute: usize) -> bool
     ensures { result ≡ leb minute departure }
 {
     minute <= departure
-}
-
-// How many rows depart before `minute`: they stand ahead of all others.
-pub fn rows_before(file: &[u8], s: SectionPlaces, minute: usize) -> usize
-    requires { FileReadable file.now s }
-    ensures { Cut (rows_in file.now s) minute result }
-{
-    let mut low = 0;
-    let mut high = s.rows;
-    while low < high {
-        let middle = low + (high - low) / 2;
-        let row = nth_row(file, s, middle);
-        if can_board(row.departure, minute) {
-            high = middle;
-        } else {
-            low = middle + 1;
-        }
-    }
-    low
 }
