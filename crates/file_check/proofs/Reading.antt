@@ -3,7 +3,6 @@ use Prim.Native.Nat.{ℕ, suc, ◌+◌, ◌-◌, ◌*◌, ◌≤◌, ◌<◌}
 use mathlib.Core.Bool.{Bool, true, false, ◌&&◌}
 use mathlib.Core.List.{List, [], ◌∷◌}
 use mathlib.Core.Path.{◌≡◌, refl, ap, sym, subst⁻¹, ◌∙◌}
-use native.Mathlib.Nat.{mul-le-mul_left}
 use native.Mathlib.Numerals.{add-one}
 use native.Mathlib.Omega.{arith}
 use lib.Dec.{leb}
@@ -48,13 +47,6 @@ module _ (g : Ranges) (width : ℕ) (s : List ℕ) (start count : ℕ) where
     reading_ends h =
         known.same_verdict ∙ all_kept g width s (rows_behind width s start i) i (start + width * i) (count - i) (let z : count - i ≡ 0 = omega arith in z)
 
-    -- a hint lies within the rows
-    pub hint_inside : (trip : ℕ) → trip < most_trips → start + width * get_or seen trip 0 ≤ start + width * count
-    hint_inside trip h =
-        let hint = known.trips_seen.hints trip h in
-        let within : get_or seen trip 0 ≤ count = omega (arith, hint.within, known.inside) in
-        omega (arith, mul-le-mul_left width within)
-
     module _ (more : i < count) (row : Row) (read : row ≡ row_at s (start + width * i)) where
       abbrev at : ℕ
       at = start + width * i
@@ -66,15 +58,14 @@ module _ (g : Ranges) (width : ℕ) (s : List ℕ) (start count : ℕ) where
       one = omega arith
 
       -- the rules of departures and of the trip, as the code asks for them
-      abbrev pub order : Bool
-      order =
-          leb departure row.departure
-          && follows (last_of_trip row.trip (rows_behind width s start (get_or seen row.trip 0))) row
+      abbrev pub order : ℕ → Bool
+      order hint = leb departure row.departure && follows (last_of_trip row.trip (rows_behind width s start hint)) row
 
-      order_asked : row.trip < most_trips
-          → order ≡ (leb (departure_before back) (row_at s at).departure && follows (last_of_trip (row_at s at).trip back) (row_at s at))
-      order_asked h =
-          ap (λ o. leb departure row.departure && follows o row) (known.trips_seen.hints row.trip h).same_found
+      order_asked : (hint : ℕ) → hint ≡ get_or seen row.trip 0 → row.trip < most_trips
+          → order hint ≡ (leb (departure_before back) (row_at s at).departure && follows (last_of_trip (row_at s at).trip back) (row_at s at))
+      order_asked hint told h =
+          ap order told
+          ∙ ap (λ o. leb departure row.departure && follows o row) (known.trips_seen.hints row.trip h).same_found
           ∙ ap (λ d. leb d row.departure && follows (last_of_trip row.trip back) row) known.before
           ∙ ap (λ r. leb (departure_before back) r.departure && follows (last_of_trip r.trip back) r) read
 
@@ -85,41 +76,38 @@ module _ (g : Ranges) (width : ℕ) (s : List ℕ) (start count : ℕ) where
       breaks_own own =
           known.same_verdict ∙ breaks_four g width s back i at (count - suc i) (count - i) one (own_asked false own)
 
-      pub breaks_order : own_rule g row ≡ true → order ≡ false → whole g width s start count ≡ fault 5 i
-      breaks_order own broken =
+      pub breaks_order : (hint : ℕ) → hint ≡ get_or seen row.trip 0 → own_rule g row ≡ true → order hint ≡ false → whole g width s start count ≡ fault 5 i
+      breaks_order hint told own broken =
           known.same_verdict
           ∙ breaks_five g width s back i at (count - suc i) (count - i) one (own_asked true own)
-          (sym (order_asked (own_gives g row own).trip) ∙ broken)
+          (sym (order_asked hint told (own_gives g row own).trip) ∙ broken)
 
-      departure_next : (row_at s at).departure ≡ departure_before (rows_behind width s start (suc i))
-      unfolding departure_before rows_behind
-      departure_next = refl
-
-      verdict_next : own_rule g row ≡ true → order ≡ true
+      verdict_next : (hint : ℕ) → hint ≡ get_or seen row.trip 0 → own_rule g row ≡ true → order hint ≡ true
           → whole g width s start count
           ≡ rows_verdict g (rows_behind width s start (suc i)) (suc i) (rows_from width s (start + width * suc i) (count - suc i))
       unfolding rows_behind
-      verdict_next own kept =
+      verdict_next hint told own kept =
           known.same_verdict
           ∙ keeps_both g width s back i at (count - suc i) (count - i) one (own_asked true own)
-          (sym (order_asked (own_gives g row own).trip) ∙ kept)
+          (sym (order_asked hint told (own_gives g row own).trip) ∙ kept)
           ∙ ap (λ n. rows_verdict g (row_at s at ∷ back) (suc i) (rows_from width s n (count - suc i))) (let z : at + width ≡ start + width * suc i = omega arith in z)
 
-      reads_next : own_rule g row ≡ true → order ≡ true
+      reads_next : (hint : ℕ) → hint ≡ get_or seen row.trip 0 → own_rule g row ≡ true → order hint ≡ true
           → Reading g width s start count (set seen (row_at s at).trip (suc i)) (row_at s at).departure (suc i)
-      reads_next own kept =
+      unfolding departure_before rows_behind
+      reads_next hint told own kept =
           record {
             inside = omega arith;
-            before = departure_next;
+            before = refl;
             trips_seen =
                 seen_more width s start i seen known.trips_seen
                 (own_gives g (row_at s at) (own_asked true own)).trip;
-            same_verdict = verdict_next own kept;
+            same_verdict = verdict_next hint told own kept;
           }
 
-      pub reads_on : own_rule g row ≡ true → order ≡ true
+      pub reads_on : (hint : ℕ) → hint ≡ get_or seen row.trip 0 → own_rule g row ≡ true → order hint ≡ true
           → Reading g width s start count (set seen row.trip (i + 1)) row.departure (i + 1)
-      reads_on own kept =
+      reads_on hint told own kept =
           subst⁻¹ (λ n. Reading g width s start count (set seen row.trip n) row.departure n) (add-one i)
           (subst⁻¹ (λ r. Reading g width s start count (set seen r.trip (suc i)) r.departure (suc i)) read
-          (reads_next own kept))
+          (reads_next hint told own kept))

@@ -85,7 +85,7 @@ impl RowBytes<'_> {
                 });
             }
             let trip = row.trip;
-            if !self.in_order(seen[trip] as usize, departure, row) {
+            if !self.in_order(usize::from(seen[trip]), departure, row) {
                 return Err(Refusal {
                     number: 5,
                     place: i,

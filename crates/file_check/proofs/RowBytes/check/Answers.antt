@@ -27,7 +27,7 @@ returns-then-not-in_order c =
     sym
     (ap (read_by tt)
     (breaks_order c.args.ranges rows.width rows.file.now rows.start rows.count l.seen l.departure l.i l.invariant
-    c.loop-i-test.true c.nth-row.result c.nth-row.ensures.0 (sym c.own_rule.ensures ∙ c.if-not-own_rule.false)
+    c.loop-i-test.true c.nth-row.result c.nth-row.ensures.0 _ c.from.ensures (sym c.own_rule.ensures ∙ c.if-not-own_rule.false)
     (sym c.in_order.ensures ∙ c.if-not-in_order.true)))
 
 pub bounds-seen-trip-in-loop-i : goal.bounds-seen-trip-in-loop-i
@@ -38,7 +38,7 @@ loop-i-preserved c =
     let rows = c.args.self.now in
     let l = c.loop-i in
     reads_on c.args.ranges rows.width rows.file.now rows.start rows.count l.seen l.departure l.i l.invariant
-    c.loop-i-test.true c.nth-row.result c.nth-row.ensures.0 (sym c.own_rule.ensures ∙ c.if-not-own_rule.false)
+    c.loop-i-test.true c.nth-row.result c.nth-row.ensures.0 _ c.from.ensures (sym c.own_rule.ensures ∙ c.if-not-own_rule.false)
     (sym c.in_order.ensures ∙ c.if-not-in_order.false)
 
 pub returns : goal.returns
