@@ -22,7 +22,7 @@ pub fn print_file_fault(out: &Output, file: &[u8], f: Format, refusal: Refusal<u
     let broken = BrokenFile::of(file, f);
     let place = refusal.place;
     match refusal.number {
-        1 => sizes::print_size_fault(out, f, file.len(), more, broken.trailer),
+        1 => sizes::print_size_fault(out, broken, more),
         2 => classes::print_layout_fault(out, broken),
         3 => classes::print_class_fault(out, broken, place),
         4 => rows::print_own_fault(out, broken, place),

@@ -1,23 +1,25 @@
 // Refusal 1: file length, version, S, n or K outside its range.
+use crate::broken::BrokenFile;
 use explain_words::{say, say_count, say_number};
 use file_layout::{Format, Trailer};
 use file_sections::{length_in_range, rows_rule, stops_rule, version_rule};
 use files::Output;
 use timetable::{FEWEST_CLASSES, FEWEST_STOPS, MOST_CLASSES, MOST_ROWS, MOST_STOPS};
 
-// The first number that is out of its range, in a file of `length` bytes or, with `more`, of more.
-pub fn print_size_fault(out: &Output, f: Format, length: usize, more: bool, trailer: Trailer) {
-    if !length_in_range(f, length) {
-        print_length_fault(out, f, length, more);
+// The first number that is out of its range; with `more` the file goes on beyond its bytes.
+pub fn print_size_fault(out: &Output, broken: BrokenFile, more: bool) {
+    let f = broken.f;
+    if !length_in_range(f, broken.bytes.len()) {
+        print_length_fault(out, f, broken.bytes.len(), more);
         return;
     }
-    if !version_rule(f, trailer) {
+    if !version_rule(f, broken.trailer) {
         say_number(out, b"The last ", f.trailer);
         say_number(out, b" bytes are no trailer of version ", f.version);
         say(out, b": cut off, lengthened or no sailing file.\n");
         return;
     }
-    print_count_fault(out, trailer);
+    print_count_fault(out, broken.trailer);
 }
 
 fn print_length_fault(out: &Output, f: Format, length: usize, more: bool) {
