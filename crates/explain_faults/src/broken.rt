@@ -6,7 +6,7 @@ ghost use Rattle.explain_faults.specs.Broken.{row_in};
 
 use file_check::RowBytes;
 use file_layout::{Format, Trailer};
-use file_sections::{class_blocks, shares_sum};
+use file_sections::{BlockBytes, shares_sum};
 use timetable::Row;
 
 // The trailer and the row that are not there.
@@ -99,7 +99,12 @@ impl<'a> BrokenFile<'a> {
 
     // Where `count` class blocks end, the first of them at `at`, if the check finds no fault in them.
     pub fn blocks_end(&self, at: usize, count: usize) -> Option<usize> {
-        class_blocks(self.bytes, self.f, self.trailer_start(), at, count).ok()
+        let blocks = BlockBytes {
+            file: self.bytes,
+            f: self.f,
+            end: self.trailer_start(),
+        };
+        blocks.class_blocks(at, count).ok()
     }
 
     // The number of two bytes at `at`.

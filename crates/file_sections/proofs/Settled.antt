@@ -13,8 +13,8 @@ use Rattle.file_sections.proofs.rows_rule.Kinds as rows_rule_kinds
 use Rattle.file_sections.proofs.rows_rule.Reads as rows_rule_reads
 use Rattle.file_sections.proofs.rows_end.Kinds as rows_end_kinds
 use Rattle.file_sections.proofs.rows_end.Reads as rows_end_reads
-use Rattle.file_sections.proofs.class_blocks.Kinds as class_blocks_kinds
-use Rattle.file_sections.proofs.class_blocks.Reads as class_blocks_reads
+use Rattle.file_sections.proofs.BlockBytes.class_blocks.Kinds as class_blocks_kinds
+use Rattle.file_sections.proofs.BlockBytes.class_blocks.Reads as class_blocks_reads
 use Rattle.file_sections.proofs.delay_rule.Kinds as delay_rule_kinds
 use Rattle.file_sections.proofs.delay_rule.Reads as delay_rule_reads
 use Rattle.file_sections.proofs.shares_sum.Kinds as shares_sum_kinds
@@ -38,7 +38,7 @@ rows_rule_settled κs arguments one other ending another first second = first �
 pub rows_end_settled : SettlesResult 0 rows_end_kinds.ps rows_end_kinds.r rows_end_reads.Post
 rows_end_settled κs arguments one other ending another first second = first ∙ sym second
 
-pub class_blocks_settled : SettlesResult 1 class_blocks_kinds.ps class_blocks_kinds.r class_blocks_reads.Post
+pub class_blocks_settled : SettlesResult 2 class_blocks_kinds.ps class_blocks_kinds.r class_blocks_reads.Post
 class_blocks_settled κs arguments one other ending another first second = first ∙ sym second
 
 pub delay_rule_settled : SettlesResult 0 delay_rule_kinds.ps delay_rule_kinds.r delay_rule_reads.Post

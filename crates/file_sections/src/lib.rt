@@ -25,6 +25,15 @@ struct Section {
     end: usize,
 }
 
+// The class blocks of a file of a version, none of which may run past byte `end`.
+#[derive(Clone, Copy)]
+pub struct BlockBytes<'a> {
+    pub file: &'a [u8],
+    pub f: Format,
+    pub end: usize,
+    pub ghost inside: { end ≤ length file.now },
+}
+
 // Refusal 1: the length, the version, S, n or K is out of its range.
 const OUTSIDE: Refusal<usize> = Refusal {
     number: 1,
@@ -51,7 +60,8 @@ pub fn read_sections(file: &[u8], f: Format) -> Result<Trailer, Refusal<usize>>
     if !in_ranges(f, trailer) {
         return Err(OUTSIDE);
     }
-    let at = class_blocks(file, f, end, trailer.tablestart, trailer.classes)?;
+    let blocks = BlockBytes { file, f, end };
+    let at = blocks.class_blocks(trailer.tablestart, trailer.classes)?;
     if !joined(f, trailer, at, end) {
         return Err(UNJOINED);
     }
@@ -101,55 +111,43 @@ fn classes_rule(trailer: Trailer) -> bool
     FEWEST_CLASSES <= trailer.classes && trailer.classes <= MOST_CLASSES
 }
 
-// Class by class: `count` blocks from `start` on, none of which may run past `end`, and where the last one ends.
-pub fn class_blocks(
-    file: &[u8],
-    f: Format,
-    end: usize,
-    start: usize,
-    count: usize,
-) -> Result<usize, Refusal<usize>>
-    requires { end ≤ length file.now }
-    ensures { result ≡ blocks_read f file.now end 0 start count }
-{
-    let mut at = start;
-    for class in 0..count {
-        at = class_block(file, f, end, class, at)?;
+impl BlockBytes<'_> {
+    // Class by class: `count` blocks from `start` on, and where the last one ends.
+    pub fn class_blocks(&self, start: usize, count: usize) -> Result<usize, Refusal<usize>>
+        ensures { result ≡ blocks_read self.now.f self.now.file.now self.now.end 0 start count }
+    {
+        let mut at = start;
+        for class in 0..count {
+            at = self.class_block(class, at)?;
+        }
+        Ok(at)
     }
-    Ok(at)
-}
 
-// One class block: M's two bytes fit, M, the shares fit, their sum and the last; and where it ends.
-#[tactic(auto, unfolding(crate::specs::Blocks::block_read, file_layout::specs::Check::class_verdict, file_layout::specs::Decode::block_end))]
-fn class_block(
-    file: &[u8],
-    f: Format,
-    end: usize,
-    class: usize,
-    at: usize,
-) -> Result<usize, Refusal<usize>>
-    requires { end ≤ length file.now }
-    ensures { result ≡ block_read f file.now end class at }
-{
-    let broken = Refusal {
-        number: 3,
-        place: class,
-    };
-    let room = end.saturating_sub(at);
-    if room < 2 {
-        return Err(UNJOINED);
+    // One class block: M's two bytes fit, M, the shares fit, their sum and the last; and where it ends.
+    #[tactic(auto, unfolding(crate::specs::Blocks::block_read, file_layout::specs::Check::class_verdict, file_layout::specs::Decode::block_end))]
+    fn class_block(&self, class: usize, at: usize) -> Result<usize, Refusal<usize>>
+        ensures { result ≡ block_read self.now.f self.now.file.now self.now.end class at }
+    {
+        let broken = Refusal {
+            number: 3,
+            place: class,
+        };
+        let room = self.end.saturating_sub(at);
+        if room < 2 {
+            return Err(UNJOINED);
+        }
+        let delay = u16_at(self.file, at);
+        if !delay_rule(self.f, delay) {
+            return Err(broken);
+        }
+        if room < 4 + 2 * delay {
+            return Err(UNJOINED);
+        }
+        if !shares_keep(self.file, at, delay) {
+            return Err(broken);
+        }
+        Ok(at + 4 + 2 * delay)
     }
-    let delay = u16_at(file, at);
-    if !delay_rule(f, delay) {
-        return Err(broken);
-    }
-    if room < 4 + 2 * delay {
-        return Err(UNJOINED);
-    }
-    if !shares_keep(file, at, delay) {
-        return Err(broken);
-    }
-    Ok(at + 4 + 2 * delay)
 }
 
 // M is not above the version's longest delay.

@@ -1,9 +1,9 @@
--- `file_sections::class_blocks` meets its contract: what all blocks answer is what the blocks from here on answer. Assumes nothing.
+-- `file_sections::BlockBytes::class_blocks` meets its contract: what all blocks answer is what the blocks from here on answer. Assumes nothing.
 use mathlib.Core.Path.{sym, ◌∙◌}
 use native.Mathlib.Omega.{arith}
 use borrow.Author.Rules.{rules}
 use Rattle.file_sections.proofs.ClassBlocks.{blocks_on, blocks_stop, blocks_end}
-use Rattle.file_sections.proofs.class_blocks.Goals as goal
+use Rattle.file_sections.proofs.BlockBytes.class_blocks.Goals as goal
 
 pub returns-in_err-at : goal.returns-in_err-at
 returns-in_err-at c =
