@@ -214,10 +214,8 @@ fn mark_from(text: &[u8], from: usize) -> usize
     let mut at = from;
     while at < text.len() {
         let byte = text[at];
-        if byte <= COMMA {
-            if is_mark(byte) {
-                return at;
-            }
+        if byte <= COMMA && is_mark(byte) {
+            return at;
         }
         at += 1;
     }
@@ -225,30 +223,24 @@ fn mark_from(text: &[u8], from: usize) -> usize
 }
 
 // A byte at which a field ends or its line is refused.
+#[tactic(auto, using(std::proofs::lemmas::Bool::Decides::nat_tests))]
 fn is_mark(byte: u8) -> bool
     ensures { result ≡ marked_by byte }
 {
-    if byte == COMMA {
-        return true;
-    }
-    if byte == LINE_FEED {
-        return true;
-    }
-    byte == QUOTE_MARK
+    matches!(byte, COMMA | LINE_FEED | QUOTE_MARK)
 }
 
 // Where the last field of a line ends whose LF stands at `at`: a CR ahead of it belongs to the end.
+#[tactic(auto, using(std::proofs::lemmas::Bool::Decides::nat_tests), unfolding(crate::specs::Cut::last_end))]
 fn last_end(text: &[u8], from: usize, at: usize) -> usize
     requires { at ≤ length text.now }
     ensures { result ≡ last_end text.now from at }
 {
-    if at <= from {
-        return at;
+    if from < at && text[at - 1] == CARRIAGE_RETURN {
+        at - 1
+    } else {
+        at
     }
-    if text[at - 1] == CARRIAGE_RETURN {
-        return at - 1;
-    }
-    at
 }
 
 // The fields with that of `column`, where it is wanted.

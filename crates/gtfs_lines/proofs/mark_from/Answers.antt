@@ -6,7 +6,7 @@ use mathlib.Core.Bool.{false}
 use Rattle.gtfs_lines.specs.Marks.{marked_by}
 use Rattle.gtfs_lines.proofs.Marks.{high_plain, mark_here, mark_later, mark_none}
 use Rattle.gtfs_lines.proofs.mark_from.Goals as goal
-use Rattle.gtfs_lines.proofs.mark_from.Goals.{then-byte-le-COMMA+else-is_mark, else-byte-le-COMMA}
+use Rattle.gtfs_lines.proofs.mark_from.Goals.{else-byte-le-COMMA-via-then-byte-le-COMMA+else-is_mark, else-byte-le-COMMA-via-else-byte-le-COMMA}
 
 pub loop-at-init : goal.loop-at-init
 loop-at-init c = (refl, omega arith)
@@ -31,9 +31,9 @@ loop-at-preserved c =
     let l = c.loop-at in
     let text = c.args.text.now in
     let plain : marked_by (get_or text l.at 0) ≡ false =
-    elim c.if-byte-le-COMMA.branch [
-      | then-byte-le-COMMA+else-is_mark w ↦ sym w.is_mark.ensures ∙ w.if-is_mark.false
-      | else-byte-le-COMMA w ↦ high_plain (get_or text l.at 0) w.if-byte-le-COMMA.false
+    elim c.else-byte-le-COMMA.branch [
+      | else-byte-le-COMMA-via-then-byte-le-COMMA+else-is_mark w ↦ sym w.is_mark.ensures ∙ w.if-is_mark.false
+      | else-byte-le-COMMA-via-else-byte-le-COMMA w ↦ high_plain (get_or text l.at 0) w.if-byte-le-COMMA.false
     ]
     in
     (l.invariant.0 ∙ mark_later text l.at (omega arith) plain, omega arith)
