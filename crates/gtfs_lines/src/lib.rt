@@ -211,15 +211,13 @@ fn mark_from(text: &[u8], from: usize) -> usize
     requires { from ≤ length text.now }
     ensures { result ≡ from + plain_ahead (drop from text.now) }
 {
-    let mut at = from;
-    while at < text.len() {
+    for at in from..text.len() {
         let byte = text[at];
         if byte <= COMMA && is_mark(byte) {
             return at;
         }
-        at += 1;
     }
-    at
+    text.len()
 }
 
 // A byte at which a field ends or its line is refused.
