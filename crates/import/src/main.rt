@@ -4,8 +4,8 @@
 use explain_words::{say, say_count, say_number};
 use file_layout::Trailer;
 use files::{Ending, Output, ended, fail, goes_on, open_out, read_file};
-use gtfs_fields::{Number, whole_below};
-use gtfs_import::{Imported, NAMES_ROOM, Named, import_stop_times, names_of};
+use gtfs_fields::whole_below;
+use gtfs_import::{NAMES_ROOM, Written, import_stop_times, names_of};
 use import_words::{say_refusal, say_refused};
 use rooms::{SAILINGS, sailings_room};
 use std::env::FillError;
@@ -14,6 +14,7 @@ use std::io::{Error, ErrorKind, Write};
 use std::process::ExitCode;
 use std::rt::{Env, Files};
 use std::{fs, io};
+use timetable::Refusal;
 
 // The most bytes of a text: some 260 a line, where a file has the most calls.
 const TEXT: usize = 1048576;
@@ -33,14 +34,11 @@ fn names_room() -> [u8; NAMES_ROOM] {
 }
 
 // The one argument, if it is a number.
-fn asked_day(rt: &impl Env) -> Number {
+fn asked_day(rt: &impl Env) -> Option<usize> {
     let mut word = [0u8; WORD];
-    let count = match rt.arg(1, &mut word) {
-        Ok(count) => count,
-        Err(_) => return Number::Wrong,
-    };
+    let count = rt.arg(1, &mut word).ok()?;
     if has_more(rt) {
-        return Number::Wrong;
+        return None;
     }
     whole_below(&word[..count], NUMBERS)
 }
@@ -48,17 +46,13 @@ fn asked_day(rt: &impl Env) -> Number {
 // Whether there is a second argument.
 fn has_more(rt: &impl Env) -> bool {
     let mut word = [0u8; WORD];
-    match rt.arg(2, &mut word) {
-        Err(FillError::NotPresent) => false,
-        _ => true,
-    }
+    !matches!(rt.arg(2, &mut word), Err(FillError::NotPresent))
 }
 
 // A file that is missing or cannot be read counts as empty.
 fn main(rt: HostRuntime) -> ExitCode {
     let out = open_out(rt.stdout(), rt.stderr());
-    let asked = asked_day(&rt);
-    let Number::Is { value: day } = asked else {
+    let Some(day) = asked_day(&rt) else {
         say(
             &out,
             b"usage: import DAY\nReads stop_times.txt in this folder and writes sailings and names for that service day, 1 to 7.\n",
@@ -94,24 +88,23 @@ fn say_too_long(out: &Output) {
 // What a text comes to; behind it stands how its reading ended.
 fn import(rt: &impl Files, out: &Output, text: &[u8], ending: Ending, day: usize) {
     let mut file = sailings_room();
-    let imported = import_stop_times(text, day, &mut file);
-    match imported {
-        Imported::Refused { number, place } => say_why(out, text, ending, day, number, place),
-        Imported::Written { trailer, bytes } => {
+    match import_stop_times(text, day, &mut file) {
+        Ok(Written { trailer, bytes }) => {
             if bytes <= SAILINGS {
                 write_both(rt, out, text, day, trailer, &file[..bytes]);
             }
         }
+        Err(refusal) => say_why(out, text, ending, day, refusal),
     }
 }
 
 // An empty text is refused by its header, for which there is a better reason.
-fn say_why(out: &Output, text: &[u8], ending: Ending, day: usize, number: usize, place: usize) {
-    if text.len() > 0 || number == 6 {
-        say_refusal(out, text, day, number, place);
+fn say_why(out: &Output, text: &[u8], ending: Ending, day: usize, refusal: Refusal<usize>) {
+    if !text.is_empty() || refusal.number == 6 {
+        say_refusal(out, text, day, refusal);
         return;
     }
-    say_refused(out, number);
+    say_refused(out, refusal.number);
     match ending {
         Ending::Missing => say(out, b"There is no file stop_times.txt in this folder.\n"),
         Ending::Unreadable => say(out, b"The file stop_times.txt cannot be read.\n"),
@@ -129,8 +122,7 @@ fn write_both(
     sailings: &[u8],
 ) {
     let mut names = names_room();
-    let named = names_of(text, day, &mut names);
-    let Named::Text { end } = named else {
+    let Ok(end) = names_of(text, day, &mut names) else {
         return;
     };
     if NAMES_ROOM < end {
@@ -248,8 +240,7 @@ fn say_written(out: &Output, trailer: Trailer, bytes: usize) {
 
 // A query calls stops by their numbers, which an import gives anew.
 fn say_old_query(rt: &impl Files, out: &Output) {
-    let there = fs::open(rt, "query").is_ok();
-    if there {
+    if fs::open(rt, "query").is_ok() {
         say(
             out,
             b"The file query was here before and asks by an earlier file's stop numbers: make it anew.\n",

@@ -3,8 +3,8 @@
 
 use explain_words::{say, say_number};
 use files::Output;
-use gtfs_import::Place;
-use timetable::{FEWEST_STOPS, MOST_ROWS, MOST_STOPS, MOST_TRIPS};
+use gtfs_import::{Place, fault_place};
+use timetable::{FEWEST_STOPS, MOST_ROWS, MOST_STOPS, MOST_TRIPS, Refusal};
 
 // The columns as `fault_place` numbers them; 0 stands for the line as a whole.
 const TRIP_ID: usize = 1;
@@ -21,22 +21,23 @@ const STOP_SEQUENCE: usize = 5;
 const MARK: [u8; 3] = [0xef, 0xbb, 0xbf];
 
 // A refusal of the import of a text for a service day: its number on a line, then the reason.
-pub fn say_refusal(out: &Output, text: &[u8], day: usize, number: usize, place: usize) {
+pub fn say_refusal(out: &Output, text: &[u8], day: usize, refusal: Refusal<usize>) {
+    let number = refusal.number;
     say_refused(out, number);
     match number {
         1 => say_few_stops(out),
         4 => say_row(
             out,
-            place,
+            refusal.place,
             b": two calls that follow each other in a trip are at the same stop, or the later arrives no later than the earlier departs.\nAlong a trip each call is at another stop than the one before it, and arrives a minute or more after that one's departure.\n",
         ),
         5 => say_row(
             out,
-            place,
+            refusal.place,
             b": its trip is elsewhere by then, or has yet to land there, since a call stands behind one that is later.\nAlong a trip times rise from call to call.\n",
         ),
         6 => say_day(out, day),
-        _ => say_fault(out, text, number, gtfs_import::fault_place(text, day)),
+        _ => say_fault(out, text, day, number),
     }
 }
 
@@ -70,7 +71,10 @@ fn say_day(out: &Output, day: usize) {
 }
 
 // 9 and 11 to 13: the first fault of the text.
-fn say_fault(out: &Output, text: &[u8], number: usize, at: Place) {
+fn say_fault(out: &Output, text: &[u8], day: usize, number: usize) {
+    let Some(at) = fault_place(text, day) else {
+        return;
+    };
     say_place(out, at.line, at.column);
     match number {
         11 => say_unread(out, text, at),
@@ -122,10 +126,7 @@ fn say_unread(out: &Output, text: &[u8], at: Place) {
 
 // A mark ahead of the header makes its first column another.
 fn say_mark(out: &Output, text: &[u8]) {
-    if text.len() < MARK.len() {
-        return;
-    }
-    if text[0] == MARK[0] && text[1] == MARK[1] && text[2] == MARK[2] {
+    if text.starts_with(&MARK) {
         say(
             out,
             b"The file starts with a byte order mark, which is read as part of the first column's name: save it without one.\n",
