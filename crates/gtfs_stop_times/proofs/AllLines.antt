@@ -1,10 +1,10 @@
 -- Line by line: what all lines come to is what those still to come come to, behind the calls read so far. Assumes nothing.
 use Prim.Native.Nat.{ℕ, suc, ◌+◌, ◌≤◌, ◌<◌}
 use mathlib.Core.List.{List, [], ◌∷◌}
-use mathlib.Core.Path.{◌≡◌, refl, sym, ap, subst, ◌∙◌}
+use mathlib.Core.Path.{◌≡◌, refl, sym, ap, ◌∙◌}
 use native.Mathlib.Omega.{arith}
 use lib.ListN.{length, drop, length-drop, drop_of_length-le}
-use Rattle.timetable.specs.Verdict.{Verdict, fine, fault, by_verdict}
+use Rattle.timetable.specs.Verdict.{fault, by_verdict}
 use Rattle.gtfs_lines.specs.Lines.{lines_of}
 use Rattle.gtfs_lines.specs.Cut.{first_line, behind_line}
 use Rattle.gtfs_lines.proofs.TextLines.{lines_none, lines_first}
@@ -12,7 +12,7 @@ use Rattle.gtfs_stop_time.specs.StopTime.{StopTime, texts_on, stop_time_of}
 use Rattle.gtfs_stop_times.specs.declared.Notes.{Notes}
 use Rattle.gtfs_stop_times.specs.declared.Service.{Service}
 use Rattle.gtfs_calls.specs.Faults.{line_verdict}
-use Rattle.gtfs_calls.specs.Reading.{Reading, said, wrong, read_from}
+use Rattle.gtfs_calls.specs.Reading.{said, wrong, read_from}
 use Rattle.gtfs_stop_times.specs.Held.{Held}
 use Rattle.gtfs_stop_times.specs.Steps.{LineSound, read_behind}
 

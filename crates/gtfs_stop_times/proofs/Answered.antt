@@ -1,9 +1,9 @@
 -- What reading answers, by what all lines came to, and the notes before the first line. Assumes nothing.
-use Prim.Native.Nat.{ℕ, ◌+◌, ◌*◌, ◌≤◌, ◌<◌}
-use mathlib.Core.List.{List, [], ◌∷◌, ◌++◌}
-use mathlib.Core.Path.{◌≡◌, refl, sym, ap, subst, ◌∙◌}
+use Prim.Native.Nat.{ℕ, ◌*◌}
+use mathlib.Core.List.{List, [], ◌++◌}
+use mathlib.Core.Path.{◌≡◌, refl, sym, ap, ◌∙◌}
 use native.Mathlib.Omega.{arith}
-use lib.ListN.{length, take, drop, replicate, length-replicate, take-append-drop}
+use lib.ListN.{drop, replicate, length-replicate, take-append-drop}
 use Rattle.std.specs.Prelude.{Ok, Err}
 use Rattle.timetable.specs.Limits.{most_stops, most_rows, most_trips}
 use Rattle.file_layout.specs.Decode.{rows_from}
@@ -15,7 +15,7 @@ use Rattle.gtfs_stop_time.specs.StopTime.{StopTime}
 use Rattle.gtfs_stop_times.specs.declared.Counts.{Counts}
 use Rattle.gtfs_stop_times.specs.declared.Notes.{Notes}
 use Rattle.gtfs_stop_times.specs.declared.Wanted.{Wanted}
-use Rattle.gtfs_calls.specs.Calls.{trips_of, stops_of, last_call, rows_of}
+use Rattle.gtfs_calls.specs.Calls.{trips_of, stops_of, rows_of}
 use Rattle.gtfs_calls.specs.Reading.{Reading, said, wrong}
 use Rattle.gtfs_stop_times.specs.Held.{Held}
 use Rattle.gtfs_stop_times.specs.Answers.{counts_of, read_answer, out_after}

@@ -1,8 +1,8 @@
 -- What a call comes behind: the verdict on it, and the row that it ends, by the cells of its trip. Assumes nothing.
 use Prim.Native.Nat.{ℕ, suc, ◌+◌, ◌*◌, ◌≤◌, ◌<◌}
-use mathlib.Core.Bool.{Bool, true, false, cond}
+use mathlib.Core.Bool.{Bool, true, false}
 use mathlib.Core.List.{List, [], ◌∷◌, ◌++◌, append-nil}
-use mathlib.Core.Option.{Option, none, some}
+use mathlib.Core.Option.{none, some}
 use mathlib.Core.Path.{◌≡◌, refl, sym, ap, subst, ◌∙◌}
 use native.Mathlib.Omega.{arith}
 use borrow.Author.Tests.{le-leb}
@@ -10,10 +10,10 @@ use lib.Dec.{leb, ltb}
 use lib.ListN.{length, get_or, length-append}
 use Rattle.timetable.specs.declared.Row.{Row}
 use Rattle.timetable.specs.Limits.{most_stops, most_rows, most_trips}
-use Rattle.timetable.specs.Verdict.{Verdict, fine, fault, or_else, unless}
+use Rattle.timetable.specs.Verdict.{fine, or_else, unless}
 use Rattle.gtfs_ids.specs.Ids.{number_of, with_id}
 use Rattle.gtfs_ids.proofs.Numbering.{number_points, number_with, number_kept, with_known, length_new}
-use Rattle.gtfs_stop_time.specs.StopTime.{StopTime, last_minute}
+use Rattle.gtfs_stop_time.specs.StopTime.{StopTime}
 use Rattle.gtfs_calls.specs.Calls.{trips_of, stops_of, last_call, rises_behind, row_between, row_behind, rows_of}
 use Rattle.gtfs_calls.specs.Faults.{next_verdict}
 use Rattle.gtfs_stop_times.specs.Held.{CallHeld}

@@ -1,12 +1,12 @@
 -- The header: its fault, or the lines behind it. Assumes nothing.
-use Prim.Native.Nat.{ℕ, zero, suc, ◌-◌, ◌≤◌, ◌<◌}
-use mathlib.Core.Bool.{Bool, true, false, cond, not}
+use Prim.Native.Nat.{ℕ, zero, suc, ◌≤◌, ◌<◌}
+use mathlib.Core.Bool.{true, false, cond}
 use mathlib.Core.List.{List, [], ◌∷◌}
-use mathlib.Core.Path.{◌≡◌, refl, sym, ap, subst, ◌∙◌}
+use mathlib.Core.Path.{◌≡◌, refl, sym, ap, ◌∙◌}
 use native.Mathlib.Omega.{arith}
 use lib.ListN.{length, drop, get_or, length-drop}
 use Rattle.std.specs.Prelude.{Option, Some, None, is_some, is_none}
-use Rattle.timetable.specs.Verdict.{Verdict, fine, fault, or_else, unless, by_verdict}
+use Rattle.timetable.specs.Verdict.{or_else, unless, by_verdict}
 use Rattle.gtfs_lines.specs.declared.Columns.{Columns}
 use Rattle.gtfs_lines.specs.Lines.{lines_of, fields_of, parts, has_quote}
 use Rattle.text.specs.Same.{same_bytes}
@@ -14,9 +14,8 @@ use Rattle.gtfs_lines.specs.Columns.{columns_of, column_of, column_from}
 use Rattle.gtfs_lines.specs.Cut.{first_line, behind_line, ahead_of_feed, has_feed}
 use Rattle.gtfs_lines.proofs.TextLines.{lines_none, lines_first}
 use Rattle.gtfs_stop_time.specs.Said.{in_column}
-use Rattle.gtfs_stop_times.specs.declared.Service.{Service}
 use Rattle.gtfs_calls.specs.Faults.{header_verdict}
-use Rattle.gtfs_calls.specs.Reading.{Reading, wrong, read_from, stop_times}
+use Rattle.gtfs_calls.specs.Reading.{wrong, read_from, stop_times}
 use Rattle.gtfs_stop_times.specs.Steps.{missing_column, read_behind}
 
 -- line 1 is the first line, and the others are those behind it, also where there is none

@@ -1,21 +1,20 @@
 -- What a line comes to: its fault, or the notes with its call and where the next line starts. Assumes nothing.
-use Prim.Native.Nat.{ℕ, ◌≤◌, ◌<◌}
-use mathlib.Core.Bool.{true, false, not}
+use Prim.Native.Nat.{ℕ, ◌<◌}
+use mathlib.Core.Bool.{not}
 use mathlib.Core.List.{List, ◌∷◌}
-use mathlib.Core.Path.{◌≡◌, refl, sym, ap, subst, subst⁻¹, ◌∙◌}
+use mathlib.Core.Path.{◌≡◌, sym, ap, subst, ◌∙◌}
 use native.Mathlib.Omega.{arith}
 use mir.Val.{Fits}
 use mir.Syntax.{w8}
 use lib.ListN.{length, drop, get_or}
 use Rattle.std.specs.Prelude.{None, Ok}
-use Rattle.timetable.specs.Verdict.{Verdict, fine, fault, or_else, unless}
+use Rattle.timetable.specs.Verdict.{fine, fault, or_else, unless}
 use Rattle.gtfs_lines.specs.declared.Fields.{Fields}
-use Rattle.gtfs_lines.specs.Lines.{has_quote}
-use Rattle.gtfs_lines.specs.Cut.{first_line, behind_line, cut, cut_at, LineCut}
+use Rattle.gtfs_lines.specs.Cut.{first_line, cut, cut_at, LineCut}
 use Rattle.gtfs_lines.proofs.LineCuts.{line_cut, line_quoted}
 use Rattle.gtfs_stop_time.specs.StopTime.{StopTime, FieldTexts, texts_on, stop_time_of}
 use Rattle.gtfs_stop_time.specs.Faults.{own_verdict}
-use Rattle.gtfs_stop_time.specs.Said.{texts_at, Inside, AllInside, Says, said_of}
+use Rattle.gtfs_stop_time.specs.Said.{texts_at, AllInside, Says, said_of}
 use Rattle.gtfs_stop_time.specs.declared.Call.{Call}
 use Rattle.gtfs_stop_time.proofs.Told.{said_call}
 use Rattle.gtfs_stop_times.specs.declared.Notes.{Notes}

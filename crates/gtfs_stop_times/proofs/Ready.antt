@@ -1,9 +1,8 @@
 -- Notes that hold the calls so far, and a call to be taken: what finding its numbers needs and gives. Assumes nothing.
 use Prim.Native.Nat.{ℕ, ◌≤◌, ◌<◌}
 use mathlib.Core.List.{List}
-use mathlib.Core.Path.{◌≡◌, refl, sym, ap, subst⁻¹, ◌∙◌}
+use mathlib.Core.Path.{◌≡◌, subst⁻¹, ◌∙◌}
 use native.Mathlib.Omega.{arith}
-use lib.ListN.{length}
 use Rattle.gtfs_ids.specs.Ids.{number_of}
 use Rattle.gtfs_ids.specs.Book.{Chained}
 use Rattle.gtfs_ids.proofs.Numbering.{number_within}

@@ -1,11 +1,11 @@
 -- The rows as read, in lent bytes: one row more is written behind the others. Assumes nothing.
-use Prim.Native.Nat.{ℕ, suc, ◌+◌, ◌*◌, ◌≤◌, ◌<◌}
+use Prim.Native.Nat.{ℕ, ◌+◌, ◌*◌, ◌≤◌, ◌<◌}
 use mathlib.Core.List.{List, [], ◌∷◌, ◌++◌, append_assoc, append-nil}
 use mathlib.Core.Logic.{◌⊎◌, inl, inr}
-use mathlib.Core.Path.{◌≡◌, refl, sym, ap, subst, ◌∙◌}
+use mathlib.Core.Path.{◌≡◌, sym, ap, subst, ◌∙◌}
 use native.Mathlib.Nat.{eq-or-lt_of_le}
 use native.Mathlib.Omega.{arith}
-use lib.ListN.{length, take, drop, get_or, length-append, get_or-append}
+use lib.ListN.{length, take, drop, length-append, get_or-append}
 use lib.Seq.{sets, sets-eq, take_at, length-take-le, get_or-append_seam}
 use Rattle.timetable.specs.declared.Row.{Row}
 use Rattle.timetable.specs.Timetable.{row_of, no_row}

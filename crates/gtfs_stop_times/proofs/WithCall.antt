@@ -1,28 +1,26 @@
 -- The notes with one call more: a trip that has a call, and a trip that is new. Assumes nothing.
-use Prim.Native.Nat.{ℕ, suc, ◌+◌, ◌*◌, ◌≤◌, ◌<◌}
-use mathlib.Core.Bool.{true}
+use Prim.Native.Nat.{ℕ, ◌+◌, ◌*◌, ◌≤◌, ◌<◌}
 use mathlib.Core.List.{List, [], ◌∷◌, ◌++◌}
 use mathlib.Core.Option.{some}
-use mathlib.Core.Path.{◌≡◌, refl, sym, ap, subst, ◌∙◌}
+use mathlib.Core.Path.{◌≡◌, sym, ap, subst, ◌∙◌}
 use native.Mathlib.Omega.{arith}
 use lib.ListN.{length, get_or, length-append}
 use lib.Seq.{sets, length-sets}
-use Rattle.laws.proofs.Tests.{both_right}
 use Rattle.timetable.specs.declared.Row.{Row}
 use Rattle.timetable.specs.Timetable.{row_of}
 use Rattle.timetable.specs.Limits.{most_stops, most_rows, most_trips}
 use Rattle.file_layout.specs.Small.{SmallRow}
 use Rattle.file_encoding.specs.Encode.{row_bytes, rows_bytes}
-use Rattle.gtfs_ids.specs.Ids.{number_of, with_id, id_rule, longest_id}
-use Rattle.gtfs_ids.specs.Book.{HoldsIds, book_with, book_cells, cell_of}
+use Rattle.gtfs_ids.specs.Ids.{number_of, with_id}
+use Rattle.gtfs_ids.specs.Book.{HoldsIds, book_with, cell_of}
 use Rattle.gtfs_ids.proofs.Numbering.{number_within, length_new}
 use Rattle.gtfs_ids.proofs.Stores.{length_book}
 use Rattle.gtfs_stop_time.specs.declared.Call.{Call}
-use Rattle.gtfs_stop_time.specs.StopTime.{StopTime, last_minute}
+use Rattle.gtfs_stop_time.specs.StopTime.{StopTime}
 use Rattle.gtfs_stop_time.specs.Said.{Says}
 use Rattle.gtfs_stop_times.specs.declared.Notes.{Notes}
 use Rattle.gtfs_calls.specs.Calls.{trips_of, stops_of, last_call, rows_of}
-use Rattle.gtfs_stop_times.specs.Held.{Held, NotesRoom, CallHeld, entered, count_with, with_call}
+use Rattle.gtfs_stop_times.specs.Held.{Held, CallHeld, entered, count_with, with_call}
 use Rattle.gtfs_stop_times.proofs.Entered.{count_entered, holds_entered, holds_entry, entered_length, short_id}
 use Rattle.gtfs_stop_times.proofs.KeptCalls.{call_written, written_length, calls_held}
 use Rattle.gtfs_stop_times.proofs.RowsRead.{read_more, small_more}

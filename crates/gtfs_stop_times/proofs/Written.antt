@@ -1,27 +1,24 @@
 -- What is wanted of the calls, as it is written: rows in order, or the lines of stops and then those of trips. Assumes nothing.
 use Prim.Native.Nat.{ℕ, ◌+◌, ◌*◌, ◌≤◌, ◌<◌}
-use mathlib.Core.List.{List, [], ◌∷◌, ◌++◌}
-use mathlib.Core.Path.{◌≡◌, sym, ap, subst, subst⁻¹, ◌∙◌}
+use mathlib.Core.List.{List, ◌++◌}
+use mathlib.Core.Path.{◌≡◌, ap, subst, subst⁻¹, ◌∙◌}
 use native.Mathlib.Omega.{arith}
 use lib.ListN.{length, drop, length-append}
 use lib.Seq.{sets, sets-eq}
 use Rattle.numbers.specs.Over.{over}
-use Rattle.text.specs.Put.{Put}
 use Rattle.timetable.specs.declared.Row.{Row}
-use Rattle.timetable.specs.Limits.{most_stops, most_rows, most_trips}
+use Rattle.timetable.specs.Limits.{most_rows}
 use Rattle.file_layout.specs.Decode.{rows_from}
 use Rattle.file_encoding.specs.Encode.{rows_bytes}
 use Rattle.file_encoding.proofs.Sizes.{rows_size}
-use Rattle.gtfs_ids.specs.Book.{HoldsIds}
 use Rattle.gtfs_order.specs.Order.{in_order}
 use Rattle.gtfs_order.proofs.AsRead.{in_order_length}
-use Rattle.gtfs_stop_time.specs.StopTime.{StopTime}
 use Rattle.gtfs_stop_times.specs.declared.Notes.{Notes}
 use Rattle.gtfs_stop_times.specs.declared.Wanted.{Wanted}
 use Rattle.gtfs_stop_times.specs.declared.Wanted.TheVariants.{Rows, Names}
 use Rattle.gtfs_calls.specs.Calls.{trips_of, stops_of, rows_of}
-use Rattle.gtfs_stop_times.specs.Held.{Held, Holding}
-use Rattle.gtfs_calls.specs.Names.{stop_word, trip_word, id_lines, names_text, line_room, names_room}
+use Rattle.gtfs_stop_times.specs.Held.{Holding}
+use Rattle.gtfs_calls.specs.Names.{stop_word, trip_word, id_lines, names_text, line_room}
 use Rattle.gtfs_stop_times.specs.Answers.{written_of, wanted_room}
 use Rattle.gtfs_stop_times.specs.Putting.{IdsHeld, IdsPut, WantedPut}
 use Rattle.gtfs_stop_times.proofs.Answered.{rows_held}

@@ -1,5 +1,5 @@
 -- What a line adds to the notes, and what all lines come to.
-use Rattle.std.specs.Prelude.{ℕ, ◌+◌, ◌≤◌, ◌<◌, cond, List, [], ◌∷◌, ◌≡◌, length, drop, Result, Ok, Err, Option, Some, None, is_none}
+use Rattle.std.specs.Prelude.{ℕ, ◌≤◌, ◌<◌, cond, List, [], ◌∷◌, ◌≡◌, length, drop, Result, Ok, Err, Option, Some, None, is_none}
 use Rattle.timetable.specs.Verdict.{fine, fault}
 use Rattle.gtfs_lines.specs.declared.Columns.{Columns}
 use Rattle.gtfs_lines.specs.Lines.{lines_of}

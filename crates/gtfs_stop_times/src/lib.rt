@@ -146,12 +146,10 @@ fn put_ids(text: &[u8], book: &[u64], count: usize, word: &[u8], out: &mut [u8],
     ensures { IdsPut text.now book.now count word.now out.old at out.new result }
 {
     let mut next = at;
-    let mut i = 0;
-    while i < count {
+    for i in 0..count {
         let from = place_of(book, i) as usize;
         let size = size_of(book, i) as usize;
         next = put_id(text, from, size, word, out, next);
-        i += 1;
     }
     next
 }

@@ -1,7 +1,6 @@
 -- `gtfs_stop_times::Notes::first_call` meets its contract: the tests in their order, then the trip, its cells and the stop. Assumes nothing.
 use mathlib.Core.List.{◌∷◌}
 use mathlib.Core.Path.{◌≡◌, refl, sym, subst⁻¹, ◌∙◌}
-use native.Mathlib.Omega.{arith}
 use borrow.Author.Tests.{leb-true}
 use Rattle.timetable.specs.Limits.{most_stops}
 use Rattle.gtfs_stop_times.specs.Held.{Held, count_with, with_call}
