@@ -5,8 +5,9 @@ use explain_words::{say, say_count, say_number};
 use files::{Ending, Output, ended, goes_on, open_out, read_file};
 use numbers::number;
 use std::process::ExitCode;
-use tally::{COUNTS, LANDING_BYTES, Logged, tally_log};
-use tally_table::{Made, SHARES, table_of};
+use tally::{COUNTS, LANDING_BYTES, tally_log};
+use tally_table::{SHARES, table_of};
+use timetable::Refusal;
 
 // The most bytes of a log: more landings than one count holds.
 const LOG: usize = 4194304;
@@ -51,76 +52,50 @@ fn print_table(out: &Output, log: &[u8], ending: Ending) {
         return;
     }
     let mut tally = [0u32; COUNTS];
-    let logged = tally_log(log, &mut tally);
-    if let Logged::Refused {
-        number: refusal,
-        place,
-    } = logged
-    {
-        say_refused_landing(out, refusal, place);
-        return;
+    match tally_log(log, &mut tally) {
+        Ok(_) => print_made(out, &tally, ending),
+        Err(refusal) => say_refused_landing(out, refusal),
     }
-    print_made(out, &tally, ending);
 }
 
 // The table of a whole log: its first line, its shares and the counts that they are of; or why there is none.
+#[tactic(auto, using(tally_table::proofs::Small::table_fits))]
 fn print_made(out: &Output, tally: &[u32; COUNTS], ending: Ending) {
     let mut shares = [0u32; SHARES];
-    let made = table_of(tally, &mut shares);
-    match made {
-        Made::Table {
-            delay,
-            landings,
-            apart,
-        } => {
-            say_number(out, b"table ", delay);
-            say_number(out, b" landings ", landings);
-            say_number(out, b" apart ", apart);
-            say_shares(out, &shares, delay);
-            say_first(out, b"\ncounts", &tally[..], delay);
+    match table_of(tally, &mut shares) {
+        Ok(table) => {
+            say_number(out, b"table ", table.delay);
+            say_number(out, b" landings ", table.landings);
+            say_number(out, b" apart ", table.apart);
+            say_numbers(out, b"\nshares", &shares[..=table.delay]);
+            say_numbers(out, b"\ncounts", &tally[..=table.delay]);
             say(out, b"\n");
         }
-        Made::Refused {
-            number: refusal,
-            place: _,
-        } => {
+        Err(refusal) => {
             say_refused(out, refusal);
             say_nothing(out, number(tally[COUNTS - 1]), ending);
         }
     }
 }
 
-fn say_shares(out: &Output, shares: &[u32; SHARES], last: usize) {
-    say_first(out, b"\nshares", &shares[..], last);
-}
-
-// Words, then the numbers up to the one at `last`.
-fn say_first(out: &Output, words: &[u8], numbers: &[u32], last: usize) {
+// Words, then the numbers.
+fn say_numbers(out: &Output, words: &[u8], numbers: &[u32]) {
     say(out, words);
-    let mut i = 0;
-    while i < numbers.len() {
-        if last < i {
-            return;
-        }
-        say_next(out, numbers[i]);
-        i += 1;
+    for &x in numbers {
+        say_number(out, b" ", number(x));
     }
 }
 
-fn say_next(out: &Output, x: u32) {
-    say_number(out, b" ", number(x));
-}
-
-fn say_refused(out: &Output, refusal: usize) {
-    say_number(out, b"refused ", refusal);
+fn say_refused(out: &Output, refusal: Refusal<usize>) {
+    say_number(out, b"refused ", refusal.number);
     say(out, b"\n");
 }
 
 // 14 or 15: the landing by its number in the log.
-fn say_refused_landing(out: &Output, refusal: usize, place: usize) {
+fn say_refused_landing(out: &Output, refusal: Refusal<usize>) {
     say_refused(out, refusal);
-    say_number(out, b"Landing ", place);
-    match refusal {
+    say_number(out, b"Landing ", refusal.place);
+    match refusal.number {
         14 => say(
             out,
             b", counted from 0: its planned or its actual minute is above 10079.\n",
