@@ -8,7 +8,7 @@ use explain_words::{say, say_number, say_time};
 use file_layout::{Format, Trailer};
 use files::Output;
 use numbers::number;
-use plan_slice::{board_of, leave_of};
+use plan_slice::ride_at;
 use timetable::Row;
 
 // A ride by the rows where it boards and where it leaves.
@@ -69,9 +69,10 @@ impl Followed<'_> {
     // Ride number `place` of the plan.
     fn ride(self, place: usize) -> Ride {
         if place < self.plan.len() / 3 {
+            let ride = ride_at(self.plan, place);
             Ride {
-                board: self.row(board_of(self.plan, place)),
-                leave: self.row(leave_of(self.plan, place)),
+                board: self.row(ride.board),
+                leave: self.row(ride.leave),
             }
         } else {
             let none = self.row(0);
