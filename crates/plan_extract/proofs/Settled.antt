@@ -18,13 +18,13 @@ same_answer one other rides latest = ap₂ (λ a b. record { rides = a; latest =
 pub write_plan_settled :
     (κs : Lfts 4) (arguments : Dens κs kinds.ps) (one other : (res_t kinds.r κs).Denot) (ending another : AtExit (ended_of 4 kinds.ps kinds.r) κs)
     → reads.Pre κs arguments → reads.Post κs arguments one ending → reads.Post κs arguments other another
-    → (one ≡ other) × (ending.1.1.1.1.1.1.1.0.now ≡ another.1.1.1.1.1.1.1.0.now)
-    × (length ending.1.1.1.1.1.1.0.now ≡ length another.1.1.1.1.1.1.0.now)
-    × ((i : ℕ) → used arguments.1.0.rows ≤ i
-    → get_or ending.1.1.1.1.1.1.0.now i 0 ≡ get_or another.1.1.1.1.1.1.0.now i 0)
+    → (one ≡ other) × (ending.1.1.1.0.now ≡ another.1.1.1.0.now)
+    × (length ending.1.1.0.now ≡ length another.1.1.0.now)
+    × ((i : ℕ) → used arguments.0.now.sailings.places.rows ≤ i
+    → get_or ending.1.1.0.now i 0 ≡ get_or another.1.1.0.now i 0)
 write_plan_settled κs arguments one other ending another asked first second =
-    let a = first.0 asked.5 in
-    let b = second.0 asked.5 in (
+    let a = first.0 asked.2 in
+    let b = second.0 asked.2 in (
       same_answer one other (a.1 ∙ sym b.1) (a.2 ∙ sym b.2),
       a.0 ∙ sym b.0,
       first.1.same_length ∙ sym second.1.same_length,

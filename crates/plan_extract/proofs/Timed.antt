@@ -24,6 +24,9 @@ use Rattle.plans.proofs.ChosenWorth.{chosen_own}
 use Rattle.plan_rows.specs.declared.SectionPlaces.{SectionPlaces}
 use Rattle.plan_rows.specs.Reading.{rows_in, tables_in, FileReadable}
 use Rattle.plans.specs.declared.Goal.{Goal}
+use Rattle.plans.proofs.Open.{found_member}
+use Rattle.plan_scan.specs.declared.reach.Reach.{Reach}
+use Rattle.plan_extract.specs.Extracted.{PlanFrom}
 use Rattle.plan_scan.specs.Scanned.{scan_in, best_in}
 
 module _ (file : List ℕ) (s : SectionPlaces) (stand : FileReadable file s) (end : ℕ) (inside : end ≤ s.rows) where
@@ -105,3 +108,12 @@ module _ (file : List ℕ) (s : SectionPlaces) (stand : FileReadable file s) (en
           arrives = ap (λ (r : Ride). r.arrives) is.as_timed ∙ ap (λ (r : Row). r.arrival) row;
           shares = ap (λ (r : Ride). r.shares) is.as_timed ∙ ap (λ (r : Row). shares_of (tables_in file s) r.class) row;
         }
+
+-- the first row of a plan lies before the last in reach
+pub boarding_inside : (r : Reach) (boarding : ℕ) (work : List ℕ) → PlanFrom r boarding work → boarding < r.end
+boarding_inside r boarding work p =
+    let f = p.begins in
+    let first = known r.sailings.file.now r.sailings.places r.sailings.readable r.end r.inside r.goal p.first p.ordered f.ride
+    (found_member (scan_in r.sailings.file.now r.sailings.places r.goal p.first r.end).chosen f.stop f.minute f.is_first)
+    in
+    omega (arith, f.boards_at, first.before_end)

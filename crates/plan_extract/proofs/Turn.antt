@@ -3,8 +3,15 @@ use Prim.Native.Nat.{ℕ, suc, max, ◌+◌, ◌*◌, ◌≤◌, ◌<◌}
 use mathlib.Core.List.{List, Memᴰ}
 use mathlib.Core.Logic.{◌≢◌}
 use mathlib.Core.Path.{◌≡◌, sym, ap, ap₂, subst, ◌∙◌}
+use native.Mathlib.Nat.{zero-add}
 use native.Mathlib.Omega.{arith}
+use mathlib.Core.Bool.{cond}
+use lib.Dec.{eqb, ltb}
 use lib.ListN.{length, get_or}
+use borrow.Author.Tests.{ltb-true, ltb-false}
+use Rattle.std.specs.Ordering.{ord_max, nat_cmp, is_lt}
+use Rattle.std.specs.declared.cmp.Ordering.TheVariants.{Less, Equal, Greater}
+use Rattle.laws.proofs.Tests.{ifb}
 use Rattle.timetable.specs.Timetable.{row_of}
 use Rattle.timetable.specs.declared.Row.{Row}
 use Rattle.plans.specs.Rides.{lands_by, ready}
@@ -17,7 +24,8 @@ use Rattle.plan_rows.specs.Reading.{rows_in, tables_in, FileReadable, TablesHeld
 use Rattle.plans.specs.declared.Goal.{Goal}
 use Rattle.plan_scan.specs.Scanned.{scan_in, ScanHeld}
 use Rattle.plan_slice.specs.Slice.{with_ride}
-use Rattle.plan_extract.specs.Extracted.{PlanAhead, rides_ahead}
+use Rattle.plan_scan.specs.declared.reach.Reach.{Reach}
+use Rattle.plan_extract.specs.Extracted.{PlanAhead, PlanFrom, rides_ahead}
 use Rattle.plan_extract.specs.Marks.{Catching, AllPassed}
 use Rattle.plan_extract.proofs.Kept.{kept_held}
 use Rattle.plan_extract.proofs.Timed.{ordered, known}
@@ -139,3 +147,41 @@ module _ {file : List ℕ} {s : SectionPlaces} {tables : List ℕ} {goal : Goal}
               (subst (λ k. AllPassed work new k (ready goal.gate v.ride.arrives) (ready goal.gate (lands_by v.ride))) (sym to_is)
               (subst (λ k. AllPassed work new row.land k (ready goal.gate (lands_by v.ride))) (first_ready ∙ ap (ready goal.gate) (sym arrives_is))
               (subst (λ k. AllPassed work new row.land soon k) (last_ready ∙ ap (ready goal.gate) landing_is) passed)))
+
+-- the later of two minutes, as `max` tells it
+pub later_of : (a b : ℕ) → ord_max nat_cmp a b ≡ max a b
+later_of a b =
+    ifb (λ t. cond (is_lt (cond t Less (cond (eqb b a) Equal Greater))) a b ≡ max a b) (ltb b a)
+    (λ e. let z : a ≡ max a b = omega (arith, ltb-true b a e) in z)
+    (λ e. ifb (λ t. cond (is_lt (cond t Equal Greater)) a b ≡ max a b) (eqb b a)
+    (λ _. let z : b ≡ max a b = omega (arith, ltb-false b a e) in z) (λ _. let z : b ≡ max a b = omega (arith, ltb-false b a e) in z))
+
+-- the pass of the rows in reach at row i: what the cells, the plan slice, the ride count and the latest minute are by then
+pub record UpTo (r : Reach) (boarding : ℕ) (work₀ plan₀ work plan : List ℕ) (rides latest i : ℕ) : Type 0 where
+  pub few : rides ≤ i
+  pub fits : latest < 65536
+  pub kept : SameOutside trip_cells stop_cells work₀ work
+  pub at_row : (p : PlanFrom r boarding work₀) → AtRow p plan₀ work plan rides latest i
+
+module _ {r : Reach} {boarding : ℕ} {work₀ plan₀ work plan : List ℕ} {rides latest i : ℕ} where
+  pub turn : (p : PlanFrom r boarding work₀) → used r.sailings.places.rows ≤ length work₀ → 3 * r.sailings.places.rows ≤ length plan₀ → i < r.end
+      → UpTo r boarding work₀ plan₀ work plan rides latest i → get_or work (0 + i) 0 ≡ 1
+      → Turn r.sailings.file.now r.sailings.places r.tables.now r.goal boarding r.end work₀ p plan₀ work plan rides latest i
+  turn p cells room below up mark =
+      record {
+        stand = r.sailings.readable;
+        blocks = r.held;
+        inside = r.inside;
+        cells = cells;
+        room = room;
+        below = below;
+        few = up.few;
+        kept = up.kept;
+        at_row = up.at_row p;
+        mark = ap (λ k. get_or work k 0) (sym (zero-add i)) ∙ mark;
+      }
+
+  -- where two ways meet, the values are those of the way that was taken
+  pub up_to_by : {work' plan' : List ℕ} {rides' latest' : ℕ} → work' ≡ work → plan' ≡ plan → rides' ≡ rides → latest' ≡ latest
+      → UpTo r boarding work₀ plan₀ work plan rides latest i → UpTo r boarding work₀ plan₀ work' plan' rides' latest' i
+  up_to_by a b c d up = rw (a, b, c, d) up

@@ -6,6 +6,7 @@ use Rattle.plans.specs.Worth.{Valued, first_open}
 use Rattle.plans.specs.Plan.{up_to, extract}
 use Rattle.plans.specs.declared.Goal.{Goal}
 use Rattle.plan_rows.specs.declared.SectionPlaces.{SectionPlaces}
+use Rattle.plan_scan.specs.declared.reach.Reach.{Reach}
 use Rattle.plan_scan.specs.Scanned.{scan_in, ScanHeld}
 
 -- the first chosen ride that one who is ready at a stop at a minute can board: it boards at row `boarding`
@@ -32,3 +33,7 @@ pub record PlanAhead (file : List ℕ) (s : SectionPlaces) (goal : Goal) (boardi
 abbrev pub rides_ahead :
     {file : List ℕ} {s : SectionPlaces} {goal : Goal} {boarding end : ℕ} {work : List ℕ} → PlanAhead file s goal boarding end work → List Valued
 rides_ahead {goal = goal} p = plan_from goal.gate goal.target p.begins
+
+-- the plan whose first row is `boarding`, among those in reach
+abbrev pub PlanFrom : Reach → (boarding : ℕ) (work : List ℕ) → Type 0
+PlanFrom r boarding work = PlanAhead r.sailings.file.now r.sailings.places r.goal boarding r.end work

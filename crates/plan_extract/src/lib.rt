@@ -1,23 +1,21 @@
 // Document 01, "Expected arrival in ticks", and document 02, E3: the plan, by one pass forward over the wanted rows.
 #![tactic(auto)]
 
-ghost use Rattle.std.specs.Prelude.{◌≡◌, ◌+◌, ◌*◌, ◌≤◌, ◌<◌, max, length, get_or};
-ghost use Rattle.query.specs.Query.{most_gate};
+ghost use Rattle.std.specs.Prelude.{◌≡◌, ◌+◌, ◌*◌, ◌≤◌, ◌<◌, length, get_or};
 ghost use Rattle.plans.specs.Plan.{latest_of};
 ghost use Rattle.plan_cells.specs.Cells.{trip_cells, used, pair_cells};
 ghost use Rattle.plan_cells.specs.Outside.{SameOutside};
-ghost use Rattle.plan_rows.specs.Reading.{tables_in, FileReadable, TablesHeld};
-ghost use Rattle.plan_extract.specs.Extracted.{PlanAhead, rides_ahead};
+ghost use Rattle.plan_extract.specs.Extracted.{PlanFrom, rides_ahead};
 ghost use Rattle.plan_slice.specs.Slice.{written, with_ride};
 ghost use Rattle.numbers.specs.Over.{over};
 ghost use Rattle.plan_extract.specs.Marks.{Catching, AllPassed, MarkedAlone};
 
 use numbers::{cell, number};
 use plan_cells::{PAIR_CELLS, TRIP_CELLS, fill};
-use plan_rows::{BLOCK, MAX_DELAY, SectionPlaces, can_board, nth_row, ready};
-use plan_slice::write_ride;
+use plan_rows::{BLOCK, MAX_DELAY, can_board, ready};
+use plan_scan::Reach;
+use plan_slice::{Ride, write_ride};
 use plan_stacks::{departure_of, first_open, row_of, stack_of};
-use plans::Goal;
 
 // How many rides a plan has, and the largest a + M of them.
 #[derive(Clone, Copy)]
@@ -27,61 +25,38 @@ pub struct Written {
 }
 
 // The rides of the plan whose first row is `boarding`, by boarding row rising, into the plan slice.
-pub fn write_plan(
-    file: &[u8],
-    s: SectionPlaces,
-    tables: &[u32],
-    goal: Goal,
-    boarding: usize,
-    end: usize,
-    work: &mut [u32],
-    plan: &mut [u32],
-) -> Written
-    requires { FileReadable file.now s × TablesHeld tables.now (tables_in file.now s) × (end ≤ s.rows)
-        × (used s.rows ≤ length work.old) × (3 * s.rows ≤ length plan.old)
-        × PlanAhead file.now s goal boarding end work.old × (goal.gate ≤ most_gate) }
-    ensures { ((p : PlanAhead file.now s goal boarding end work.old)
+pub fn write_plan(reach: &Reach, boarding: usize, work: &mut [u32], plan: &mut [u32]) -> Written
+    requires { (used reach.now.sailings.places.rows ≤ length work.old) × (3 * reach.now.sailings.places.rows ≤ length plan.old)
+        × PlanFrom reach.now boarding work.old }
+    ensures { ((p : PlanFrom reach.now boarding work.old)
         → (plan.new ≡ over (written (rides_ahead p)) plan.old)
         × (result.rides ≡ length (rides_ahead p)) × (result.latest ≡ latest_of (rides_ahead p)))
-        × SameOutside trip_cells (used s.rows) work.old work.new }
+        × SameOutside trip_cells (used reach.now.sailings.places.rows) work.old work.new }
 {
-    fill(work, TRIP_CELLS, s.rows, 0);
+    fill(work, TRIP_CELLS, reach.sailings.places.rows, 0);
     work[TRIP_CELLS + boarding] = 1;
-    write_wanted(file, s, tables, goal, boarding, end, work, plan)
+    write_wanted(reach, boarding, work, plan)
 }
 
 // The rides of the marked rows; each marks the rows that it may be changed to, all of them further on.
-fn write_wanted(
-    file: &[u8],
-    s: SectionPlaces,
-    tables: &[u32],
-    goal: Goal,
-    boarding: usize,
-    end: usize,
-    work: &mut [u32],
-    plan: &mut [u32],
-) -> Written
-    requires { FileReadable file.now s × TablesHeld tables.now (tables_in file.now s) × (end ≤ s.rows)
-        × (used s.rows ≤ length work.old) × (3 * s.rows ≤ length plan.old)
-        × PlanAhead file.now s goal boarding end work.old × MarkedAlone work.old s.rows boarding
-        × (goal.gate ≤ most_gate) }
-    ensures { ((p : PlanAhead file.now s goal boarding end work.old)
+fn write_wanted(reach: &Reach, boarding: usize, work: &mut [u32], plan: &mut [u32]) -> Written
+    requires { (used reach.now.sailings.places.rows ≤ length work.old) × (3 * reach.now.sailings.places.rows ≤ length plan.old)
+        × PlanFrom reach.now boarding work.old × MarkedAlone work.old reach.now.sailings.places.rows boarding }
+    ensures { ((p : PlanFrom reach.now boarding work.old)
         → (plan.new ≡ over (written (rides_ahead p)) plan.old)
         × (result.rides ≡ length (rides_ahead p)) × (result.latest ≡ latest_of (rides_ahead p)))
-        × SameOutside trip_cells (used s.rows) work.old work.new }
+        × SameOutside trip_cells (used reach.now.sailings.places.rows) work.old work.new }
 {
+    let goal = reach.goal;
     let mut rides = 0;
     let mut latest = 0;
-    let mut i = boarding;
-    while i < end {
-        let board = i;
-        i += 1;
+    for board in boarding..reach.end {
         if work[TRIP_CELLS + board] == 1 {
             let leave = write_row(board, rides, work, plan);
-            let row = nth_row(file, s, leave);
-            let landing = row.arrival + number(tables[BLOCK * row.class + MAX_DELAY]);
+            let row = reach.sailings.nth_row(leave);
+            let landing = row.arrival + number(reach.tables[BLOCK * row.class + MAX_DELAY]);
             rides += 1;
-            latest = later(latest, landing);
+            latest = latest.max(landing);
             if row.land != goal.target {
                 let soon = ready(goal.gate, row.arrival);
                 want(row.land, soon, ready(goal.gate, landing), work);
@@ -94,16 +69,6 @@ fn write_wanted(
     }
 }
 
-// The later of two minutes.
-fn later(a: usize, b: usize) -> usize
-    ensures { result ≡ max a b }
-{
-    if a < b {
-        return b;
-    }
-    a
-}
-
 // The ride of row `board` by the row's pair of cells, as ride number `ride`; its leaving row.
 fn write_row(board: usize, ride: usize, work: &[u32], plan: &mut [u32]) -> usize
     requires { (board < 4294967296) × (pair_cells + 2 * board + 1 < length work.now) × (3 * ride + 2 < length plan.old) }
@@ -112,7 +77,15 @@ fn write_row(board: usize, ride: usize, work: &[u32], plan: &mut [u32]) -> usize
 {
     let pair = PAIR_CELLS + 2 * board;
     let leave = work[pair + 1];
-    write_ride(plan, ride, cell(board), leave, work[pair]);
+    write_ride(
+        plan,
+        ride,
+        Ride {
+            board: cell(board),
+            leave,
+            worth: work[pair],
+        },
+    );
     number(leave)
 }
 

@@ -13,10 +13,11 @@ use Rattle.timetable.specs.Limits.{most_stops}
 use Rattle.plans.specs.Worth.{Valued}
 use Rattle.plan_cells.specs.Cells.{used, missing, pair_cell}
 use Rattle.plan_stacks.specs.Stacks.{stack_of}
-use Rattle.plan_scan.specs.Scanned.{PairHolds, best_in, scan_in}
+use Rattle.plan_scan.specs.Scanned.{PairHolds, best_in}
+use Rattle.plan_scan.specs.Reach.{scan_of}
 use Rattle.plan_scan.specs.Stores.{row_worth}
-use Rattle.plan_scan.proofs.scan_back.Kinds as kinds
-use Rattle.plan_scan.proofs.scan_back.Reads as reads
+use Rattle.plan_scan.proofs.reach.Reach.scan_back.Kinds as kinds
+use Rattle.plan_scan.proofs.reach.Reach.scan_back.Reads as reads
 
 same_worth : (w w' : List ℕ) (i : ℕ) (best : Option Valued) → PairHolds w i best → PairHolds w' i best → row_worth w i ≡ row_worth w' i
 same_worth w w' i none one other = one ∙ sym other
@@ -39,16 +40,15 @@ pub record SameScan (n first end : ℕ) (w w' : List ℕ) : Type 0 where
 pub scan_back_settled :
     (κs : Lfts 3) (arguments : Dens κs kinds.ps) (one other : (res_t kinds.r κs).Denot)
     (ending another : AtExit (ended_of 3 kinds.ps kinds.r) κs) → reads.Post κs arguments one ending → reads.Post κs arguments other another
-    → SameScan arguments.1.0.rows arguments.1.1.1.1.0 arguments.1.1.1.1.1.0 ending.1.1.1.1.1.1.0.now
-    another.1.1.1.1.1.1.0.now
+    → SameScan arguments.0.now.sailings.places.rows arguments.0.now.first arguments.0.now.end ending.1.0.now another.1.0.now
 scan_back_settled κs arguments one other ending another first second =
-    let w = ending.1.1.1.1.1.1.0.now in
-    let w' = another.1.1.1.1.1.1.0.now in
-    let from = arguments.1.1.1.1.0 in
-    let sc = scan_in arguments.0.now arguments.1.0 arguments.1.1.1.0 from arguments.1.1.1.1.1.0 in
+    let w = ending.1.0.now in
+    let w' = another.1.0.now in
+    let r = arguments.0.now in
+    let sc = scan_of r in
     record {
-      worths = λ i low high. same_worth w w' i (best_in sc from i) (first.0.pair_holds i low high) (second.0.pair_holds i low high);
-      leaves = λ i low high. same_leave w w' i (best_in sc from i) (first.0.pair_holds i low high) (second.0.pair_holds i low high);
+      worths = λ i low high. same_worth w w' i (best_in sc r.first i) (first.0.pair_holds i low high) (second.0.pair_holds i low high);
+      leaves = λ i low high. same_leave w w' i (best_in sc r.first i) (first.0.pair_holds i low high) (second.0.pair_holds i low high);
       stacks = λ stop h. first.0.stack_holds stop h ∙ sym (second.0.stack_holds stop h);
       lengths = first.1.same_length ∙ sym second.1.same_length;
       rest = λ i h. first.1.behind i h ∙ sym (second.1.behind i h);

@@ -3,3 +3,4 @@ pub mod Scanned
 pub mod Stores
 pub mod Regions
 pub mod Held
+pub mod Reach

@@ -1,16 +1,18 @@
 // Document 01, "Expected arrival in ticks", and document 02, E3: planning in a sound file with room for it, all steps together.
 #![tactic(auto)]
 
-ghost use Rattle.std.specs.Prelude.{◌≡◌, ℕ, ◌+◌, ◌*◌, ◌≤◌, ◌<◌, length};
+ghost use Rattle.std.specs.Prelude.{◌≡◌, ◌*◌, ◌≤◌, ◌<◌, length};
 ghost use Rattle.file_layout.specs.Decode.{decode};
 ghost use Rattle.query.specs.Query.{most_gate, most_quarters};
 ghost use Rattle.plans.specs.Journeys.{bound_of, ready_at};
 ghost use Rattle.plans.specs.Plan.{planned, earliest as earliest_in};
 ghost use Rattle.plan_cells.specs.Cells.{pair_cells, used};
 ghost use Rattle.plan_earliest.specs.Arrival.{arrival};
-ghost use Rattle.plan_rows.specs.Reading.{rows_in, table_cells, Cut, FileReadable};
+ghost use Rattle.plan_rows.specs.Reading.{table_cells, Cut};
+ghost use Rattle.plan_rows.specs.Sailings.{rows_of};
 ghost use Rattle.plan_rows.specs.Sections.{places_of};
-ghost use Rattle.plan_scan.specs.Scanned.{scan_in, ScanHeld};
+ghost use Rattle.plan_scan.specs.Reach.{scan_of};
+ghost use Rattle.plan_scan.specs.Scanned.{ScanHeld};
 ghost use Rattle.plan_whole.specs.Answers.{Answers};
 ghost use Rattle.plan_whole.specs.Steps.{CallFits, PlanningInput, Reaches, RowsWithin, RowsInReach, plan_in, KeptBehind};
 
@@ -18,8 +20,8 @@ use file_layout::{Format, Trailer};
 use numbers::{cell, number};
 use plan_earliest::earliest_arrival;
 use plan_extract::write_plan;
-use plan_rows::{SectionPlaces, ready, rows_before};
-use plan_scan::scan_back;
+use plan_rows::{Sailings, SectionPlaces, ready};
+use plan_scan::Reach;
 use plan_shares::read_tables;
 use plan_stacks::{stack_of, top};
 use plans::Goal;
@@ -58,26 +60,29 @@ pub fn plan_in_room(
         × KeptBehind (used trailer.rows) work.old work.new }
 {
     let mut tables = [0u32; TABLE_CELLS];
-    let (s, first) = lay_out(file, f, trailer, q, &mut tables);
-    let end = earliest_arrival(file, s, &tables, q, first, work).ok_or(NO_JOURNEY)?;
+    let (sailings, first) = lay_out(file, f, trailer, q, &mut tables);
+    let end = earliest_arrival(&sailings, &tables, q, first, work).ok_or(NO_JOURNEY)?;
     let bound = bound_of(q, number(end));
-    plan_within(file, s, &tables, q, bound, first, work, plan)
+    plan_within(&sailings, &tables, q, bound, first, work, plan)
 }
 
-// The tables as lent cells; where the sections stand, and how many rows are missed.
-fn lay_out(
-    file: &[u8],
+// The sailings, how many of them are missed, and the tables as lent cells.
+fn lay_out<'a>(
+    file: &'a [u8],
     f: Format,
     trailer: Trailer,
     q: Query,
     tables: &mut [u32],
-) -> (SectionPlaces, usize)
+) -> (Sailings<'a>, usize)
     requires { CallFits f file.now trailer q × (length tables.old ≡ table_cells) }
-    ensures { (result.0 ≡ places_of f trailer) × PlanningInput file.now result.0 tables.new q result.1 }
+    ensures { (result.0.file.now ≡ file.now) × (result.0.places ≡ places_of f trailer)
+        × PlanningInput result.0.file.now result.0.places tables.new q result.1 }
 {
-    let s = places_in(f, trailer);
-    read_tables(file, s, tables);
-    (s, rows_missed(file, s, q))
+    let places = places_in(f, trailer);
+    let sailings = Sailings { file, places };
+    read_tables(file, places, tables);
+    let first = rows_missed(&sailings, q);
+    (sailings, first)
 }
 
 // Where a file's sections stand.
@@ -94,11 +99,11 @@ fn places_in(f: Format, trailer: Trailer) -> SectionPlaces
 }
 
 // How many rows depart before one who stands at the source at T is ready.
-fn rows_missed(file: &[u8], s: SectionPlaces, q: Query) -> usize
-    requires { FileReadable file.now s × (q.minute < 65536) × (q.gate ≤ most_gate) }
-    ensures { Cut (rows_in file.now s) (ready_at q) result }
+fn rows_missed(sailings: &Sailings, q: Query) -> usize
+    requires { (q.minute < 65536) × (q.gate ≤ most_gate) }
+    ensures { Cut (rows_of sailings.now) (ready_at q) result }
 {
-    rows_before(file, s, ready(q.gate, q.minute))
+    sailings.rows_before(ready(q.gate, q.minute))
 }
 
 // T + q(E - T)/4 rounded down; 0 stands for no bound.
@@ -114,8 +119,7 @@ fn bound_of(q: Query, end: usize) -> usize
 
 // The plan within a bound that does not lie before T + g, or 8.
 fn plan_within(
-    file: &[u8],
-    s: SectionPlaces,
+    sailings: &Sailings,
     tables: &[u32],
     q: Query,
     bound: usize,
@@ -123,62 +127,65 @@ fn plan_within(
     work: &mut [u32],
     plan: &mut [u32],
 ) -> Result<Plan, Refusal<u32>>
-    requires { PlanningInput file.now s tables.now q first × Reaches (ready_at q) bound × (bound < 4294967296)
-        × (used s.rows ≤ length work.old) × (3 * s.rows ≤ length plan.old) }
-    ensures { Answers (plan_in file.now s q bound) result plan.old plan.new
-        × KeptBehind (used s.rows) work.old work.new }
+    requires { PlanningInput sailings.now.file.now sailings.now.places tables.now q first × Reaches (ready_at q) bound × (bound < 4294967296)
+        × (used sailings.now.places.rows ≤ length work.old) × (3 * sailings.now.places.rows ≤ length plan.old) }
+    ensures { Answers (plan_in sailings.now.file.now sailings.now.places q bound) result plan.old plan.new
+        × KeptBehind (used sailings.now.places.rows) work.old work.new }
 {
-    let end = rows_within(file, s, bound);
     let goal = Goal {
         target: q.target,
         bound,
         margin: q.margin,
         gate: q.gate,
     };
-    scan_back(file, s, tables, goal, first, end, work);
-    plan_scanned(file, s, tables, q, goal, end, work, plan)
+    let end = rows_within(sailings, bound);
+    let reach = Reach {
+        sailings: *sailings,
+        tables,
+        goal,
+        first,
+        end,
+    };
+    reach.scan_back(work);
+    plan_scanned(&reach, q, work, plan)
 }
 
 // The rows that a plan within the bound can board: a row that departs at or after a real bound lands
 // behind it.
-fn rows_within(file: &[u8], s: SectionPlaces, bound: usize) -> usize
-    requires { FileReadable file.now s }
-    ensures { RowsWithin (rows_in file.now s) bound result }
+fn rows_within(sailings: &Sailings, bound: usize) -> usize
+    ensures { RowsWithin (rows_of sailings.now) bound result }
 {
     if bound == 0 {
-        return s.rows;
+        return sailings.places.rows;
     }
-    rows_before(file, s, bound)
+    sailings.rows_before(bound)
 }
 
 // The plan that the scan's cells lead to, or 8.
 fn plan_scanned(
-    file: &[u8],
-    s: SectionPlaces,
-    tables: &[u32],
+    reach: &Reach,
     q: Query,
-    goal: Goal,
-    end: usize,
     work: &mut [u32],
     plan: &mut [u32],
 ) -> Result<Plan, Refusal<u32>>
-    requires { (first : ℕ) × PlanningInput file.now s tables.now q first × RowsInReach file.now s q goal first end
-        × (used s.rows ≤ length work.old) × (3 * s.rows ≤ length plan.old)
-        × ScanHeld work.old s.rows first end (scan_in file.now s goal first end) }
-    ensures { Answers (plan_in file.now s q goal.bound) result plan.old plan.new
-        × KeptBehind (used s.rows) work.old work.new }
+    requires { PlanningInput reach.now.sailings.file.now reach.now.sailings.places reach.now.tables.now q reach.now.first
+        × RowsInReach reach.now.sailings.file.now reach.now.sailings.places q reach.now.goal reach.now.first reach.now.end
+        × (used reach.now.sailings.places.rows ≤ length work.old) × (3 * reach.now.sailings.places.rows ≤ length plan.old)
+        × ScanHeld work.old reach.now.sailings.places.rows reach.now.first reach.now.end (scan_of reach.now) }
+    ensures { Answers (plan_in reach.now.sailings.file.now reach.now.sailings.places q reach.now.goal.bound) result plan.old plan.new
+        × KeptBehind (used reach.now.sailings.places.rows) work.old work.new }
 {
     let stack = stack_of(work, q.source);
     if stack.size == 0 {
         return Err(NO_JOURNEY);
     }
     let ahead = top(work, stack);
-    let written = write_plan(file, s, tables, goal, ahead.row, end, work, plan);
+    let written = write_plan(reach, ahead.row, work, plan);
     Ok(Plan {
         rides: cell(written.rides),
         expected: ahead.worth,
         latest: written.latest,
-        bound: cell(goal.bound),
+        bound: cell(reach.goal.bound),
     })
 }
 
@@ -194,6 +201,6 @@ pub fn earliest_in_room(
     ensures { (result ≡ arrival (earliest_in (decode f file.now) q)) × KeptBehind pair_cells work.old work.new }
 {
     let mut tables = [0u32; TABLE_CELLS];
-    let (s, first) = lay_out(file, f, trailer, q, &mut tables);
-    earliest_arrival(file, s, &tables, q, first, work)
+    let (sailings, first) = lay_out(file, f, trailer, q, &mut tables);
+    earliest_arrival(&sailings, &tables, q, first, work)
 }

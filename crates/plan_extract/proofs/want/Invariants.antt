@@ -1,6 +1,5 @@
 use Rattle.plan_stacks.specs.Stacks.{stack_start, stack_size}
 use Rattle.plan_extract.proofs.Passing.{Down}
-use Rattle.plan_extract.proofs.Passing as passing
 use Rattle.plan_extract.proofs.want.Given as goal
 
 abbrev pub invariant-loop-key : goal.invariant-loop-key
