@@ -8,13 +8,14 @@ use mathlib.Core.Path.{◌≡◌, refl, sym, ap, subst, ◌∙◌}
 use borrow.Author.Tests.{leb-true, le-leb}
 use Rattle.laws.proofs.Tests.{both_left, both_right}
 use Rattle.timetable.specs.Limits.{most_stops, most_rows}
-use Rattle.timetable.specs.Verdict.{Verdict, fine, fault, or_else, unless, by_verdict}
+use Rattle.timetable.specs.Verdict.{Verdict, fine, fault, or_else, unless, by_verdict, refused, told_fault}
+use Rattle.timetable.specs.declared.Refusal.{Refusal}
 use Rattle.timetable.proofs.Verdicts.{fault_not_fine, first_fine, second_fine, rule_holds}
 use Rattle.timetable.specs.Places.{WellPlaced}
 use Rattle.timetable.proofs.Places.{number_small}
 use Rattle.file_layout.specs.declared.Format.{Format}
 use Rattle.file_layout.specs.declared.Trailer.{Trailer}
-use Rattle.file_layout.specs.declared.Checked.TheVariants.{Sound, Refused}
+use Rattle.std.specs.Prelude.{Ok, Err}
 use Rattle.file_layout.specs.Format.{Readable}
 use Rattle.file_layout.specs.Sound.{SoundFile}
 use Rattle.file_layout.specs.Decode.{trailer_of}
@@ -27,8 +28,7 @@ use Rattle.query.proofs.Rules.{rule_gives}
 use Rattle.plan_rows.specs.Sections.{Plannable}
 use Rattle.plan_whole.specs.Steps.{CallFits}
 use Rattle.planner.specs.declared.Room.{Room}
-use Rattle.planner.specs.declared.Admission.TheVariants.{Admitted, Refused as NotAdmitted}
-use Rattle.planner.specs.Admission.{needs, enough, call_verdict, admission, admitted, fault_number, SmallRoom, work_room, plan_room, no_room, Admits}
+use Rattle.planner.specs.Admission.{needs, enough, call_verdict, admission, admitted, SmallRoom, work_room, plan_room, no_room, Admits}
 
 -- behind the check: 6, then 7, or none
 module _ (f : Format) (h : Trailer) (q : Query) (work other : Room) where
@@ -66,19 +66,6 @@ module _ (f : Format) (h : Trailer) (q : Query) (work other : Room) where
         leb-true (needs other h) other.lent (both_right (enough work h) (enough other h) both),
       )
 
--- a refusal behind the check has place 0, and its number tells which it is
-pub number_tells : (f : Format) (h : Trailer) (q : Query) (work other : Room) (number : ℕ) → number ≡ fault_number (call_verdict f h q work other)
-    → ((number ≡ 0 → ⊥) → call_verdict f h q work other ≡ fault number 0) × (number ≡ 0 → call_verdict f h q work other ≡ fine)
-unfolding call_verdict
-number_tells f h q work other number told = tells (query_rule h.stops f.lastminute q) (enough work h && enough other h) told
-  where
-    tells : (rule rooms : Bool) → number ≡ fault_number (or_else (unless rule 6 0) (unless rooms 7 0))
-        → ((number ≡ 0 → ⊥) → or_else (unless rule 6 0) (unless rooms 7 0) ≡ fault number 0)
-        × (number ≡ 0 → or_else (unless rule 6 0) (unless rooms 7 0) ≡ fine)
-    tells false rooms is = (λ _. ap (λ n. fault n 0) (sym is), λ e. absurd (let z : ⊥ = omega arith in z))
-    tells true false is = (λ _. ap (λ n. fault n 0) (sym is), λ e. absurd (let z : ⊥ = omega arith in z))
-    tells true true is = (λ real. absurd (real is), λ _. refl)
-
 -- the check decides first
 module _ (f : Format) (file : List ℕ) (q : Query) (work other : Room) where
   pub file_refused : (number place : ℕ) → file_verdict f file ≡ fault number place → admission f file q work other ≡ fault number place
@@ -89,10 +76,10 @@ module _ (f : Format) (file : List ℕ) (q : Query) (work other : Room) where
   unfolding admission
   call_decides e = ap (λ v. or_else v (call_verdict f (trailer_of f file) q work other)) e
 
-  pub check_refused : (number place : ℕ) → checked_as f file ≡ Refused number place → admission f file q work other ≡ fault number place
+  pub check_refused : (number place : ℕ) → checked_as f file ≡ refused number place → admission f file q work other ≡ fault number place
   check_refused number place e = file_refused number place (refused_checked f file number place e)
 
-  module _ (h : Trailer) (sound : checked_as f file ≡ Sound h) where
+  module _ (h : Trailer) (sound : checked_as f file ≡ Ok h) where
     pub behind_check : admission f file q work other ≡ call_verdict f h q work other
     behind_check =
         let told = sound_checked f file h sound in
@@ -108,13 +95,13 @@ module _ (f : Format) (file : List ℕ) (q : Query) (work other : Room) where
     admits plannable e = record { plannable = plannable; fine_call = behind_check ∙ e; read = (sound_checked f file h sound).1 }
 
   pub refused_admission : (number place : ℕ) → admission f file q work other ≡ fault number place
-      → NotAdmitted number place ≡ admitted f file q work other
+      → refused number place ≡ admitted f file q work other
   unfolding admitted
-  refused_admission number place e = sym (ap (by_verdict NotAdmitted (Admitted (trailer_of f file))) e)
+  refused_admission number place e = sym (ap (by_verdict refused (Ok (trailer_of f file))) e)
 
-  pub fine_admission : (h : Trailer) → h ≡ trailer_of f file → admission f file q work other ≡ fine → Admitted h ≡ admitted f file q work other
+  pub fine_admission : (h : Trailer) → h ≡ trailer_of f file → admission f file q work other ≡ fine → Ok h ≡ admitted f file q work other
   unfolding admitted
-  fine_admission h read e = ap Admitted read ∙ sym (ap (by_verdict NotAdmitted (Admitted (trailer_of f file))) e)
+  fine_admission h read e = ap Ok read ∙ sym (ap (by_verdict refused (Ok (trailer_of f file))) e)
 
 -- two pairs of rooms that are enough alike admit alike
 pub same_admission : (f : Format) (file : List ℕ) (q : Query) (a b c d : Room)
@@ -168,25 +155,32 @@ refused_roomless f file q number place e =
     number_of fine true true wide placed e = absurd (fault_not_fine (sym e))
     number_of fine true false wide placed e = absurd (false≢true wide)
 
+-- the fault that is told is the verdict
+verdict_told : {A : Type 0} (answered : A) (v : Verdict) → told_fault (by_verdict refused (Ok answered) v) ≡ v
+verdict_told answered fine = refl
+verdict_told answered (fault number place) = refl
+
+-- so what is answered by a verdict tells it
+pub fine_told : {A : Type 0} (answered : A) (v : Verdict) {given : A} → by_verdict refused (Ok answered) v ≡ Ok given → v ≡ fine
+fine_told answered v e = sym (verdict_told answered v) ∙ ap told_fault e
+
+pub fault_told : {A : Type 0} (answered : A) (v : Verdict) {refusal : Refusal ℕ} → by_verdict refused (Ok answered) v ≡ Err refusal
+    → v ≡ fault refusal.number refusal.place
+fault_told answered v e = sym (verdict_told answered v) ∙ ap told_fault e
+
 -- what the answer of an admission tells
-pub admission_tells : (f : Format) (file : List ℕ) (q : Query) (work other : Room) (number place : ℕ)
-    → admitted f file q work other ≡ NotAdmitted number place → admission f file q work other ≡ fault number place
+pub admission_tells : (f : Format) (file : List ℕ) (q : Query) (work other : Room) (refusal : Refusal ℕ)
+    → admitted f file q work other ≡ Err refusal → admission f file q work other ≡ fault refusal.number refusal.place
 unfolding admitted
-admission_tells f file q work other number place e = refused_by (admission f file q work other) e
-  where
-    refused_by : (v : Verdict) → by_verdict NotAdmitted (Admitted (trailer_of f file)) v ≡ NotAdmitted number place → v ≡ fault number place
-    refused_by fine e = absurd (let z : ◌≡◌ {A = ℕ} 0 1 = cc in let y : ⊥ = omega arith in y)
-    refused_by (fault n p) e = cc
+admission_tells f file q work other refusal e = fault_told (trailer_of f file) (admission f file q work other) e
 
 pub admitted_tells : (f : Format) (file : List ℕ) (q : Query) (work other : Room) (h : Trailer) → Plannable f
-    → admitted f file q work other ≡ Admitted h → Admits f file h q work other
+    → admitted f file q work other ≡ Ok h → Admits f file h q work other
 unfolding admitted
 admitted_tells f file q work other h plannable e =
-    let told = admitted_by (admission f file q work other) e in record { plannable = plannable; fine_call = told.0; read = told.1 }
-  where
-    admitted_by : (v : Verdict) → by_verdict NotAdmitted (Admitted (trailer_of f file)) v ≡ Admitted h → (v ≡ fine) × (h ≡ trailer_of f file)
-    admitted_by fine e = (refl, (cc))
-    admitted_by (fault n p) e = absurd (let z : ◌≡◌ {A = ℕ} 0 1 = cc in let y : ⊥ = omega arith in y)
+    let fine_call : admission f file q work other ≡ fine = fine_told (trailer_of f file) (admission f file q work other) e in
+    let same : Ok (trailer_of f file) ≡ Ok h = sym (ap (by_verdict refused (Ok (trailer_of f file))) fine_call) ∙ e in
+    record { plannable = plannable; fine_call = fine_call; read = cc }
 
 -- what an admitted call has: a sound file, a query of its stops and minutes, and both rooms
 module _ {f : Format} {file : List ℕ} {h : Trailer} {q : Query} {work other : Room} (call : Admits f file h q work other) where

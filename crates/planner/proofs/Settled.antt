@@ -6,6 +6,8 @@ use borrow.Fn.Kinds.{Dens, res_t, ended_of}
 use Rattle.laws.proofs.Outcomes.{SettlesResult}
 use Rattle.planner.proofs.admit.Kinds as admit_kinds
 use Rattle.planner.proofs.admit.Reads as admit_reads
+use Rattle.planner.proofs.in_cells.Kinds as cells_kinds
+use Rattle.planner.proofs.in_cells.Reads as cells_reads
 use Rattle.planner.proofs.admit_checked.Kinds as behind_kinds
 use Rattle.planner.proofs.admit_checked.Reads as behind_reads
 use Rattle.planner.proofs.plan.Kinds as plan_kinds
@@ -21,6 +23,9 @@ use Rattle.planner.proofs.earliest_checked.Reads as checked_arrival_reads
 
 pub admit_settled : SettlesResult 1 admit_kinds.ps admit_kinds.r admit_reads.Post
 admit_settled κs arguments one other ending another first second = first ∙ sym second
+
+pub in_cells_settled : SettlesResult 0 cells_kinds.ps cells_kinds.r cells_reads.Post
+in_cells_settled κs arguments one other ending another first second = first ∙ sym second
 
 pub admit_checked_settled : SettlesResult 0 behind_kinds.ps behind_kinds.r behind_reads.Post
 admit_checked_settled κs arguments one other ending another first second = first ∙ sym second

@@ -1,6 +1,7 @@
 -- Document 01, "Numbers returned on refusal": the refusals 1 to 7 in their order, for every call on a file and a query.
-use Rattle.std.specs.Prelude.{ℕ, ◌+◌, ◌*◌, ◌<◌, Bool, ◌&&◌, List, ◌≡◌, leb}
-use Rattle.timetable.specs.Verdict.{Verdict, fine, or_else, unless, by_verdict}
+use Rattle.std.specs.Prelude.{ℕ, ◌+◌, ◌*◌, ◌<◌, Bool, ◌&&◌, List, ◌≡◌, leb, Result, Ok}
+use Rattle.timetable.specs.Verdict.{Verdict, fine, or_else, unless, by_verdict, refused}
+use Rattle.timetable.specs.declared.Refusal.{Refusal}
 use Rattle.file_layout.specs.declared.Format.{Format}
 use Rattle.file_layout.specs.declared.Trailer.{Trailer}
 use Rattle.file_layout.specs.Decode.{trailer_of}
@@ -9,8 +10,6 @@ use Rattle.query.specs.declared.Query.{Query}
 use Rattle.query.specs.Query.{query_rule}
 use Rattle.plan_rows.specs.Sections.{Plannable}
 use Rattle.planner.specs.declared.Room.{Room}
-use Rattle.planner.specs.declared.Admission.{Admission}
-use Rattle.planner.specs.declared.Admission.TheVariants.{Admitted, Refused}
 
 -- what a room needs in a file of n rows and S stops
 abbrev pub needs : Room → Trailer → ℕ
@@ -41,12 +40,8 @@ unfoldable pub admission : Format → List ℕ → Query → Room → Room → V
 admission f file q work other = let behind = call_verdict f (trailer_of f file) q work other in or_else (file_verdict f file) behind
 
 -- an admitted call goes on with the trailer; a refusal carries its number and place and nothing else
-unfoldable pub admitted : Format → List ℕ → Query → Room → Room → Admission
-admitted f file q work other = by_verdict Refused (Admitted (trailer_of f file)) (admission f file q work other)
-
--- a refusal's number, 0 for none
-abbrev pub fault_number : Verdict → ℕ
-fault_number v = by_verdict (λ number place. number) 0 v
+unfoldable pub admitted : Format → List ℕ → Query → Room → Room → Result Trailer (Refusal ℕ)
+admitted f file q work other = by_verdict refused (Ok (trailer_of f file)) (admission f file q work other)
 
 -- so few are needed that no sum of them wraps
 pub record SmallRoom (room : Room) : Type 0 where

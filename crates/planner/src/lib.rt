@@ -1,22 +1,22 @@
 // Document 01, "What the planner covers": the plan and the earliest safe arrival, or a numbered refusal.
 #![tactic(auto)]
 
-ghost use Rattle.std.specs.Prelude.{◌≡◌, ◌≤◌, length};
+ghost use Rattle.std.specs.Prelude.{Ok, ◌≡◌, ◌≤◌, ◌<◌, length};
 ghost use Rattle.timetable.specs.Limits.{most_rows, most_stops};
+ghost use Rattle.timetable.specs.Verdict.{by_verdict, refused};
 ghost use Rattle.file_layout.specs.Check.{checked_as};
 ghost use Rattle.file_layout.specs.Format.{Readable, version_one};
-ghost use Rattle.file_layout.specs.declared.Checked.TheVariants.{Sound};
 ghost use Rattle.query.specs.Query.{plain_query, with_gate};
 ghost use Rattle.plan_rows.specs.Sections.{Plannable};
-ghost use Rattle.planner.specs.Admission.{Admits, SmallRoom, admitted, call_verdict, enough as is_enough, fault_number, needs, no_room, plan_room, work_room};
-ghost use Rattle.planner.specs.Outcome.{earliest_outcome, plan_outcome};
+ghost use Rattle.planner.specs.Admission.{Admits, SmallRoom, admitted, call_verdict, enough as is_enough, needs, no_room, plan_room, work_room};
+ghost use Rattle.planner.specs.Outcome.{cleared, earliest_outcome, plan_outcome};
 
 use file_check::check_as;
-use file_layout::{Checked, Format, Trailer, VERSION_ONE};
+use file_layout::{Format, Trailer, VERSION_ONE};
 use numbers::cell;
-use plan_cells::{NONE, fill};
-use plan_whole::{Planned, earliest_in_room, plan_in_room};
+use plan_whole::{Plan, earliest_in_room, plan_in_room};
 use query::{LEAST_MARGIN, Query, query_rule};
+use timetable::Refusal;
 
 // What is lent, and what a call needs of it: so much a row, a stop, and beside them.
 #[derive(Clone, Copy)]
@@ -35,57 +35,59 @@ pub const NO_ROOM: Room = Room {
     fixed: 0,
 };
 
-// The trailer of a sound file that a call goes on with, or the first of the refusals 1 to 7.
-#[derive(Clone, Copy)]
-pub enum Admission {
-    Admitted { trailer: Trailer },
-    Refused { number: u32, place: u32 },
-}
-
-// The earliest safe arrival E, or a refusal.
-#[derive(Clone, Copy)]
-pub enum Earliest {
-    Arrival { minute: u32 },
-    Refused { number: u32, place: u32 },
-}
-
-// The refusals 1 to 7 of a call on a file and a query, which is lent two rooms.
-pub fn admit(file: &[u8], f: Format, q: Query, work: Room, other: Room) -> Admission
+// The trailer of a sound file that a call on a file and a query, which is lent two rooms, goes on with; or the first of the refusals 1 to 7.
+pub fn admit(
+    file: &[u8],
+    f: Format,
+    q: Query,
+    work: Room,
+    other: Room,
+) -> Result<Trailer, Refusal<u32>>
     requires { Readable f × SmallRoom work × SmallRoom other }
     ensures { result ≡ admitted f file.now q work other }
 {
-    let checked = check_as(file, f);
-    match checked {
-        Checked::Refused { number, place } => Admission::Refused {
-            number: cell(number),
-            place: cell(place),
-        },
-        Checked::Sound { trailer } => {
-            let number = admit_checked(f, trailer, q, work, other);
-            if number == 0 {
-                Admission::Admitted { trailer }
-            } else {
-                Admission::Refused { number, place: 0 }
-            }
-        }
+    let trailer = check_as(file, f).map_err(in_cells)?;
+    admit_checked(f, trailer, q, work, other)?;
+    Ok(trailer)
+}
+
+// The check's refusal in the numbers of a call.
+pub fn in_cells(refusal: Refusal<usize>) -> Refusal<u32>
+    requires { (refusal.number < 4294967296) × (refusal.place < 4294967296) }
+    ensures { result ≡ record { number = refusal.number; place = refusal.place } }
+{
+    Refusal {
+        number: cell(refusal.number),
+        place: cell(refusal.place),
     }
 }
 
-// The refusals behind the check's, 6 and 7; 0 for none.
-pub fn admit_checked(f: Format, trailer: Trailer, q: Query, work: Room, other: Room) -> u32
+// The refusals behind the check's, 6 and 7.
+#[tactic(auto, unfolding(crate::specs::Admission::call_verdict))]
+pub fn admit_checked(
+    f: Format,
+    trailer: Trailer,
+    q: Query,
+    work: Room,
+    other: Room,
+) -> Result<(), Refusal<u32>>
     requires { (trailer.stops ≤ most_stops) × (trailer.rows ≤ most_rows) × SmallRoom work × SmallRoom other }
-    ensures { result ≡ fault_number (call_verdict f trailer q work other) }
+    ensures { result ≡ by_verdict refused (Ok tt) (call_verdict f trailer q work other) }
 {
     if !query_rule(q, trailer.stops, f.lastminute) {
-        return 6;
+        return refuse(6);
     }
-    if !enough(work, trailer) {
-        return 7;
+    if !(enough(work, trailer) && enough(other, trailer)) {
+        return refuse(7);
     }
-    if !enough(other, trailer) {
-        return 7;
-    }
-    0
+    Ok(())
+}
+
+// A refusal that speaks of no place.
+fn refuse<T>(number: u32) -> Result<T, Refusal<u32>>
+    ensures { result ≡ refused number 0 }
+{
+    Err(Refusal { number, place: 0 })
 }
 
 // As much is lent as is needed.
@@ -127,25 +129,30 @@ fn plan_needs(lent: usize) -> Room
     }
 }
 
+// As many work numbers as a call needs become 0.
+#[tactic(auto, unfolding(crate::specs::Outcome::cleared))]
+fn clear(work: &mut [u32], trailer: Trailer)
+    requires { (trailer.stops ≤ most_stops) × (trailer.rows ≤ most_rows) × (needs (work_room (length work.old)) trailer ≤ length work.old) }
+    ensures { work.new ≡ cleared (needs (work_room (length work.old)) trailer) work.old }
+{
+    let room = needed(work_needs(work.len()), trailer);
+    work[..room].fill(0);
+}
+
 // The minimum expected arrival plan for a sailing file and a query, or a refusal.
-pub fn plan(file: &[u8], q: Query, work: &mut [u32], plan: &mut [u32]) -> Planned
+pub fn plan(file: &[u8], q: Query, work: &mut [u32], plan: &mut [u32]) -> Result<Plan, Refusal<u32>>
     ensures { (result ≡ (plan_outcome version_one file.now q work.old plan.old).answer)
         × (work.new ≡ (plan_outcome version_one file.now q work.old plan.old).work)
         × (plan.new ≡ (plan_outcome version_one file.now q work.old plan.old).plan) }
 {
-    let admission = admit(
+    let trailer = admit(
         file,
         VERSION_ONE,
         q,
         work_needs(work.len()),
         plan_needs(plan.len()),
-    );
-    match admission {
-        Admission::Refused { number, place } => Planned::Refused { number, place },
-        Admission::Admitted { trailer } => {
-            plan_admitted(file, VERSION_ONE, trailer, q, work, plan)
-        }
-    }
+    )?;
+    plan_admitted(file, VERSION_ONE, trailer, q, work, plan)
 }
 
 // The plan in a file of a version that the check has answered as sound, or a refusal from 6 on.
@@ -156,23 +163,20 @@ pub fn plan_checked(
     q: Query,
     work: &mut [u32],
     plan: &mut [u32],
-) -> Planned
-    requires { Plannable f × (checked_as f file.now ≡ Sound trailer) }
+) -> Result<Plan, Refusal<u32>>
+    requires { Plannable f × (checked_as f file.now ≡ Ok trailer) }
     ensures { (result ≡ (plan_outcome f file.now q work.old plan.old).answer)
         × (work.new ≡ (plan_outcome f file.now q work.old plan.old).work)
         × (plan.new ≡ (plan_outcome f file.now q work.old plan.old).plan) }
 {
-    let number = admit_checked(
+    admit_checked(
         f,
         trailer,
         q,
         work_needs(work.len()),
         plan_needs(plan.len()),
-    );
-    if number == 0 {
-        return plan_admitted(file, f, trailer, q, work, plan);
-    }
-    Planned::Refused { number, place: 0 }
+    )?;
+    plan_admitted(file, f, trailer, q, work, plan)
 }
 
 // The plan or 8 of an admitted call; then work is cleared.
@@ -183,15 +187,14 @@ fn plan_admitted(
     q: Query,
     work: &mut [u32],
     plan: &mut [u32],
-) -> Planned
+) -> Result<Plan, Refusal<u32>>
     requires { Admits f file.now trailer q (work_room (length work.old)) (plan_room (length plan.old)) }
     ensures { (result ≡ (plan_outcome f file.now q work.old plan.old).answer)
         × (work.new ≡ (plan_outcome f file.now q work.old plan.old).work)
         × (plan.new ≡ (plan_outcome f file.now q work.old plan.old).plan) }
 {
     let answer = plan_in_room(file, f, trailer, q, work, plan);
-    let room = needed(work_needs(work.len()), trailer);
-    fill(work, 0, room, 0);
+    clear(work, trailer);
     answer
 }
 
@@ -202,7 +205,7 @@ pub fn earliest_safe_arrival(
     target: usize,
     minute: usize,
     work: &mut [u32],
-) -> Earliest
+) -> Result<u32, Refusal<u32>>
     ensures { (result ≡ (earliest_outcome version_one file.now (plain_query source target minute) work.old).answer)
         × (work.new ≡ (earliest_outcome version_one file.now (plain_query source target minute) work.old).work) }
 {
@@ -217,7 +220,7 @@ pub fn earliest_with_gate(
     minute: usize,
     gate: usize,
     work: &mut [u32],
-) -> Earliest
+) -> Result<u32, Refusal<u32>>
     ensures { (result ≡ (earliest_outcome version_one file.now (with_gate gate (plain_query source target minute)) work.old).answer)
         × (work.new ≡ (earliest_outcome version_one file.now (with_gate gate (plain_query source target minute)) work.old).work) }
 {
@@ -229,11 +232,8 @@ pub fn earliest_with_gate(
         margin: LEAST_MARGIN,
         gate,
     };
-    let admission = admit(file, VERSION_ONE, q, work_needs(work.len()), NO_ROOM);
-    match admission {
-        Admission::Refused { number, place } => Earliest::Refused { number, place },
-        Admission::Admitted { trailer } => earliest_admitted(file, VERSION_ONE, trailer, q, work),
-    }
+    let trailer = admit(file, VERSION_ONE, q, work_needs(work.len()), NO_ROOM)?;
+    earliest_admitted(file, VERSION_ONE, trailer, q, work)
 }
 
 // The earliest safe arrival in a file of a version that the check has answered as sound, or a refusal from 6 on.
@@ -243,16 +243,13 @@ pub fn earliest_checked(
     trailer: Trailer,
     q: Query,
     work: &mut [u32],
-) -> Earliest
-    requires { Plannable f × (checked_as f file.now ≡ Sound trailer) }
+) -> Result<u32, Refusal<u32>>
+    requires { Plannable f × (checked_as f file.now ≡ Ok trailer) }
     ensures { (result ≡ (earliest_outcome f file.now q work.old).answer)
         × (work.new ≡ (earliest_outcome f file.now q work.old).work) }
 {
-    let number = admit_checked(f, trailer, q, work_needs(work.len()), NO_ROOM);
-    if number == 0 {
-        return earliest_admitted(file, f, trailer, q, work);
-    }
-    Earliest::Refused { number, place: 0 }
+    admit_checked(f, trailer, q, work_needs(work.len()), NO_ROOM)?;
+    earliest_admitted(file, f, trailer, q, work)
 }
 
 // E or 8 of an admitted call; then work is cleared.
@@ -262,19 +259,15 @@ fn earliest_admitted(
     trailer: Trailer,
     q: Query,
     work: &mut [u32],
-) -> Earliest
+) -> Result<u32, Refusal<u32>>
     requires { Admits f file.now trailer q (work_room (length work.old)) no_room }
     ensures { (result ≡ (earliest_outcome f file.now q work.old).answer)
         × (work.new ≡ (earliest_outcome f file.now q work.old).work) }
 {
     let end = earliest_in_room(file, f, trailer, q, work);
-    let room = needed(work_needs(work.len()), trailer);
-    fill(work, 0, room, 0);
-    if end == NONE {
-        return Earliest::Refused {
-            number: 8,
-            place: 0,
-        };
-    }
-    Earliest::Arrival { minute: end }
+    clear(work, trailer);
+    end.ok_or(Refusal {
+        number: 8,
+        place: 0,
+    })
 }
