@@ -1,17 +1,18 @@
 // Document 01, "Numbers returned on refusal", and document 02, E1 and E3: the booking desk's calls. include/sayurimpak.h is their manual.
 #![tactic(auto)]
 
-ghost use Rattle.std.specs.Prelude.{◌≡◌, ◌/◌, min, length};
+ghost use Rattle.std.specs.Prelude.{◌≡◌};
 ghost use Rattle.file_layout.specs.Format.{version_one};
 ghost use Rattle.query.specs.Query.{plain_query, with_code, with_gate, with_margin};
 ghost use Rattle.sayurimpak.specs.Desk.{desk_outcome};
 ghost use Rattle.sayurimpak.specs.Given.{given, Fitting};
 
 use numbers::{cell, number, put_numbers};
-use plan_whole::Planned;
+use plan_whole::Plan;
 use planner::plan;
 use query::{LEAST_MARGIN, query_of};
 use rooms::{PLAN, plan_room, work_room};
+use timetable::Refusal;
 
 // A plan for a C host, which passes numbers and bytes only.
 #[unsafe(no_mangle)]
@@ -64,37 +65,23 @@ pub extern "C" fn sayurimpak_plan_gate(
     let q = query_of(source, target, minute, code, margin, gate);
     let mut work = work_room();
     let mut numbers = plan_room();
-    let lent = lent_numbers(out.len());
+    // The planner is lent as many numbers as the host's bytes hold, so that its room below 3n is the host's below 12n.
+    let lent = PLAN.min(out.len() / 4);
     let answer = plan(file, q, &mut work, &mut numbers[..lent]);
     give(answer, &numbers, out)
 }
 
 // The answer to the host, and a plan's numbers to its bytes.
-fn give(answer: Planned, numbers: &[u32], out: &mut [u8]) -> u32
+fn give(answer: Result<Plan, Refusal<u32>>, numbers: &[u32], out: &mut [u8]) -> u32
     requires { Fitting answer numbers.now out.old }
     ensures { (result ≡ (given answer numbers.now out.old).answer)
         × (out.new ≡ (given answer numbers.now out.old).bytes) }
 {
     match answer {
-        Planned::Refused {
-            number: refusal,
-            place: _,
-        } => 10000 + refusal,
-        Planned::Plan {
-            rides,
-            expected: _,
-            latest: _,
-            bound: _,
-        } => {
-            put_numbers(numbers, 3 * number(rides), out);
-            rides
+        Err(refusal) => 10000 + refusal.number,
+        Ok(plan) => {
+            put_numbers(numbers, 3 * number(plan.rides), out);
+            plan.rides
         }
     }
-}
-
-// The plan slice that the planner is lent: as many numbers as the host's bytes hold, so that its room below 3n is the host's below 12n.
-fn lent_numbers(bytes: usize) -> usize
-    ensures { result ≡ min 6000 (bytes / 4) }
-{
-    if bytes / 4 < PLAN { bytes / 4 } else { PLAN }
 }
