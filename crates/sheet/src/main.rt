@@ -3,14 +3,13 @@
 
 use files::{Output, ended, open_out, read_file, write_out};
 use rooms::{query_room, sailings_room};
-use sheet_text::{SHEET_ROOM, Sheeted, sheet_room};
+use sheet_text::{SHEET_ROOM, sheet_room};
 use std::process::ExitCode;
 
 // Writes the sheet of the two files' bytes.
 fn print_sheet(out: &Output, sailings: &[u8], query: &[u8]) {
     let mut text = sheet_room();
-    let sheeted = sheet_text::sheet(sailings, query, &mut text);
-    if let Sheeted::Text { end } = sheeted {
+    if let Some(end) = sheet_text::sheet(sailings, query, &mut text) {
         if end <= SHEET_ROOM {
             write_out(out, &text[..end]);
         }

@@ -9,8 +9,9 @@ use lib.ListN.{length, take, drop}
 use borrow.Author.Tests.{le-leb}
 use Rattle.laws.proofs.Tests.{both}
 use Rattle.timetable.specs.Verdict.{Verdict, fine, fault, by_verdict}
+use Rattle.timetable.specs.declared.Refusal.{Refusal}
+use Rattle.std.specs.Prelude.{Result, Ok, Err}
 use Rattle.timetable.specs.Timetable.{Timetable}
-use Rattle.file_layout.specs.declared.Checked.TheVariants.{Sound}
 use Rattle.file_layout.specs.declared.Format.{Format}
 use Rattle.file_layout.specs.declared.Trailer.{Trailer}
 use Rattle.file_layout.specs.Check.{checked_as}
@@ -30,12 +31,13 @@ use Rattle.plan_rows.specs.Sections.{Plannable}
 use Rattle.plan_slice.specs.Slice.{written, rides_in, RidesFit}
 use Rattle.plan_slice.proofs.ReadBack.{slice_read_back, rides_fit}
 use Rattle.numbers.specs.Over.{over}
-use Rattle.plan_whole.specs.declared.Planned.TheVariants.{Plan as AsPlan, Refused as NoPlan}
+use Rattle.plan_whole.specs.declared.Plan.{Plan as Given}
 use Rattle.plan_whole.specs.Answers.{answer_for, slice_after}
 use Rattle.planner.specs.declared.Room.{Room}
 use Rattle.planner.specs.Admission.{work_room, plan_room, no_room, needs, enough, admission}
 use Rattle.planner.specs.Outcome.{PlanOutcome, work_after, refused_plan, plan_answered, plan_outcome}
 use Rattle.planner.proofs.Admitting.{same_admission}
+use Rattle.planner.proofs.Answered.{number_in}
 use Rattle.sheet_text.specs.Sheet.{first_text, refused_text, rides_text, plan_text, planned_text, asked_text}
 
 -- a refusal by its number, or what planning finds
@@ -45,30 +47,28 @@ answered_to v found cells work plan = by_verdict (λ number place. refused_plan 
 abbrev told_to : Verdict → Option Plan → List ℕ
 told_to v found = by_verdict (λ number place. refused_text number) (planned_text found) v
 
-refusal_when : (v : Verdict) (found : Option Plan) (cells work plan : List ℕ) {number place : ℕ}
-    → NoPlan number place ≡ (answered_to v found cells work plan).answer → refused_text number ≡ told_to v found
+refusal_when : (v : Verdict) (found : Option Plan) (cells work plan : List ℕ) {refusal : Refusal ℕ}
+    → Err refusal ≡ (answered_to v found cells work plan).answer → refused_text refusal.number ≡ told_to v found
 unfolding plan_answered answer_for slice_after planned_text
-refusal_when fine none cells work plan {number} e = let same : number ≡ 8 = cc in ap refused_text same
+refusal_when fine none cells work plan e = ap (λ r. refused_text (number_in r)) e
 refusal_when fine (some p) cells work plan e = absurd (let z : ◌≡◌ {A = ℕ} 0 1 = cc in let y : ⊥ = omega arith in y)
-refusal_when (fault n p) found cells work plan {number} e = let same : number ≡ n = cc in ap refused_text same
+refusal_when (fault n p) found cells work plan e = ap (λ r. refused_text (number_in r)) e
 
 -- a plan that was answered: the numbers are its own, and the slice holds its rides
-record Told (v : Verdict) (found : Option Plan) (rides expected latest : ℕ) (plan after : List ℕ) : Type 0 where
+record Told (v : Verdict) (found : Option Plan) (given : Given) (plan after : List ℕ) : Type 0 where
   told : Plan
   admits : v ≡ fine
   is_found : found ≡ some told
-  count : rides ≡ length told.rides
-  expects : expected ≡ told.expected
-  ends : latest ≡ told.latest
+  is_given : given ≡ record { rides = length told.rides; expected = told.expected; latest = told.latest; bound = told.bound }
   laid : after ≡ over (written told.rides) plan
 
-plan_when : (v : Verdict) (found : Option Plan) (cells work plan after : List ℕ) {rides expected latest bound : ℕ}
-    → AsPlan rides expected latest bound ≡ (answered_to v found cells work plan).answer → after ≡ (answered_to v found cells work plan).plan
-    → Told v found rides expected latest plan after
+plan_when : (v : Verdict) (found : Option Plan) (cells work plan after : List ℕ) {given : Given}
+    → Ok given ≡ (answered_to v found cells work plan).answer → after ≡ (answered_to v found cells work plan).plan
+    → Told v found given plan after
 unfolding plan_answered answer_for slice_after
 plan_when fine none cells work plan after e laid = absurd (let z : ◌≡◌ {A = ℕ} 0 1 = cc in let y : ⊥ = omega arith in y)
 plan_when fine (some p) cells work plan after e laid =
-    record { told = p; admits = refl; is_found = refl; count = (cc); expects = (cc); ends = (cc); laid = laid }
+    record { told = p; admits = refl; is_found = refl; is_given = (cc); laid = laid }
 plan_when (fault n p) found cells work plan after e laid = absurd (let z : ◌≡◌ {A = ℕ} 0 1 = cc in let y : ⊥ = omega arith in y)
 
 -- that slice's rides and lines
@@ -98,7 +98,7 @@ unfolding enough
 room_enough room h fits = le-leb (needs room h) room.lent fits
 
 module _ (f : Format) (file : List ℕ) (trailer : Trailer) (q : Query) (work plan : List ℕ) (plannable : Plannable f)
-    (sound : checked_as f file ≡ Sound trailer) (work_room_lem : work_numbers ≤ length work) (plan_room_lem : plan_numbers ≤ length plan) where
+    (sound : checked_as f file ≡ Ok trailer) (work_room_lem : work_numbers ≤ length work) (plan_room_lem : plan_numbers ≤ length plan) where
   pub holds : SoundFile f file
   holds = checked_gives f file trailer plannable.readable sound
 
@@ -122,13 +122,14 @@ module _ (f : Format) (file : List ℕ) (trailer : Trailer) (q : Query) (work pl
   unfolding plan_outcome
   outcome = ap (λ v. answered_to v (planned (decode f file) q) (work_after f file work) work plan) verdict
 
-  pub refusal_text : {number place : ℕ} → NoPlan number place ≡ (plan_outcome f file q work plan).answer → refused_text number ≡ asked_text f file q
+  pub refusal_text : {refusal : Refusal ℕ} → Err refusal ≡ (plan_outcome f file q work plan).answer
+      → refused_text refusal.number ≡ asked_text f file q
   unfolding asked_text
   refusal_text e = refusal_when given (planned (decode f file) q) (work_after f file work) work plan (e ∙ ap (λ o. o.answer) outcome)
 
-  module _ {rides expected latest bound : ℕ} {after : List ℕ} (answered : AsPlan rides expected latest bound ≡ (plan_outcome f file q work plan).answer)
+  module _ {answer : Given} {after : List ℕ} (answered : Ok answer ≡ (plan_outcome f file q work plan).answer)
       (laid : after ≡ (plan_outcome f file q work plan).plan) where
-    told : Told given (planned (decode f file) q) rides expected latest plan after
+    told : Told given (planned (decode f file) q) answer plan after
     told =
         plan_when given (planned (decode f file) q) (work_after f file work) work plan after (answered ∙ ap (λ o. o.answer) outcome)
         (laid ∙ ap (λ o. o.plan) outcome)
@@ -139,13 +140,15 @@ module _ (f : Format) (file : List ℕ) (trailer : Trailer) (q : Query) (work pl
         let timely = sound_timely f file holds in
         for_ride t timely (goal_of q told.told.bound) v (plan_member t timely q told.told (plan_made t q told.told told.is_found) v m)
 
-    pub plan_fits : RidesFit trailer.rows after rides
+    pub plan_fits : RidesFit trailer.rows after answer.rides
     plan_fits =
-        subst (λ n. RidesFit n after rides) (holds.rows_count ∙ sym (ap (λ h. h.rows) trailer_read))
-        (rides_told (decode f file) told.told told.count are_rides plan told.laid)
+        subst (λ n. RidesFit n after answer.rides) (holds.rows_count ∙ sym (ap (λ h. h.rows) trailer_read))
+        (rides_told (decode f file) told.told (ap (λ g. g.rides) told.is_given) are_rides plan told.laid)
 
-    pub plan_lines : first_text rides expected latest ++ rides_text (rides_in (decode f file) (take (3 * rides) after)) ≡ asked_text f file q
+    pub plan_lines : first_text answer.rides answer.expected answer.latest ++ rides_text (rides_in (decode f file) (take (3 * answer.rides) after))
+        ≡ asked_text f file q
     unfolding asked_text planned_text
     plan_lines =
-        lines_told (decode f file) told.told told.count are_rides plan told.laid told.expects told.ends
+        lines_told (decode f file) told.told (ap (λ g. g.rides) told.is_given) are_rides plan told.laid
+        (ap (λ g. g.expected) told.is_given) (ap (λ g. g.latest) told.is_given)
         ∙ sym (ap (λ v. told_to v (planned (decode f file) q)) told.admits ∙ ap planned_text told.is_found)

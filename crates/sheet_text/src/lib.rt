@@ -1,10 +1,9 @@
 // Document 01, "The sheet": the text for a file of sailings and a query, written into lent bytes.
 #![tactic(auto)]
 
-ghost use Rattle.std.specs.Prelude.{◌≡◌, ◌+◌, ◌*◌, ◌≤◌, ◌<◌, length, take};
+ghost use Rattle.std.specs.Prelude.{Ok, ◌≡◌, ◌+◌, ◌*◌, ◌≤◌, ◌<◌, length, take};
 ghost use Rattle.timetable.specs.Timetable.{row_of};
-ghost use Rattle.file_layout.specs.declared.Checked.TheVariants.{Sound};
-ghost use Rattle.file_layout.specs.Check.{answer_of, checked_as};
+ghost use Rattle.file_layout.specs.Check.{checked_as};
 ghost use Rattle.file_layout.specs.Decode.{decode, trailer_of};
 ghost use Rattle.file_layout.specs.Format.{version_one};
 ghost use Rattle.file_layout.specs.Small.{SmallRow};
@@ -20,22 +19,14 @@ ghost use Rattle.sheet_text.specs.Outcome.{sheet_outcome};
 
 use clock::Minute;
 use file_check::check_as;
-use file_layout::{Checked, Format, Trailer, VERSION_ONE, row_at};
+use file_layout::{Format, Trailer, VERSION_ONE, row_at};
 use numbers::{cell, number};
 use plan_slice::{board_of, leave_of, worth_of};
-use plan_whole::Planned;
 use planner::plan_checked;
 use query::{Query, query_in};
 use rooms::{plan_room, work_room};
 use text::{put_byte, put_number, put_text};
 use timetable::Row;
-
-// What came of a sheet: where its text ends, or that the lent bytes are too few.
-#[derive(Clone, Copy)]
-pub enum Sheeted {
-    Text { end: usize },
-    NoRoom,
-}
 
 // Enough for a first line and 2,000 rides.
 pub const SHEET_ROOM: usize = 174056;
@@ -141,54 +132,33 @@ fn put_rides(
         out.new result × (result ≤ length out.old) }
 {
     let mut next = at;
-    let mut i = 0;
-    while i < rides {
+    for i in 0..rides {
         let board = row_of(sailings, f, trailer, number(board_of(plan, i)));
         let leave = row_of(sailings, f, trailer, number(leave_of(plan, i)));
         next = put_line(out, next, board, leave, worth_of(plan, i));
-        i += 1;
     }
     next
 }
 
-// The number of a refusal; a sound file has none.
-fn refusal_of(checked: Checked) -> usize
-    ensures { result ≡ (answer_of checked).number }
-{
-    match checked {
-        Checked::Sound { trailer: _ } => 0,
-        Checked::Refused { number, place: _ } => number,
-    }
-}
-
 // The sheet of a sound file and a query: a plan or a planning refusal.
 fn put_planned(sailings: &[u8], f: Format, trailer: Trailer, q: Query, out: &mut [u8]) -> usize
-    requires { Plannable f × (checked_as f sailings.now ≡ Sound trailer) × (sheet_room ≤ length out.old) }
+    requires { Plannable f × (checked_as f sailings.now ≡ Ok trailer) × (sheet_room ≤ length out.old) }
     ensures { Put out.old 0 (asked_text f sailings.now q) out.new result × (result ≤ length out.old) }
 {
     let mut work = work_room();
     let mut rides = plan_room();
-    let planned = plan_checked(sailings, f, trailer, q, &mut work, &mut rides);
-    match planned {
-        Planned::Refused {
-            number: refusal,
-            place: _,
-        } => put_refused(out, number(refusal)),
-        Planned::Plan {
-            rides: count,
-            expected,
-            latest,
-            bound: _,
-        } => {
-            let count = number(count);
-            let next = put_first(out, count, expected, latest);
+    match plan_checked(sailings, f, trailer, q, &mut work, &mut rides) {
+        Err(refusal) => put_refused(out, number(refusal.number)),
+        Ok(plan) => {
+            let count = number(plan.rides);
+            let next = put_first(out, count, plan.expected, plan.latest);
             put_rides(sailings, f, trailer, &rides, count, out, next)
         }
     }
 }
 
-// The sheet of a file of sailings and a query, from the first byte of `out` on; bytes beyond it stay.
-pub fn sheet(sailings: &[u8], query: &[u8], out: &mut [u8]) -> Sheeted
+// The sheet of a file of sailings and a query, from the first byte of `out` on, and where it ends; bytes beyond it stay. None where `out` has too little room.
+pub fn sheet(sailings: &[u8], query: &[u8], out: &mut [u8]) -> Option<usize>
     ensures { (result ≡ (sheet_outcome version_one sailings.now query.now out.old).answer)
         × (out.new ≡ (sheet_outcome version_one sailings.now query.now out.old).out) }
 {
@@ -196,19 +166,17 @@ pub fn sheet(sailings: &[u8], query: &[u8], out: &mut [u8]) -> Sheeted
 }
 
 // The sheet of a file of a version: a checked file goes on to planning; any other answer prints its number at once.
-fn sheet_as(sailings: &[u8], f: Format, query: &[u8], out: &mut [u8]) -> Sheeted
+fn sheet_as(sailings: &[u8], f: Format, query: &[u8], out: &mut [u8]) -> Option<usize>
     requires { Plannable f }
     ensures { (result ≡ (sheet_outcome f sailings.now query.now out.old).answer)
         × (out.new ≡ (sheet_outcome f sailings.now query.now out.old).out) }
 {
     if out.len() < SHEET_ROOM {
-        return Sheeted::NoRoom;
+        return None;
     }
-    let checked = check_as(sailings, f);
-    let Checked::Sound { trailer } = checked else {
-        let end = put_refused(out, refusal_of(checked));
-        return Sheeted::Text { end };
+    let end = match check_as(sailings, f) {
+        Err(refusal) => put_refused(out, refusal.number),
+        Ok(trailer) => put_planned(sailings, f, trailer, query_in(query), out),
     };
-    let end = put_planned(sailings, f, trailer, query_in(query), out);
-    Sheeted::Text { end }
+    Some(end)
 }

