@@ -1,7 +1,7 @@
 -- What the earliest safe arrival of a start tells: there is one exactly if it arrives; and work is left cleared, once or again. Assumes nothing.
 use Prim.Native.Nat.{ℕ, ◌+◌, ◌*◌, zero-le, ◌≤◌, ◌<◌}
 use native.Mathlib.Omega.{arith}
-use mathlib.Core.Bool.{true}
+use mathlib.Core.Bool.{true, true≢false, false≢true}
 use mathlib.Core.List.{List, ◌++◌}
 use mathlib.Core.Logic.{◌≢◌, inl}
 use mathlib.Core.Path.{◌≡◌, refl, sym, ap, ◌∙◌}
@@ -13,7 +13,8 @@ use Rattle.timetable.specs.Timetable.{Timetable}
 use Rattle.timetable.specs.Verdict.{fine}
 use Rattle.file_layout.specs.declared.Format.{Format}
 use Rattle.file_layout.specs.declared.Trailer.{Trailer}
-use Rattle.file_layout.specs.declared.Checked.TheVariants.{Sound}
+use Rattle.std.specs.Prelude.{Option, Some, Result, Ok, Err, is_ok}
+use Rattle.timetable.specs.declared.Refusal.{Refusal}
 use Rattle.file_layout.specs.Check.{checked_as}
 use Rattle.file_layout.specs.Decode.{decode}
 use Rattle.file_layout.proofs.Sound.{checked_gives}
@@ -25,24 +26,21 @@ use Rattle.plans.specs.Plan.{earliest}
 use Rattle.plans.proofs.EarliestSafe.{earliest_is_least, no_earliest}
 use Rattle.plan_rows.specs.Sections.{Plannable}
 use Rattle.plan_rows.proofs.Standing.{timely}
-use Rattle.planner.specs.declared.Earliest.TheVariants.{Arrival, Refused as NoArrival}
 use Rattle.planner.specs.Admission.{needs, enough, work_room, no_room, admission}
 use Rattle.planner.specs.Outcome.{cleared, work_after, EarliestOutcome, earliest_answered, earliest_outcome}
 use Rattle.planner.proofs.Admitting.{behind_check, not_refused, enough_none, few_stops_rows}
 use Rattle.planner.proofs.Answered.{answered_earliest, arrival_is, refused_is, work_is}
-use Rattle.explain_starts.specs.declared.Start.{Start}
-use Rattle.explain_starts.specs.declared.Start.TheVariants.{Until}
-use Rattle.explain_starts.specs.Starts.{Starts, LastStart, until, never, StartFits}
+use Rattle.explain_starts.specs.Starts.{Starts, LastStart, until, never, Tells, StartFits}
 
 -- the minute of an answer is one that a clock prints
-pub until_small : (f : Format) → Plannable f → {t : Timetable} {source target gate : ℕ} {start : Start} (minute : ℕ)
-    → LastStart t source target gate f.lastminute start → start ≡ Until minute → minute < 4294967296
+pub until_small : (f : Format) → Plannable f → {t : Timetable} {source target gate : ℕ} {start : Option ℕ} (minute : ℕ)
+    → LastStart t source target gate f.lastminute start → start ≡ Some minute → minute < 4294967296
 until_small f plannable minute (never none) is = absurd (let z : ◌≡◌ {A = ℕ} 0 1 = cc in let y : ⊥ = omega arith in y)
 until_small f plannable minute (until {minute = m} within there behind) is =
     let same : m ≡ minute = cc in omega (arith, within, same, plannable.minutes_fit)
 
 -- two stops of a sound file that differ can be asked for, with a gate time that keeps its rule
-pub stops_fit : {f : Format} {file : List ℕ} {h : Trailer} (source target gate : ℕ) {work : List ℕ} → Plannable f → checked_as f file ≡ Sound h
+pub stops_fit : {f : Format} {file : List ℕ} {h : Trailer} (source target gate : ℕ) {work : List ℕ} → Plannable f → checked_as f file ≡ Ok h
     → source < h.stops → target < h.stops → source ≢ target → gate ≤ most_gate → 4 * h.rows + 2500 ≤ length work
     → StartFits f file h source target gate work
 stops_fit source target gate plannable sound first second apart early room =
@@ -54,7 +52,7 @@ stops_fit source target gate plannable sound first second apart early room =
     }
 
 -- what a program lends is enough for every sound file
-pub lent_enough : (f : Format) (file : List ℕ) (h : Trailer) → Plannable f → checked_as f file ≡ Sound h → 4 * h.rows + 2500 ≤ work_numbers
+pub lent_enough : (f : Format) (file : List ℕ) (h : Trailer) → Plannable f → checked_as f file ≡ Ok h → 4 * h.rows + 2500 ≤ work_numbers
 lent_enough f file h plannable sound =
     omega (arith, (few_stops_rows f file no_query no_room no_room h sound plannable.readable).1)
 
@@ -105,16 +103,22 @@ module _ {f : Format} {file : List ℕ} {h : Trailer} {source target gate : ℕ}
     answered_start : earliest_outcome f file q work ≡ earliest_answered (earliest t q) (work_after f file work)
     answered_start = answered_earliest f file q work admitted_start
 
-    pub arrival_starts : (e : ℕ) → Arrival e ≡ (earliest_outcome f file q work).answer → Starts t source target gate minute
+    arrival_starts : (e : ℕ) → Ok e ≡ (earliest_outcome f file q work).answer → Starts t source target gate minute
     arrival_starts e told =
         let found = arrival_is (earliest t q) (work_after f file work) e (sym (told ∙ ap (λ (x : EarliestOutcome). x.answer) answered_start)) in
         (e, (earliest_is_least t is_timely q e found).reached)
 
-    pub refused_starts : (number place : ℕ) → NoArrival number place ≡ (earliest_outcome f file q work).answer → Starts t source target gate minute → ⊥
-    refused_starts number place told there =
-        let gone = refused_is (earliest t q) (work_after f file work) number place
+    refused_starts : (refusal : Refusal ℕ) → Err refusal ≡ (earliest_outcome f file q work).answer → Starts t source target gate minute → ⊥
+    refused_starts refusal told there =
+        let gone = refused_is (earliest t q) (work_after f file work) refusal
         (sym (told ∙ ap (λ (x : EarliestOutcome). x.answer) answered_start)) in
         no_earliest t is_timely q call.fits.apart gone there.0 there.1
+
+    -- so it arrives exactly if there is one
+    pub starts_told : (answer : Result ℕ (Refusal ℕ)) → answer ≡ (earliest_outcome f file q work).answer
+        → Tells (Starts t source target gate minute) (is_ok answer)
+    starts_told (Ok e) told = record { yes = λ _. arrival_starts e told; no = λ is. absurd (true≢false is) }
+    starts_told (Err refusal) told = record { yes = λ is. absurd (false≢true is); no = λ _. refused_starts refusal told }
 
     pub clears_start : (earliest_outcome f file q work).work ≡ work_after f file work
     clears_start = ap (λ (x : EarliestOutcome). x.work) answered_start ∙ work_is (earliest t q) (work_after f file work)

@@ -4,8 +4,7 @@ use native.Mathlib.Omega.{arith}
 use mathlib.Core.Path.{◌≡◌, refl, ap}
 use Rattle.timetable.specs.Timetable.{Timetable}
 use Rattle.plans.proofs.EarliestSafe.{journey_earlier}
-use Rattle.explain_starts.specs.declared.Start.{Start}
-use Rattle.explain_starts.specs.declared.Start.TheVariants.{Until, Never}
+use Rattle.std.specs.Prelude.{Option, Some, None}
 use Rattle.explain_starts.specs.Starts.{Starts, LastStart, until, never}
 
 module _ (t : Timetable) (source target gate : ℕ) where
@@ -20,7 +19,7 @@ module _ (t : Timetable) (source target gate : ℕ) where
     pub none_behind : (later : ℕ) → high < later → later ≤ last → Starts t source target gate later → ⊥
 
   -- who cannot start at minute 0 cannot start at all
-  pub never_any : (last : ℕ) → (Starts t source target gate 0 → ⊥) → LastStart t source target gate last Never
+  pub never_any : (last : ℕ) → (Starts t source target gate 0 → ⊥) → LastStart t source target gate last None
   never_any last none = never (λ minute _ there. none (starts_earlier zero-le there))
 
   pub closing_first : (last : ℕ) → Starts t source target gate 0 → Closing last 0 last
@@ -45,19 +44,19 @@ module _ (t : Timetable) (source target gate : ℕ) where
           none_behind = λ later behind _ there. none (starts_earlier (omega arith) there);
         }
 
-  pub closing_end : {last low high : ℕ} → Closing last low high → high ≤ low → LastStart t source target gate last (Until low)
+  pub closing_end : {last low high : ℕ} → Closing last low high → high ≤ low → LastStart t source target gate last (Some low)
   closing_end {low = low} closing closed =
       until {minute = low} (omega (arith, closing.ordered, closing.inside)) closing.there
       (λ later behind within. closing.none_behind later (omega arith) within)
 
 -- there is one last start
-pub one_last_start : {t : Timetable} {source target gate last : ℕ} {one other : Start} → LastStart t source target gate last one
+pub one_last_start : {t : Timetable} {source target gate last : ℕ} {one other : Option ℕ} → LastStart t source target gate last one
     → LastStart t source target gate last other → one ≡ other
 one_last_start (never a) (never b) = refl
 one_last_start (never a) (until {minute} within there behind) = absurd (a minute within there)
 one_last_start (until {minute} within there behind) (never b) = absurd (b minute within there)
 one_last_start (until {minute = m} within there behind) (until {minute = n} within' there' behind') =
-    ap Until (same m n (λ less. behind n less within' there') (λ less. behind' m less within there))
+    ap Some (same m n (λ less. behind n less within' there') (λ less. behind' m less within there))
   where
     same : (m n : ℕ) → (m < n → ⊥) → (n < m → ⊥) → m ≡ n
     same m n not_below not_above = omega (arith, not_below, not_above)

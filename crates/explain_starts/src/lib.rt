@@ -9,18 +9,11 @@ ghost use Rattle.planner.specs.Outcome.{work_after};
 ghost use Rattle.explain_starts.specs.Starts.{LastStart, StartFits, Starts, Tells};
 
 use file_layout::{Format, Trailer};
-use planner::{Earliest, earliest_checked};
+use planner::earliest_checked;
 use query::{LEAST_MARGIN, Query};
 pub use words::print_starts;
 
-// There is a safe journey at every minute until this one and at none behind it, or at no minute at all.
-#[derive(Clone, Copy)]
-pub enum Start {
-    Until { minute: usize },
-    Never,
-}
-
-// Of the minutes 0 to the last of the file's version, the last at which a safe journey from `source` to `target` can be started with a gate time, by halving.
+// Of the minutes 0 to the last of the file's version, the last at which a safe journey from `source` to `target` can be started with a gate time, by halving; None where there is one at no minute at all.
 pub fn last_start(
     file: &[u8],
     f: Format,
@@ -29,13 +22,13 @@ pub fn last_start(
     target: usize,
     gate: usize,
     work: &mut [u32],
-) -> Start
+) -> Option<usize>
     requires { StartFits f file.now trailer source target gate work.old }
     ensures { LastStart (decode f file.now) source target gate f.lastminute result
         × (work.new ≡ work_after f file.now work.old) }
 {
     if !starts_at(file, f, trailer, source, target, gate, 0, work) {
-        return Start::Never;
+        return None;
     }
     let mut low = 0;
     let mut high = f.lastminute;
@@ -47,7 +40,7 @@ pub fn last_start(
             high = middle - 1;
         }
     }
-    Start::Until { minute: low }
+    Some(low)
 }
 
 // There is a safe journey with a gate time from `source`, at or after `minute`, to `target`.
@@ -73,12 +66,5 @@ fn starts_at(
         margin: LEAST_MARGIN,
         gate,
     };
-    let earliest = earliest_checked(file, f, trailer, q, work);
-    match earliest {
-        Earliest::Arrival { minute: _ } => true,
-        Earliest::Refused {
-            number: _,
-            place: _,
-        } => false,
-    }
+    earliest_checked(file, f, trailer, q, work).is_ok()
 }

@@ -1,12 +1,11 @@
 // Refusal 8: from where, and until when, there is a safe journey to the query's target.
-ghost use Rattle.std.specs.Prelude.{true, ◌≡◌, ◌+◌, ◌*◌, ◌≤◌, ◌<◌, length};
+ghost use Rattle.std.specs.Prelude.{Ok, true, ◌≡◌, ◌+◌, ◌*◌, ◌≤◌, ◌<◌, length};
 ghost use Rattle.file_layout.specs.Check.{checked_as};
-ghost use Rattle.file_layout.specs.declared.Checked.TheVariants.{Sound};
 ghost use Rattle.query.specs.Query.{QueryFits, most_gate};
 ghost use Rattle.plan_rows.specs.Sections.{Plannable};
 ghost use Rattle.explain_starts.specs.Starts.{StartFits};
 
-use crate::{Start, last_start};
+use crate::last_start;
 use explain_words::{say, say_number, say_time};
 use file_layout::{Format, Trailer};
 use files::Output;
@@ -15,13 +14,13 @@ use rooms::work_room;
 
 // Until when there is a journey from the query's source, from which other stops there is one, and what can help.
 pub fn print_starts(out: &Output, file: &[u8], f: Format, trailer: Trailer, q: Query)
-    requires { Plannable f × (checked_as f file.now ≡ Sound trailer) × QueryFits trailer.stops f.lastminute q }
+    requires { Plannable f × (checked_as f file.now ≡ Ok trailer) × QueryFits trailer.stops f.lastminute q }
 {
     let mut work = work_room();
     let start = last_start(file, f, trailer, q.source, q.target, q.gate, &mut work);
     say_number(out, b"From stop ", q.source);
     match start {
-        Start::Until { minute } => {
+        Some(minute) => {
             say_time(out, b" there is one until ", minute);
             say(out, b".\n");
             if !print_others(out, file, f, trailer, q, &mut work) {
@@ -33,7 +32,7 @@ pub fn print_starts(out: &Output, file: &[u8], f: Format, trailer: Trailer, q: Q
                 q.gate,
             );
         }
-        Start::Never => {
+        None => {
             say(out, b" there is none in this file, at any minute.\n");
             if !print_others(out, file, f, trailer, q, &mut work) {
                 say(out, b"No other stop has one either.\n");
@@ -65,16 +64,13 @@ fn print_others(
     q: Query,
     work: &mut [u32],
 ) -> bool
-    requires { Plannable f × (checked_as f file.now ≡ Sound trailer) × (q.target < trailer.stops)
+    requires { Plannable f × (checked_as f file.now ≡ Ok trailer) × (q.target < trailer.stops)
         × (q.gate ≤ most_gate) × (4 * trailer.rows + 2500 ≤ length work.old) }
 {
     let mut found = false;
-    let mut stop = 0;
-    while stop < trailer.stops {
-        let other = stop;
-        stop += 1;
-        if is_other(q, other) {
-            found = print_other(out, file, f, trailer, other, q, found, work);
+    for stop in 0..trailer.stops {
+        if is_other(q, stop) {
+            found = print_other(out, file, f, trailer, stop, q, found, work);
         }
     }
     if found {
@@ -87,10 +83,7 @@ fn print_others(
 fn is_other(q: Query, stop: usize) -> bool
     ensures { result ≡ true → stop ≡ q.target → ⊥ }
 {
-    if stop == q.source {
-        return false;
-    }
-    stop != q.target
+    stop != q.source && stop != q.target
 }
 
 // A stop's last minute, where it has one, behind those `found` before it; whether any is found now.
@@ -106,18 +99,15 @@ fn print_other(
 ) -> bool
     requires { StartFits f file.now trailer stop q.target q.gate work.old }
 {
-    let start = last_start(file, f, trailer, stop, q.target, q.gate, work);
-    match start {
-        Start::Never => found,
-        Start::Until { minute } => {
-            if found {
-                say(out, b";");
-            } else {
-                say(out, b"From other stops:");
-            }
-            say_number(out, b" stop ", stop);
-            say_time(out, b" until ", minute);
-            true
-        }
+    let Some(minute) = last_start(file, f, trailer, stop, q.target, q.gate, work) else {
+        return found;
+    };
+    if found {
+        say(out, b";");
+    } else {
+        say(out, b"From other stops:");
     }
+    say_number(out, b" stop ", stop);
+    say_time(out, b" until ", minute);
+    true
 }
