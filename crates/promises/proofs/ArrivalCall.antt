@@ -6,7 +6,9 @@ use mathlib.Core.Option.{Option, none, some}
 use mathlib.Core.Path.{◌≡◌, refl, sym, ap, ◌∙◌}
 use lib.ListN.{length, take, drop, replicate}
 use Rattle.timetable.specs.Timetable.{Timetable}
-use Rattle.timetable.specs.Verdict.{Verdict, fine, fault}
+use Rattle.std.specs.Prelude.{Result, Ok}
+use Rattle.timetable.specs.Verdict.{Verdict, fine, fault, refused}
+use Rattle.timetable.specs.declared.Refusal.{Refusal}
 use Rattle.file_layout.specs.Format.{version_one}
 use Rattle.file_layout.specs.Decode.{decode, trailer_of}
 use Rattle.query.specs.declared.Query.{Query}
@@ -14,8 +16,6 @@ use Rattle.plans.specs.Sound.{Timely}
 use Rattle.plans.specs.Journeys.{Journey, IsEarliest}
 use Rattle.plans.specs.Plan.{earliest}
 use Rattle.demands.proofs.Demand2 as demand2
-use Rattle.planner.specs.declared.Earliest.{Earliest}
-use Rattle.planner.specs.declared.Earliest.TheVariants.{Arrival, Refused as NoArrival}
 use Rattle.planner.specs.Admission.{work_room, no_room, admission}
 use Rattle.planner.specs.Outcome.{work_after, EarliestOutcome, earliest_answered, earliest_answer}
 use Rattle.planner.proofs.Admitting.{refused_number}
@@ -25,7 +25,7 @@ use Rattle.promises.specs.Returned.{AsArrival}
 use Rattle.promises.proofs.Admitted.{is_timely, query_fits, work_cleared}
 
 -- whatever answer and slice a contract permits that asks for this query
-module _ (file : List ℕ) (q : Query) (work : List ℕ) (answer : Earliest) (work' : List ℕ) (permitted : AsArrival file q work answer work') where
+module _ (file : List ℕ) (q : Query) (work : List ℕ) (answer : Result ℕ (Refusal ℕ)) (work' : List ℕ) (permitted : AsArrival file q work answer work') where
   abbrev t : Timetable
   t = decode version_one file
 
@@ -34,7 +34,7 @@ module _ (file : List ℕ) (q : Query) (work : List ℕ) (answer : Earliest) (wo
 
   -- 1 to 7, by document 01's number and place; work is as it was
   pub refuses : (number place : ℕ) → verdict ≡ fault number place
-      → (answer ≡ NoArrival number place) × (work' ≡ work) × (1 ≤ number) × (number ≤ 7)
+      → (answer ≡ refused number place) × (work' ≡ work) × (1 ≤ number) × (number ≤ 7)
   refuses number place e =
       let between = refused_number version_one file q (work_room (length work)) no_room number place e in
       let o = refused_earliest_lem version_one file q work number place e in (
@@ -63,18 +63,18 @@ module _ (file : List ℕ) (q : Query) (work : List ℕ) (answer : Earliest) (wo
     clears = let left = work_cleared file work work' cleared_work in (cleared_work, left.0, left.1)
 
     -- the minute answered is E: a safe journey reaches it, and none ends before it
-    pub earliest_answered_lem : (e : ℕ) → answer ≡ Arrival e → IsEarliest t q e
+    pub earliest_answered_lem : (e : ℕ) → answer ≡ Ok e → IsEarliest t q e
     earliest_answered_lem e told =
         demand2.earliest_safe t (is_timely file q (work_room (length work)) no_room admitted) q e
         (arrival_is (earliest t q) after e (sym told_for ∙ told))
 
     -- "no safe journey" exactly if none exists
-    pub eight_exactly : (answer ≡ NoArrival 8 0) ↔ ((end : ℕ) → Journey t q end → ⊥)
+    pub eight_exactly : (answer ≡ refused 8 0) ↔ ((end : ℕ) → Journey t q end → ⊥)
     unfolding earliest_answered
     eight_exactly = (
       λ told.
           demand2.no_earliest_safe t timely q (query_fits file q (work_room (length work)) no_room admitted).apart
-          (refused_is (earliest t q) after 8 0 (sym told_for ∙ told)),
+          (refused_is (earliest t q) after _ (sym told_for ∙ told)),
       λ gone. told_for ∙ ap (λ (o : Option ℕ). (earliest_answered o after).answer) (nothing (earliest t q) refl gone),
     )
       where
@@ -89,15 +89,15 @@ module _ (file : List ℕ) (q : Query) (work : List ℕ) (answer : Earliest) (wo
     pub eight_by_number : (earliest_answer answer ≡ record { number = 8; place = 0; values = [] }) ↔ ((end : ℕ) → Journey t q end → ⊥)
     unfolding earliest_answer
     eight_by_number = (
-      λ told. eight_exactly.0 (arrival_by_number answer (NoArrival 8 0) told),
+      λ told. eight_exactly.0 (arrival_by_number answer (refused 8 0) told),
       λ gone. ap earliest_answer (eight_exactly.1 gone),
     )
 
     -- otherwise a minute
-    pub else_arrives : (answer ≡ NoArrival 8 0 → ⊥) → (e : ℕ) × (answer ≡ Arrival e)
+    pub else_arrives : (answer ≡ refused 8 0 → ⊥) → (e : ℕ) × (answer ≡ Ok e)
     unfolding earliest_answered
     else_arrives not_eight = by (earliest t q) refl
       where
-        by : (o : Option ℕ) → earliest t q ≡ o → (e : ℕ) × (answer ≡ Arrival e)
+        by : (o : Option ℕ) → earliest t q ≡ o → (e : ℕ) × (answer ≡ Ok e)
         by none is = absurd (not_eight (told_for ∙ ap (λ (o : Option ℕ). (earliest_answered o after).answer) is))
         by (some e) is = (e, told_for ∙ ap (λ (o : Option ℕ). (earliest_answered o after).answer) is)

@@ -3,15 +3,15 @@ use Prim.Native.Nat.{ℕ, ◌≤◌}
 use mathlib.Core.List.{List}
 use mathlib.Core.Path.{◌≡◌}
 use Rattle.timetable.specs.Timetable.{Timetable}
+use Rattle.std.specs.Prelude.{Result, Ok}
 use Rattle.timetable.specs.Verdict.{fine}
+use Rattle.timetable.specs.declared.Refusal.{Refusal}
 use Rattle.file_layout.specs.Format.{version_one}
 use Rattle.file_layout.specs.Decode.{decode}
 use Rattle.query.specs.declared.Query.{Query}
 use Rattle.query.specs.Query.{with_gate, least_margin}
 use Rattle.plans.specs.Sound.{Timely}
 use Rattle.demands.proofs.AnyGate.{journey_kept, earliest_kept, gate_no_earlier}
-use Rattle.planner.specs.declared.Earliest.{Earliest}
-use Rattle.planner.specs.declared.Earliest.TheVariants.{Arrival}
 use Rattle.promises.specs.Returned.{AsDesk, AsArrival, Booked, SheetShows}
 use Rattle.promises.proofs.ArrivalCall as arrival
 use Rattle.promises.proofs.DeskCall.{verdict, eight_exactly}
@@ -27,9 +27,9 @@ module _ (file : List ℕ) (q : Query) (wider : ℕ) (more : q.gate ≤ wider) w
 
   -- and the earliest safe arrival is no earlier
   pub arrivals_no_earlier :
-      (work work' after after' : List ℕ) (answer answer' : Earliest) {e e' : ℕ} (asked : AsArrival file q work answer after)
+      (work work' after after' : List ℕ) (answer answer' : Result ℕ (Refusal ℕ)) {e e' : ℕ} (asked : AsArrival file q work answer after)
       (asked' : AsArrival file (with_gate wider q) work' answer' after') → arrival.verdict file q work answer after asked ≡ fine
-      → arrival.verdict file (with_gate wider q) work' answer' after' asked' ≡ fine → answer ≡ Arrival e → answer' ≡ Arrival e' → e ≤ e'
+      → arrival.verdict file (with_gate wider q) work' answer' after' asked' ≡ fine → answer ≡ Ok e → answer' ≡ Ok e' → e ≤ e'
   arrivals_no_earlier work work' after after' answer answer' {e} {e'} asked asked' admitted admitted' told told' =
       earliest_kept (decode version_one file) q wider more (arrival.earliest_answered_lem file q work answer after asked admitted e told)
       (arrival.earliest_answered_lem file (with_gate wider q) work' answer' after' asked' admitted' e' told')

@@ -16,7 +16,7 @@ use Rattle.demands.specs.Demanded.{Demanded}
 use Rattle.demands.specs.Walk.{longest_way}
 use Rattle.demands.proofs.AnyMargin.{margin_loses}
 use Rattle.plan_slice.specs.Slice.{rides_in}
-use Rattle.plan_whole.specs.declared.Planned.TheVariants.{Plan as AsPlan}
+use Rattle.planner.specs.Outcome.{as_plan}
 use Rattle.planner.proofs.plan.Kinds as kinds
 use Rattle.planner.proofs.plan.Reads as reads
 use Rattle.sayurimpak.specs.Host.{numbers_in}
@@ -35,8 +35,8 @@ module _ (κs κs' : Lfts 3) (arguments : Dens κs kinds.ps) (one : Dens κs' ki
   q = arguments.1.0
 
   -- one bound, and at most the margin less one for each ride of the longest way through margin 1's plan
-  pub plans_lose : (rides expected latest bound rides' expected' latest' bound' : ℕ) → answer ≡ AsPlan rides expected latest bound
-      → answer' ≡ AsPlan rides' expected' latest' bound'
+  pub plans_lose : (rides expected latest bound rides' expected' latest' bound' : ℕ) → answer ≡ as_plan rides expected latest bound
+      → answer' ≡ as_plan rides' expected' latest' bound'
       → (bound ≡ bound')
       × (expected ≤ expected' + (q.margin - 1) * longest_way q (rides_of (rides_in t (take (3 * rides') ending'.1.1.1.0.now))))
   plans_lose rides expected latest bound rides' expected' latest' bound' told told' =

@@ -5,14 +5,14 @@ use mathlib.Core.List.{List, [], ◌++◌, Memᴰ}
 use mathlib.Core.Logic.{◌↔◌}
 use mathlib.Core.Option.{Option, none, some}
 use mathlib.Core.Path.{◌≡◌, refl, sym, ap, subst, ◌∙◌}
-use lib.ListN.{length, take, drop, replicate}
+use lib.ListN.{length, get_or, take, drop, replicate}
 use lib.Seq.{drop-append_seam}
 use contract.Lifetimes.{Lfts}
 use denote.Triple.Clauses.{AtExit}
 use borrow.Fn.Kinds.{Dens, res_t, ended_of}
 use Rattle.laws.proofs.Members.{mapped}
 use Rattle.timetable.specs.Timetable.{Timetable}
-use Rattle.timetable.specs.Verdict.{Verdict, fine, fault}
+use Rattle.timetable.specs.Verdict.{Verdict, fine, fault, refused}
 use Rattle.file_layout.specs.Format.{version_one}
 use Rattle.file_layout.specs.Decode.{decode, trailer_of}
 use Rattle.query.specs.declared.Query.{Query}
@@ -26,9 +26,8 @@ use Rattle.plan_slice.specs.Slice.{written, rides_in}
 use Rattle.plan_slice.proofs.Written.{length_written}
 use Rattle.plan_slice.proofs.ReadBack.{slice_read_back}
 use Rattle.plan_whole.specs.Answers.{answer_for, slice_after}
-use Rattle.plan_whole.specs.declared.Planned.TheVariants.{Plan as AsPlan, Refused as NoPlan}
 use Rattle.planner.specs.Admission.{work_room, plan_room, admission}
-use Rattle.planner.specs.Outcome.{work_after, PlanOutcome, plan_answered, plan_outcome, plan_answer}
+use Rattle.planner.specs.Outcome.{work_after, as_plan, PlanOutcome, plan_answered, plan_outcome, plan_answer}
 use Rattle.planner.proofs.Admitting.{refused_number}
 use Rattle.planner.proofs.Answered.{refused_outcome, answered_outcome}
 use Rattle.planner.proofs.ByNumber.{plan_by_number}
@@ -37,14 +36,17 @@ use Rattle.planner.proofs.plan.Reads as reads
 use Rattle.promises.proofs.Admitted.{is_timely, no_plan_exactly, work_cleared}
 
 -- a refusal is no plan, and two equal plan answers have equal numbers
-pub refused_not_plan : {number place rides expected latest bound : ℕ} → NoPlan number place ≡ AsPlan rides expected latest bound → ⊥
+pub refused_not_plan : {number place rides expected latest bound : ℕ} → refused number place ≡ as_plan rides expected latest bound → ⊥
 refused_not_plan e = let z : ◌≡◌ {A = ℕ} 0 1 = cc in let y : ⊥ = omega arith in y
 
-same_plan : {a b c d a' b' c' d' : ℕ} → AsPlan a b c d ≡ AsPlan a' b' c' d' → (a ≡ a') × (b ≡ b') × (c ≡ c') × (d ≡ d')
-same_plan e = (cc, cc, cc, cc)
+same_plan : {a b c d a' b' c' d' : ℕ} → as_plan a b c d ≡ as_plan a' b' c' d' → (a ≡ a') × (b ≡ b') × (c ≡ c') × (d ≡ d')
+unfolding plan_answer
+same_plan e =
+    let numbers = ap (λ r. (plan_answer r).values) e in
+    (ap (λ l. get_or l 0 0) numbers, ap (λ l. get_or l 1 0) numbers, ap (λ l. get_or l 2 0) numbers, ap (λ l. get_or l 3 0) numbers)
 
 -- no plan is 8 and nothing else is
-pub eight_is : (o : Option Plan) → answer_for o ≡ NoPlan 8 0 → o ≡ none
+pub eight_is : (o : Option Plan) → answer_for o ≡ refused 8 0 → o ≡ none
 unfolding answer_for
 eight_is none e = refl
 eight_is (some p) e = absurd (refused_not_plan (sym e))
@@ -73,7 +75,7 @@ module _ (file : List ℕ) (q : Query) (work plan : List ℕ) where
     pub is_planned : planned (decode version_one file) q ≡ some the_plan
     pub numbers : (length the_plan.rides ≡ rides) × (the_plan.expected ≡ expected) × (the_plan.latest ≡ latest) × (the_plan.bound ≡ bound)
 
-  pub given_plan : (rides expected latest bound : ℕ) → outcome.answer ≡ AsPlan rides expected latest bound → Given rides expected latest bound
+  pub given_plan : (rides expected latest bound : ℕ) → outcome.answer ≡ as_plan rides expected latest bound → Given rides expected latest bound
   unfolding answer_for
   given_plan rides expected latest bound told = by verdict refl (planned (decode version_one file) q) refl
     where
@@ -143,7 +145,7 @@ module _ (κs : Lfts 3) (arguments : Dens κs kinds.ps) (answer : (res_t kinds.r
 
   -- 1 to 7, in document 01's order and by its number and place; no slice changes
   pub refuses : (number place : ℕ) → verdict file q work plan ≡ fault number place
-      → (answer ≡ NoPlan number place) × (work' ≡ work) × (plan' ≡ plan) × (1 ≤ number) × (number ≤ 7)
+      → (answer ≡ refused number place) × (work' ≡ work) × (plan' ≡ plan) × (1 ≤ number) × (number ≤ 7)
   refuses number place e =
       let between = refused_number version_one file q (work_room (length work)) (plan_room (length plan)) number place e in
       let o = refused_outcome version_one file q work plan number place e in (
@@ -155,7 +157,7 @@ module _ (κs : Lfts 3) (arguments : Dens κs kinds.ps) (answer : (res_t kinds.r
       )
 
   -- where a plan is answered: of as many rides, read back from the slice's first numbers, what demands 2 and 3 ask
-  pub delivers : (rides expected latest bound : ℕ) → answer ≡ AsPlan rides expected latest bound
+  pub delivers : (rides expected latest bound : ℕ) → answer ≡ as_plan rides expected latest bound
       → Demanded t q (rides_in t (take (3 * rides) plan')) expected latest bound × (length (rides_in t (take (3 * rides) plan')) ≡ rides)
       × (drop (3 * rides) plan' ≡ drop (3 * rides) plan)
   delivers rides expected latest bound told =
@@ -171,7 +173,7 @@ module _ (κs : Lfts 3) (arguments : Dens κs kinds.ps) (answer : (res_t kinds.r
     told_for = permitted.0 ∙ answered file q work plan admitted
 
     -- where none of 1 to 7 applies: 8 exactly if there is no safe journey
-    pub eight_exactly : (answer ≡ NoPlan 8 0) ↔ ((end : ℕ) → Journey t q end → ⊥)
+    pub eight_exactly : (answer ≡ refused 8 0) ↔ ((end : ℕ) → Journey t q end → ⊥)
     unfolding answer_for
     eight_exactly =
         let exactly = no_plan_exactly file q (work_room (length work)) (plan_room (length plan)) admitted in
@@ -181,21 +183,21 @@ module _ (κs : Lfts 3) (arguments : Dens κs kinds.ps) (answer : (res_t kinds.r
     pub eight_by_number : (plan_answer answer ≡ record { number = 8; place = 0; values = [] }) ↔ ((end : ℕ) → Journey t q end → ⊥)
     unfolding plan_answer
     eight_by_number = (
-      λ told. eight_exactly.0 (plan_by_number answer (NoPlan 8 0) told),
+      λ told. eight_exactly.0 (plan_by_number answer (refused 8 0) told),
       λ gone. ap plan_answer (eight_exactly.1 gone),
     )
 
     -- otherwise a plan
-    pub else_a_plan : (answer ≡ NoPlan 8 0 → ⊥) → (rides expected latest bound : ℕ) × (answer ≡ AsPlan rides expected latest bound)
+    pub else_a_plan : (answer ≡ refused 8 0 → ⊥) → (rides expected latest bound : ℕ) × (answer ≡ as_plan rides expected latest bound)
     unfolding answer_for
     else_a_plan not_eight = by (planned t q) refl
       where
-        by : (o : Option Plan) → planned t q ≡ o → (rides expected latest bound : ℕ) × (answer ≡ AsPlan rides expected latest bound)
+        by : (o : Option Plan) → planned t q ≡ o → (rides expected latest bound : ℕ) × (answer ≡ as_plan rides expected latest bound)
         by none is = absurd (not_eight (told_for ∙ ap answer_for is))
         by (some p) is = (length p.rides, p.expected, p.latest, p.bound, told_for ∙ ap answer_for is)
 
     -- on 8 the plan slice is as it was
-    pub eight_leaves : answer ≡ NoPlan 8 0 → plan' ≡ plan
+    pub eight_leaves : answer ≡ refused 8 0 → plan' ≡ plan
     unfolding plan_answered slice_after
     eight_leaves told =
         permitted.2 ∙ ap (λ (o : PlanOutcome). o.plan) (answered_outcome version_one file q work plan admitted)

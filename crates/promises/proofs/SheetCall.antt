@@ -24,7 +24,7 @@ use Rattle.plans.specs.Plan.{Plan, planned}
 use Rattle.demands.proofs.Demanded.{plan_demanded}
 use Rattle.planner.specs.Admission.{no_room, admission}
 use Rattle.planner.proofs.Admitting.{refused_roomless}
-use Rattle.sheet_text.specs.declared.Sheeted.TheVariants.{Text, NoRoom}
+use Rattle.std.specs.Prelude.{Some, None}
 use Rattle.sheet_text.specs.Room.{sheet_room}
 use Rattle.sheet_text.specs.Sheet.{refused_text, first_text, plan_text, planned_text, asked_text, sheet_text}
 use Rattle.sheet_text.specs.Outcome.{SheetOutcome, text_given, sheet_outcome}
@@ -34,18 +34,18 @@ use Rattle.promises.specs.Returned.{SheetShows}
 use Rattle.promises.proofs.Admitted.{is_timely, no_plan_exactly}
 
 -- too little room is no text, and two equal texts end alike
-no_room_no_text : {end : ℕ} → NoRoom ≡ Text end → ⊥
+no_room_no_text : {end : ℕ} → None ≡ Some end → ⊥
 no_room_no_text e = let z : ◌≡◌ {A = ℕ} 0 1 = cc in let y : ⊥ = omega arith in y
 
-same_end : {one other : ℕ} → Text one ≡ Text other → one ≡ other
+same_end : {one other : ℕ} → Some one ≡ Some other → one ≡ other
 same_end e = cc
 
 -- what is answered and left, by whether there is room for any text
 abbrev given_in : Bool → (text out : List ℕ) → SheetOutcome
-given_in room text out = cond room (text_given text out) (record { answer = NoRoom; out = out })
+given_in room text out = cond room (text_given text out) (record { answer = None; out = out })
 
 -- a text that is answered stands in the bytes up to its end, and the bytes behind it are as they were
-text_there : (room : Bool) (text out : List ℕ) (end : ℕ) → (given_in room text out).answer ≡ Text end
+text_there : (room : Bool) (text out : List ℕ) (end : ℕ) → (given_in room text out).answer ≡ Some end
     → (take end (given_in room text out).out ≡ text) × (drop end (given_in room text out).out ≡ drop end out)
 unfolding text_given
 text_there false text out end told = absurd (no_room_no_text told)
@@ -116,7 +116,7 @@ module _ (κs : Lfts 3) (arguments : Dens κs kinds.ps) (answer : (res_t kinds.r
   given = permitted
 
   -- where the bytes are enough for any sheet, a text is answered
-  pub text_told : sheet_room ≤ length out → (end : ℕ) × (answer ≡ Text end)
+  pub text_told : sheet_room ≤ length out → (end : ℕ) × (answer ≡ Some end)
   unfolding text_given
   text_told room = (
     length (asked_text version_one sailings q),
@@ -124,7 +124,7 @@ module _ (κs : Lfts 3) (arguments : Dens κs kinds.ps) (answer : (res_t kinds.r
   )
 
   -- where they are fewer, that is answered, and no byte changes
-  pub no_room_lem : length out < sheet_room → (answer ≡ NoRoom) × (out' ≡ out)
+  pub no_room_lem : length out < sheet_room → (answer ≡ None) × (out' ≡ out)
   no_room_lem short =
       let few = lt-leb sheet_room (length out) short in (
         given.0 ∙ ap (λ b. (given_in b (asked_text version_one sailings q) out).answer) few,
@@ -132,7 +132,7 @@ module _ (κs : Lfts 3) (arguments : Dens κs kinds.ps) (answer : (res_t kinds.r
       )
 
   -- where a text is answered
-  module _ (end : ℕ) (told : answer ≡ Text end) where
+  module _ (end : ℕ) (told : answer ≡ Some end) where
     -- what is printed
     abbrev text : List ℕ
     text = take end out'

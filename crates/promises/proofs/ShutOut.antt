@@ -11,7 +11,9 @@ use contract.Lifetimes.{Lfts}
 use denote.Triple.Clauses.{AtExit}
 use borrow.Fn.Kinds.{Dens, res_t, ended_of}
 use Rattle.timetable.specs.Timetable.{Timetable}
-use Rattle.timetable.specs.Verdict.{fine}
+use Rattle.std.specs.Prelude.{Result}
+use Rattle.timetable.specs.Verdict.{fine, refused}
+use Rattle.timetable.specs.declared.Refusal.{Refusal}
 use Rattle.file_layout.specs.Format.{version_one}
 use Rattle.file_layout.specs.Decode.{decode}
 use Rattle.query.specs.declared.Query.{Query}
@@ -23,9 +25,8 @@ use Rattle.demands.proofs.Demanded.{plan_demanded}
 use Rattle.demands.proofs.OnePlan.{one_plan}
 use Rattle.plan_slice.specs.Slice.{written, rides_in}
 use Rattle.plan_slice.proofs.Written.{length_written}
-use Rattle.plan_whole.specs.declared.Planned.{Planned}
-use Rattle.plan_whole.specs.declared.Planned.TheVariants.{Plan as AsPlan, Refused as NoPlan}
-use Rattle.planner.specs.Outcome.{PlanOutcome, plan_outcome, plan_answer}
+use Rattle.plan_whole.specs.declared.Plan.{Plan as Given}
+use Rattle.planner.specs.Outcome.{as_plan, PlanOutcome, plan_outcome, plan_answer}
 use Rattle.planner.proofs.plan.Kinds as kinds
 use Rattle.planner.proofs.plan.Reads as reads
 use Rattle.cases.specs.Cases.{file_of, work_for, plan_for, outcome_for, in_numbers, plan_of, slice_of, asked_of_w, w_answer, w_slice, cases}
@@ -71,20 +72,20 @@ module _ (κs : Lfts 3) (arguments : Dens κs kinds.ps) (answer : (res_t kinds.r
   abbrev plan' : List ℕ
   plan' = ending.1.1.1.0.now
 
-  in_numbers_lem : (table : Timetable) → plan_outcome version_one file q work plan ≡ outcome_for table asked_of_w → (a : Planned) → answer ≡ a
+  in_numbers_lem : (table : Timetable) → plan_outcome version_one file q work plan ≡ outcome_for table asked_of_w → (a : Result Given (Refusal ℕ)) → answer ≡ a
       → in_numbers (plan_answer a) ≡ plan_of table asked_of_w
   unfolding plan_of
   in_numbers_lem table same a told =
-      ap (λ (x : Planned). in_numbers (plan_answer x)) (sym told ∙ permitted.0 ∙ ap (λ (o : PlanOutcome). o.answer) same)
+      ap (λ (x : Result Given (Refusal ℕ)). in_numbers (plan_answer x)) (sym told ∙ permitted.0 ∙ ap (λ (o : PlanOutcome). o.answer) same)
 
   -- asked of W, with slices of noughts that are just long enough
   module _ (of_w : file ≡ file_of w) (asked : q ≡ asked_of_w) (blank_work : work ≡ work_for w) (blank_plan : plan ≡ plan_for w) where
     -- not one that refuses everything: W has a plan
-    pub refuses_everything : (number place : ℕ) → answer ≢ NoPlan number place
+    pub refuses_everything : (number place : ℕ) → answer ≢ refused number place
     unfolding in_numbers plan_answer
     refuses_everything number place told =
         let short : ◌≡◌ {A = ℕ} 2 6 =
-        ap length (in_numbers_lem w (same_outcome w of_w asked blank_work blank_plan) (NoPlan number place) told ∙ w_answer_lem) in
+        ap length (in_numbers_lem w (same_outcome w of_w asked blank_work blank_plan) (refused number place) told ∙ w_answer_lem) in
         let z : ⊥ = omega arith in z
 
     -- not one that writes no ride: W's first is worth 172,800
@@ -97,16 +98,16 @@ module _ (κs : Lfts 3) (arguments : Dens κs kinds.ps) (answer : (res_t kinds.r
         let z : ⊥ = omega arith in z
 
   -- asked alike of two rows of one trip: not one that returns W's plan always, since one ride is all there is
-  pub always_plans_w : file ≡ file_of one_trip → q ≡ asked_of_w → work ≡ work_for one_trip → plan ≡ plan_for one_trip → answer ≢ AsPlan 3 172800 690 0
+  pub always_plans_w : file ≡ file_of one_trip → q ≡ asked_of_w → work ≡ work_for one_trip → plan ≡ plan_for one_trip → answer ≢ as_plan 3 172800 690 0
   unfolding in_numbers plan_answer
   always_plans_w of_it asked blank_work blank_plan told =
       let three : ◌≡◌ {A = ℕ} 3 1 =
       ap (λ (l : List ℕ). get_or l 2 0)
-      (in_numbers_lem one_trip (same_outcome one_trip of_it asked blank_work blank_plan) (AsPlan 3 172800 690 0) told ∙ one_trip_answer) in
+      (in_numbers_lem one_trip (same_outcome one_trip of_it asked blank_work blank_plan) (as_plan 3 172800 690 0) told ∙ one_trip_answer) in
       let z : ⊥ = omega arith in z
 
   -- for every file, query and slices where a plan is answered: `others` is a plan that demands 2 and 3 ask
-  module _ (rides expected latest bound : ℕ) (told : answer ≡ AsPlan rides expected latest bound) (others : List Valued)
+  module _ (rides expected latest bound : ℕ) (told : answer ≡ as_plan rides expected latest bound) (others : List Valued)
       (expected' latest' bound' : ℕ) (demanded : Demanded t q others expected' latest' bound') where
     -- the rides in the slice are that plan's, and the answer's numbers are its numbers
     pub as_demanded :
@@ -132,14 +133,14 @@ module _ (κs : Lfts 3) (arguments : Dens κs kinds.ps) (answer : (res_t kinds.r
 
   -- not one with a made-up ride count: no count but that of the rides demanded is answered
   pub makes_up_a_count : (others : List Valued) (expected latest bound : ℕ) → Demanded t q others expected latest bound
-      → (made_up : ℕ) → made_up ≢ length others → (x l b : ℕ) → answer ≢ AsPlan made_up x l b
+      → (made_up : ℕ) → made_up ≢ length others → (x l b : ℕ) → answer ≢ as_plan made_up x l b
   makes_up_a_count others expected latest bound demanded made_up other x l b told =
       other (as_demanded made_up x l b told others expected latest bound demanded).1
 
   -- where none of 1 to 7 applies, a plan that demands 2 and 3 ask is answered: no refusal, and no other plan
   pub answers_the_demanded : verdict file q work plan ≡ fine → (others : List Valued) (expected latest bound : ℕ)
       → Demanded t q others expected latest bound
-      → (answer ≡ AsPlan (length others) expected latest bound) × (take (3 * length others) plan' ≡ written others)
+      → (answer ≡ as_plan (length others) expected latest bound) × (take (3 * length others) plan' ≡ written others)
   answers_the_demanded admitted others expected latest bound demanded =
       let e = demanded.bounded in
       let a =

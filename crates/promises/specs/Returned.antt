@@ -1,13 +1,13 @@
 -- Which outcome a call gives; what a host reads from its answer and bytes, and what a pier reads from a sheet: the rides that demands 2 and 3 ask, on days 1 to 8.
-use Rattle.std.specs.Prelude.{ℕ, ◌*◌, ◌≤◌, List, ◌++◌, ◌≡◌, length, drop}
+use Rattle.std.specs.Prelude.{ℕ, ◌*◌, ◌≤◌, List, ◌++◌, ◌≡◌, length, drop, Result}
 use Rattle.clock.specs.Clock.{day_of}
 use Rattle.timetable.specs.Timetable.{Timetable}
+use Rattle.timetable.specs.declared.Refusal.{Refusal}
 use Rattle.file_layout.specs.Format.{version_one}
 use Rattle.query.specs.declared.Query.{Query}
 use Rattle.plans.specs.Worth.{Valued}
 use Rattle.demands.specs.Demanded.{Demanded}
 use Rattle.plan_slice.specs.Slice.{rides_in}
-use Rattle.planner.specs.declared.Earliest.{Earliest}
 use Rattle.planner.specs.Outcome.{earliest_outcome}
 use Rattle.sayurimpak.specs.Desk.{desk_outcome}
 use Rattle.sayurimpak.specs.Host.{numbers_in}
@@ -18,7 +18,7 @@ abbrev pub AsDesk : (file : List ℕ) → Query → (out : List ℕ) → (answer
 AsDesk file q out answer bytes = (answer ≡ (desk_outcome version_one file q out).answer) × (bytes ≡ (desk_outcome version_one file q out).bytes)
 
 -- a call for the earliest safe arrival gives its outcome for this query
-abbrev pub AsArrival : (file : List ℕ) → Query → (work : List ℕ) → (answer : Earliest) (after : List ℕ) → Type 0
+abbrev pub AsArrival : (file : List ℕ) → Query → (work : List ℕ) → (answer : Result ℕ (Refusal ℕ)) (after : List ℕ) → Type 0
 AsArrival file q work answer after = (answer ≡ (earliest_outcome version_one file q work).answer) × (after ≡ (earliest_outcome version_one file q work).work)
 
 -- the answer counts the rides that stand in the bytes, 12 bytes a ride; other bytes stay as they were in `out`
