@@ -1,8 +1,7 @@
 // For the office: what the sheet's two files come to, in words.
 #![tactic(auto)]
 
-ghost use Rattle.std.specs.Prelude.{◌≡◌};
-ghost use Rattle.file_layout.specs.declared.Checked.TheVariants.{Sound};
+ghost use Rattle.std.specs.Prelude.{Ok, ◌≡◌};
 ghost use Rattle.file_layout.specs.Check.{checked_as};
 ghost use Rattle.query.specs.Query.{QueryFits};
 ghost use Rattle.plan_rows.specs.Sections.{Plannable};
@@ -12,13 +11,14 @@ use explain_plan::{print_no_journey, print_plan, print_query_fault};
 use explain_starts::print_starts;
 use explain_words::{say, say_count, say_expected, say_number, say_time};
 use file_check::check_as;
-use file_layout::{Checked, Format, Trailer, VERSION_ONE};
+use file_layout::{Format, Trailer, VERSION_ONE};
 use files::{Ending, Output, goes_on};
 use numbers::number;
-use plan_whole::Planned;
+use plan_whole::Plan;
 use planner::plan_checked;
 use query::{GATE_BYTES, LEAST_MARGIN, MARGIN_BYTES, QUERY_BYTES, Query, query_in};
 use rooms::{plan_room, work_room};
+use timetable::Refusal;
 
 // Says why the two files are refused and what to look at, or S, n, K and the plan. Behind each file's bytes stands how its reading ended.
 pub fn explain(
@@ -42,16 +42,12 @@ fn explain_as(
 )
     requires { Plannable f }
 {
-    let checked = check_as(sailings, f);
-    match checked {
-        Checked::Refused {
-            number: refusal,
-            place,
-        } => {
-            say_refused(out, refusal);
-            explain_file(out, sailings, f, sailings_end, refusal, place);
+    match check_as(sailings, f) {
+        Err(refusal) => {
+            say_refused(out, refusal.number);
+            explain_file(out, sailings, f, sailings_end, refusal);
         }
-        Checked::Sound { trailer } => {
+        Ok(trailer) => {
             say_sound(out, trailer);
             explain_query(out, sailings, f, trailer, query, query_end);
         }
@@ -64,16 +60,15 @@ fn explain_file(
     sailings: &[u8],
     f: Format,
     ending: Ending,
-    refusal: usize,
-    place: usize,
+    refusal: Refusal<usize>,
 )
     requires { Plannable f }
 {
-    if sailings.len() == 0 {
+    if sailings.is_empty() {
         say_no_bytes(out, b"sailings", ending);
         return;
     }
-    print_file_fault(out, sailings, f, refusal, place, goes_on(ending));
+    print_file_fault(out, sailings, f, refusal.number, refusal.place, goes_on(ending));
 }
 
 // Why there are no bytes of the file of that name.
@@ -112,26 +107,20 @@ fn explain_query(
     query: &[u8],
     ending: Ending,
 )
-    requires { Plannable f × (checked_as f sailings.now ≡ Sound trailer) }
+    requires { Plannable f × (checked_as f sailings.now ≡ Ok trailer) }
 {
     let q = query_in(query);
     let mut work = work_room();
     let mut rides = plan_room();
-    let planned = plan_checked(sailings, f, trailer, q, &mut work, &mut rides);
-    match planned {
-        Planned::Refused {
-            number: refusal,
-            place: _,
-        } => explain_refusal(out, sailings, f, trailer, query, ending, q, number(refusal)),
-        Planned::Plan {
-            rides: count,
-            expected,
-            latest,
-            bound: _,
-        } => {
-            say_plan(out, number(count), expected, latest);
+    match plan_checked(sailings, f, trailer, q, &mut work, &mut rides) {
+        Err(refusal) => {
+            let refusal = number(refusal.number);
+            explain_refusal(out, sailings, f, trailer, query, ending, q, refusal);
+        }
+        Ok(plan) => {
+            say_plan(out, plan);
             say_margin(out, q.margin);
-            print_plan(out, sailings, f, trailer, &rides, number(count), q.gate);
+            print_plan(out, sailings, f, trailer, &rides, number(plan.rides), q.gate);
         }
     }
 }
@@ -147,7 +136,7 @@ fn explain_refusal(
     q: Query,
     refusal: usize,
 )
-    requires { Plannable f × (checked_as f sailings.now ≡ Sound trailer) × (refusal ≡ 8 → QueryFits trailer.stops f.lastminute q) }
+    requires { Plannable f × (checked_as f sailings.now ≡ Ok trailer) × (refusal ≡ 8 → QueryFits trailer.stops f.lastminute q) }
 {
     say_refused(out, refusal);
     if refusal == 8 {
@@ -164,18 +153,12 @@ fn explain_refusal(
 
 // A query has 8 bytes, or 10 with its margin, or 12 with its gate time too.
 fn is_query_length(bytes: usize) -> bool {
-    if bytes == QUERY_BYTES {
-        return true;
-    }
-    if bytes == MARGIN_BYTES {
-        return true;
-    }
-    bytes == GATE_BYTES
+    matches!(bytes, QUERY_BYTES | MARGIN_BYTES | GATE_BYTES)
 }
 
 // 6: the query is not as long as one.
 fn say_query_length(out: &Output, query: &[u8], ending: Ending) {
-    if query.len() == 0 {
+    if query.is_empty() {
         say_no_bytes(out, b"query", ending);
         return;
     }
@@ -190,10 +173,10 @@ fn say_query_length(out: &Output, query: &[u8], ending: Ending) {
     say(out, b".\n");
 }
 
-fn say_plan(out: &Output, rides: usize, expected: u32, latest: u32) {
-    say_number(out, b"Rides in the plan: ", rides);
-    say_expected(out, b". Expected arrival: ", expected);
-    say_time(out, b". Latest: ", number(latest));
+fn say_plan(out: &Output, plan: Plan) {
+    say_number(out, b"Rides in the plan: ", number(plan.rides));
+    say_expected(out, b". Expected arrival: ", plan.expected);
+    say_time(out, b". Latest: ", number(plan.latest));
     say(out, b".\n");
 }
 

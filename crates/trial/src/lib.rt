@@ -1,21 +1,20 @@
 // Document 01, "Both sides of each line": the entry points with their whole answers, for the comparison with an independent second program.
 #![tactic(auto)]
 
-ghost use Rattle.std.specs.Prelude.{◌≡◌};
+ghost use Rattle.std.specs.Prelude.{[], ◌∷◌, ◌≡◌, MatchResult};
 ghost use Rattle.file_layout.specs.Check.{answer_of, checked};
 ghost use Rattle.house.specs.HouseShare.{house_share, house_answer};
 ghost use Rattle.file_layout.specs.Format.{version_one};
 ghost use Rattle.query.specs.Query.{plain_query, with_code, with_gate, with_margin};
 ghost use Rattle.planner.specs.Outcome.{plan_outcome, plan_answer, earliest_outcome, earliest_answer};
-ghost use Rattle.trial_answers.specs.Seen.{seen};
+ghost use Rattle.trial_answers.specs.Seen.{in_six, seen};
 
 use file_check::check;
-use file_layout::Checked;
-use house::{HouseShare, house_share};
+use house::house_share;
 use numbers::cell;
-use plan_whole::Planned;
-use planner::{Earliest, earliest_with_gate, plan};
+use planner::{earliest_with_gate, in_cells, plan};
 use query::{LEAST_MARGIN, query_of};
+use timetable::Refusal;
 use trial_answers::put_six;
 
 // The check: number, place, S, n, K.
@@ -23,22 +22,15 @@ use trial_answers::put_six;
 pub extern "C" fn trial_check(file: &[u8], answer: &mut [u32])
     ensures { answer.new ≡ seen (answer_of (checked file.now)) answer.old }
 {
-    let checked = check(file);
-    match checked {
-        Checked::Sound { trailer } => put_six(
-            0,
-            0,
+    let answered = check(file)
+        .map(|trailer| [
             cell(trailer.stops),
             cell(trailer.rows),
             cell(trailer.classes),
             0,
-            answer,
-        ),
-        Checked::Refused {
-            number: refusal,
-            place,
-        } => put_six(cell(refusal), cell(place), 0, 0, 0, 0, answer),
-    }
+        ])
+        .map_err(in_cells);
+    put(answered, answer);
 }
 
 // The plan: number, place, rides, expected ticks, latest minute, bound; and both slices.
@@ -117,8 +109,9 @@ pub extern "C" fn trial_plan_gate(
         × (rides.new ≡ (plan_outcome version_one file.now (with_gate gate (with_margin margin (with_code code (plain_query source target minute)))) work.old rides.old).plan) }
 {
     let q = query_of(source, target, minute, code, margin, gate);
-    let planned = plan(file, q, work, rides);
-    put_planned(planned, answer);
+    let answered =
+        plan(file, q, work, rides).map(|p| [p.rides, p.expected, p.latest, p.bound]);
+    put(answered, answer);
 }
 
 // Earliest safe arrival: number, place, E; and the work slice.
@@ -157,7 +150,7 @@ pub extern "C" fn trial_earliest_gate(
 {
     let q = query_of(source, target, minute, 0, cell(LEAST_MARGIN), gate);
     let found = earliest_with_gate(file, q.source, q.target, q.minute, q.gate, work);
-    put_earliest(found, answer);
+    put(found.map(|minute| [minute, 0, 0, 0]), answer);
 }
 
 // A cumulative share of a house table: number, place, share.
@@ -165,41 +158,19 @@ pub extern "C" fn trial_earliest_gate(
 pub extern "C" fn trial_house(pair: u32, minute: u32, answer: &mut [u32])
     ensures { answer.new ≡ seen (house_answer (house_share pair minute)) answer.old }
 {
-    let share = house_share(pair, minute);
-    match share {
-        HouseShare::Share { cumulative } => put_six(0, 0, cumulative, 0, 0, 0, answer),
-        HouseShare::Refused {
-            number: refusal,
-            place,
-        } => put_six(refusal, place, 0, 0, 0, 0, answer),
-    }
+    put(house_share(pair, minute).map(|share| [share, 0, 0, 0]), answer);
 }
 
-fn put_planned(planned: Planned, answer: &mut [u32])
-    ensures { answer.new ≡ seen (plan_answer planned) answer.old }
+// An answer's number, place and up to four values, the others 0.
+fn put(answered: Result<[u32; 4], Refusal<u32>>, answer: &mut [u32])
+    ensures { MatchResult answered
+        (λ values. answer.new ≡ in_six (0 ∷ 0 ∷ values) answer.old)
+        (λ refusal. answer.new ≡ in_six (refusal.number ∷ refusal.place ∷ 0 ∷ 0 ∷ 0 ∷ 0 ∷ []) answer.old) }
 {
-    match planned {
-        Planned::Plan {
-            rides,
-            expected,
-            latest,
-            bound,
-        } => put_six(0, 0, rides, expected, latest, bound, answer),
-        Planned::Refused {
-            number: refusal,
-            place,
-        } => put_six(refusal, place, 0, 0, 0, 0, answer),
-    }
-}
-
-fn put_earliest(found: Earliest, answer: &mut [u32])
-    ensures { answer.new ≡ seen (earliest_answer found) answer.old }
-{
-    match found {
-        Earliest::Arrival { minute } => put_six(0, 0, minute, 0, 0, 0, answer),
-        Earliest::Refused {
-            number: refusal,
-            place,
-        } => put_six(refusal, place, 0, 0, 0, 0, answer),
+    match answered {
+        Ok([first, second, third, fourth]) => {
+            put_six(0, 0, first, second, third, fourth, answer)
+        }
+        Err(refusal) => put_six(refusal.number, refusal.place, 0, 0, 0, 0, answer),
     }
 }
