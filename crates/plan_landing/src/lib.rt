@@ -80,5 +80,6 @@ fn changing(work: &[u32], at: usize, soon: usize, last: usize, tables: &[u32], s
         departure = departure_of(work[entry]);
     }
     sum += (SHARE_TOTAL - done) * long(work[entry + 1]);
+    // One addition and a shift: div_ceil would look at the remainder as well, in the scan's inner step.
     short((sum + (SHARE_TOTAL - 1)) / SHARE_TOTAL)
 }
