@@ -26,7 +26,7 @@ pub const PAIR_CELLS: usize = 2400;
 // No worth, or no minute: above all that there are.
 pub const NONE: u32 = 0xffff_ffff;
 
-// `count` cells from `at` on become `value`.
+// `count` cells from `at` on become `value`: the slice's fill, told of the whole slice, as the planner's clauses ask.
 pub fn fill(work: &mut [u32], at: usize, count: usize, value: u32)
     requires { at + count ≤ length work.old }
     ensures { work.new ≡ filled work.old at count value }
