@@ -6,10 +6,9 @@ use mathlib.Core.List.{List}
 use mathlib.Core.Path.{◌≡◌, refl, ap, sym, ◌∙◌}
 use native.Mathlib.Omega.{arith}
 use lib.Dec.{leb, ltb}
-use lib.ListN.{length, get_or, take, get_or-eq_default}
+use lib.ListN.{length, get_or, take}
 use lib.Seq.{length-take-le}
 use Rattle.std.proofs.lemmas.List.{get_or-take}
-use Rattle.std.specs.Prelude.{Option, Some, None, unwrap_or, MatchOption}
 use borrow.Author.Tests.{le-ltb, ltb-true, ltb-false, leb-true, leb-false}
 use Rattle.laws.proofs.Tests.{ifb, cond_false}
 use Rattle.tally.specs.Tally.{count_at}
@@ -95,24 +94,21 @@ found_last (suc top) tally i inside some none =
     (λ below. found_last top tally i (leb-true i top below) some (λ k past within. none k past (omega arith)))
     (λ at. let last : i ≡ suc top = omega (arith, leb-false i top at) in absurd (omega (arith, ltb-false 0 _ no, ap (count_at tally) last))))
 
-found_none : (top : ℕ) (tally : List ℕ) → ((k : ℕ) → k ≤ top → count_at tally k ≡ 0) → 0 ≡ greatest_late top tally
+found_none : (top : ℕ) (tally : List ℕ) → ((k : ℕ) → 1 ≤ k → k ≤ top → count_at tally k ≡ 0) → 0 ≡ greatest_late top tally
 unfolding greatest_late
 found_none zero tally none = refl
 found_none (suc top) tally none =
-    found_none top tally (λ k within. none k (omega arith))
-    ∙ sym (cond_false _ _ (le-ltb 0 (count_at tally (suc top)) (omega (arith, none (suc top) (omega arith)))))
+    found_none top tally (λ k some within. none k some (omega arith))
+    ∙ sym (cond_false _ _ (le-ltb 0 (count_at tally (suc top)) (omega (arith, none (suc top) (omega arith) (omega arith)))))
 
-pub last_tallied : (tally : List ℕ) (last : Option ℕ)
-    → MatchOption last ((k : ℕ) → k < length tally → get_or tally k 0 ≡ 0)
-    (λ i. (i < length tally) × (0 < get_or tally i 0) × ((k : ℕ) → i < k → k < length tally → get_or tally k 0 ≡ 0))
-    → unwrap_or last 0 ≡ greatest_late (length tally - 1) tally
-last_tallied tally None none =
-    found_none (length tally - 1) tally
-    (λ k within.
-    ifb (λ (_ : Bool). count_at tally k ≡ 0) (ltb k (length tally)) (λ inside. none k (ltb-true k (length tally) inside))
-    (λ past. get_or-eq_default tally 0 {n = k} (ltb-false k (length tally) past)))
-last_tallied tally (Some i) found =
-    found_last (length tally - 1) tally i (omega (arith, found.0)) found.1 (λ k past within. found.2 k past (omega (arith, found.0)))
+pub last_found : (tally : List ℕ) (i x : ℕ) → x ≡ suc i → i < length tally → 0 < get_or tally i 0
+    → ((k : ℕ) → x ≤ k → k < length tally → get_or tally k 0 ≡ 0) → i ≡ greatest_late (length tally - 1) tally
+last_found tally i x next inside some none =
+    found_last (length tally - 1) tally i (omega arith) some (λ k past within. none k (omega arith) (omega arith))
+
+pub none_found : (tally : List ℕ) (x : ℕ) → x ≤ 1 → ((k : ℕ) → x ≤ k → k < length tally → get_or tally k 0 ≡ 0)
+    → 0 ≡ greatest_late (length tally - 1) tally
+none_found tally x first none = found_none (length tally - 1) tally (λ k some within. none k (omega arith) (omega arith))
 
 -- which depends on the counts up to the top one alone
 same_late : (top : ℕ) (one other : List ℕ) → ((k : ℕ) → k ≤ top → count_at one k ≡ count_at other k) → greatest_late top one ≡ greatest_late top other
