@@ -15,7 +15,7 @@ use plan_cells::{PAIR_CELLS, TRIP_CELLS, fill};
 use plan_rows::{BLOCK, MAX_DELAY, can_board, ready};
 use plan_scan::Reach;
 use plan_slice::{Ride, write_ride};
-use plan_stacks::{departure_of, first_open, row_of, stack_of};
+use plan_stacks::{departure_of, row_of, stack_of};
 
 // How many rides a plan has, and the largest a + M of them.
 #[derive(Clone, Copy)]
@@ -96,7 +96,7 @@ fn want(land: usize, soon: usize, last: usize, work: &mut [u32])
     ensures { AllPassed work.old work.new land soon last }
 {
     let stack = stack_of(work, land);
-    let mut entry = first_open(work, stack, soon);
+    let mut entry = stack.first_open(work, soon);
     let mut key = work[entry];
     while !can_board(departure_of(key), last) {
         work[TRIP_CELLS + row_of(key)] = 1;

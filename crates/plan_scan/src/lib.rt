@@ -18,7 +18,7 @@ mod reach;
 use numbers::{cell, number};
 use plan_cells::{NONE, PAIR_CELLS, SIZE_CELLS, TRIP_CELLS, fill};
 use plan_landing::getting_off;
-use plan_stacks::{part_stacks, push, replace_top, reserve, stack_of, top};
+use plan_stacks::{ChosenRow, part_stacks, reserve, stack_of};
 pub use reach::Reach;
 use timetable::{MOST_STOPS, MOST_TRIPS, Row};
 
@@ -99,10 +99,15 @@ fn choose(row: Row, i: usize, margin: usize, work: &mut [u32], limits: &mut [u32
         return;
     }
     limits[stop] = cell((number(worth) + 1).saturating_sub(margin));
+    let chosen = ChosenRow {
+        row: i,
+        departure: row.departure,
+        worth,
+    };
     let stack = stack_of(work, stop);
-    if stack.size != 0 && top(work, stack).departure == row.departure {
-        replace_top(work, stack, row.departure, i, worth);
+    if stack.size != 0 && stack.top(work).departure == row.departure {
+        stack.replace_top(work, chosen);
     } else {
-        push(work, stop, stack, row.departure, i, worth);
+        stack.push(work, stop, chosen);
     }
 }

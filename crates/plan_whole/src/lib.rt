@@ -23,7 +23,7 @@ use plan_extract::write_plan;
 use plan_rows::{Sailings, SectionPlaces, ready};
 use plan_scan::Reach;
 use plan_shares::read_tables;
-use plan_stacks::{stack_of, top};
+use plan_stacks::stack_of;
 use plans::Goal;
 use query::Query;
 use timetable::Refusal;
@@ -80,7 +80,7 @@ fn lay_out<'a>(
 {
     let places = places_in(f, trailer);
     let sailings = Sailings { file, places };
-    read_tables(file, places, tables);
+    read_tables(&sailings, tables);
     let first = rows_missed(&sailings, q);
     (sailings, first)
 }
@@ -179,7 +179,7 @@ fn plan_scanned(
     if stack.size == 0 {
         return Err(NO_JOURNEY);
     }
-    let ahead = top(work, stack);
+    let ahead = stack.top(work);
     let written = write_plan(reach, ahead.row, work, plan);
     Ok(Plan {
         rides: cell(written.rides),

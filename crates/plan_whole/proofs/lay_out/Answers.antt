@@ -11,11 +11,6 @@ invariant_of-sailings c =
       blocks = tables_stand a.f a.file.now a.trailer a.q c.requires.0 c.places_in-places.result c.places_in-places.ensures;
     }
 
-pub read_tables-requires : goal.read_tables-requires
-read_tables-requires c =
-    let a = c.args in
-    (tables_stand a.f a.file.now a.trailer a.q c.requires.0 c.places_in-places.result c.places_in-places.ensures, c.requires.1)
-
 pub rows_missed-first-requires : goal.rows_missed-first-requires
 rows_missed-first-requires c =
     let a = c.args in
