@@ -20,9 +20,6 @@ pub landing_computed :
     → arrival + get_or tables (block_cell row.class + 0) 0 ≡ landing_of tables row
 landing_computed tables row e = rw (e, add-zero (block_cell row.class))
 
-pub landing_below : {x landing : ℕ} → x ≡ landing → landing < 65536 → x < 65536
-landing_below e h = omega arith
-
 pub landed_sooner :
     (stop : ℕ) (work : List ℕ) {x landing : ℕ} → x ≡ landing → x < reached_at work stop
     → Landed stop landing work (set work (stop_cells + stop) x)

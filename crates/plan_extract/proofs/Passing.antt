@@ -5,8 +5,7 @@ use mathlib.Core.Logic.{◌⊎◌, inl, inr, ⊎_elim}
 use mathlib.Core.Path.{◌≡◌, refl, sym, ap, subst, ◌∙◌}
 use native.Mathlib.Nat.{eq-or-lt_of_le}
 use native.Mathlib.Omega.{arith}
-use mathlib.Core.Bool.{Bool, true, false, not}
-use borrow.Author.Tests.{leb-true, leb-false, not-true, not-false}
+use borrow.Author.Tests.{leb-true, leb-false}
 use lib.Dec.{leb}
 use lib.ListN.{length, get_or, set, length-set}
 use Rattle.laws.proofs.Tests.{ifb}
@@ -15,17 +14,6 @@ use Rattle.plan_stacks.specs.Stacks.{key_step, stack_start, stack_size, entry_de
 use Rattle.plan_cells.specs.Outside.{SameOutside}
 use Rattle.plan_cells.proofs.Outside.{set_cell}
 use Rattle.plan_extract.specs.Marks.{Caught, Catching, Passed, AllPassed}
-
--- what the test of an entry's departure says
-pub missed : (last key departure : ℕ) (opened : Bool) → opened ≡ leb last departure → departure ≡ key / key_step → not opened ≡ true
-    → key / key_step < last
-missed last key departure opened test departs shut =
-    subst (λ k. k < last) departs (leb-false last departure (sym test ∙ not-true opened shut))
-
-pub reached : (last key departure : ℕ) (opened : Bool) → opened ≡ leb last departure → departure ≡ key / key_step → not opened ≡ false
-    → last ≤ key / key_step
-reached last key departure opened test departs shut =
-    subst (λ k. last ≤ k) departs (leb-true last departure (sym test ∙ not-false opened shut))
 
 -- one entry more
 passed_on :

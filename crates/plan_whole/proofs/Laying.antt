@@ -16,7 +16,6 @@ use Rattle.plan_rows.specs.declared.SectionPlaces.{SectionPlaces}
 use Rattle.plan_rows.specs.Reading.{rows_in, tables_in, timetable_in, FileReadable, BlocksStand, Cut, TablesHeld}
 use Rattle.plan_rows.specs.Sections.{places_of}
 use Rattle.plan_rows.proofs.Standing.{stands, blocks_stand, timely, same_earliest, same_plan}
-use Rattle.plan_whole.proofs.Bounds.{earliest_fits}
 use Rattle.plan_whole.specs.Steps.{CallFits, PlanningInput, plan_in}
 
 module _ (f : Format) (file : List ℕ) (trailer : Trailer) (q : Query) (asked : CallFits f file trailer q)
@@ -65,10 +64,3 @@ module _ (f : Format) (file : List ℕ) (trailer : Trailer) (q : Query) (asked :
   pub plan_by_arrival : (e : ℕ) → earliest (timetable_in file s) q ≡ some e → planned (decode f file) q ≡ plan_in file s q (bound_of q e)
   unfolding planned plan_before
   plan_by_arrival e found = plan_there ∙ ap (plan_before (timetable_in file s) q) found
-
-  -- E is a minute of 16 bits that does not lie before T + g
-  pub arrival_there : (e : ℕ) → earliest (decode f file) q ≡ some e → (ready_at q ≤ e) × (e < 65536)
-  arrival_there e found =
-      earliest_fits file s rows_stand
-      (subst (λ (x : SectionPlaces). Timely (timetable_in file x)) (sym where_they_stand) (timely f asked.plannable file asked.sound))
-      q e (sym earliest_there ∙ found)
