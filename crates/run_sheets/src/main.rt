@@ -4,7 +4,7 @@
 use files::{Output, ended, open_out, write_number, write_out};
 use packed::{for_each_case, read_next};
 use rooms::{SAILINGS, sailings_room};
-use sheet_text::{SHEET_ROOM, Sheeted, sheet_room};
+use sheet_text::{SHEET_ROOM, sheet_room};
 use std::io::Read;
 use std::process::ExitCode;
 
@@ -13,8 +13,7 @@ fn print_sheet(out: &Output, place: usize, sailings: &[u8], query: &[u8]) {
     write_number(out, place);
     write_out(out, b"\n");
     let mut text = sheet_room();
-    let sheeted = sheet_text::sheet(sailings, query, &mut text);
-    if let Sheeted::Text { end } = sheeted {
+    if let Some(end) = sheet_text::sheet(sailings, query, &mut text) {
         if end <= SHEET_ROOM {
             write_out(out, &text[..end]);
         }
