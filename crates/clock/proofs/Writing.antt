@@ -70,8 +70,15 @@ lettered minute {day} {bytes} {after} (suc k) small same_day same_bytes w =
     ∙ write_ahead k letter_d (decimal (day_of minute) (face_text minute))
     in
     let wide : length (set after k letter_d) ≡ widest =
-    omega (arith, length-set after k letter_d, ap length w.says, length-append (take (suc k) bytes) (decimal day (drop 8 bytes)),
-    length-take-le (suc k) bytes (omega (arith, w.inside, ap length same_bytes)), w.ends, ap length same_bytes)
+    omega (
+      arith,
+      length-set after k letter_d,
+      ap length w.says,
+      length-append (take (suc k) bytes) (decimal day (drop 8 bytes)),
+      length-take-le (suc k) bytes (omega (arith, w.inside, ap length same_bytes)),
+      w.ends,
+      ap length same_bytes,
+    )
     in
     rw one_less
     (record {

@@ -14,13 +14,7 @@ fn explain_case(out: &Output, from: &mut impl Read, place: usize, sailings: &[u8
     let short = read_next(from, &mut query).unwrap_or(QUERY);
     say_number(out, b"-- ", place);
     say(out, b"\n");
-    explain_all::explain(
-        out,
-        sailings,
-        Ending::Whole,
-        &query[..short],
-        Ending::Whole,
-    );
+    explain_all::explain(out, sailings, Ending::Whole, &query[..short], Ending::Whole);
 }
 
 fn main(rt: HostRuntime) -> ExitCode {
