@@ -90,7 +90,7 @@ fn write_row(board: usize, ride: usize, work: &[u32], plan: &mut [u32]) -> usize
 }
 
 // After a ride to `land` from where one is ready from `soon` to `last`: the rows that can be caught are wanted,
-// up to and including the first that departs at or after `last`.
+// up to and including the first that departs at or after `last`. `while`: no index is counted.
 fn want(land: usize, soon: usize, last: usize, work: &mut [u32])
     requires { Catching work.old land soon last }
     ensures { AllPassed work.old work.new land soon last }

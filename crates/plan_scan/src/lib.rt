@@ -88,7 +88,8 @@ fn weigh_row(row: Row, i: usize, off: u32, work: &mut [u32])
 
 // A row whose worth lies below its stop's limit goes on the stack; in the same minute as the top it
 // replaces that row. A stop's limit is NONE until a row is chosen there: any worth lies below it, and "no
-// worth" does not. From then on it is the worth of the stop's first chosen row, and one, less the margin, or 0 where the margin is more.
+// worth" does not. From then on it is the worth of the stop's first chosen row, and one, less the margin,
+// or 0 where the margin is more: then no row ahead of it gains it.
 fn choose(row: Row, i: usize, margin: usize, work: &mut [u32], limits: &mut [u32])
     requires { Pushable row i work.old × (row.board < length limits.old) }
     ensures { Chose row i margin work.old limits.old work.new limits.new }
