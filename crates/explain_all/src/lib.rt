@@ -68,7 +68,7 @@ fn explain_file(
         say_no_bytes(out, b"sailings", ending);
         return;
     }
-    print_file_fault(out, sailings, f, refusal.number, refusal.place, goes_on(ending));
+    print_file_fault(out, sailings, f, refusal, goes_on(ending));
 }
 
 // Why there are no bytes of the file of that name.

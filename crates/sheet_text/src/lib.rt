@@ -21,7 +21,7 @@ use clock::Minute;
 use file_check::check_as;
 use file_layout::{Format, Trailer, VERSION_ONE, row_at};
 use numbers::{cell, number};
-use plan_slice::{board_of, leave_of, worth_of};
+use plan_slice::ride_at;
 use planner::plan_checked;
 use query::{Query, query_in};
 use rooms::{plan_room, work_room};
@@ -133,9 +133,10 @@ fn put_rides(
 {
     let mut next = at;
     for i in 0..rides {
-        let board = row_of(sailings, f, trailer, number(board_of(plan, i)));
-        let leave = row_of(sailings, f, trailer, number(leave_of(plan, i)));
-        next = put_line(out, next, board, leave, worth_of(plan, i));
+        let ride = ride_at(plan, i);
+        let board = row_of(sailings, f, trailer, number(ride.board));
+        let leave = row_of(sailings, f, trailer, number(ride.leave));
+        next = put_line(out, next, board, leave, ride.worth);
     }
     next
 }

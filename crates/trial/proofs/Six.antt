@@ -1,31 +1,37 @@
--- Each answer's case as its six numbers. Assumes nothing.
+-- Each answer as its six numbers. Assumes nothing.
 use Prim.Native.Nat.{ℕ, ◌<◌}
 use mathlib.Core.List.{List, [], ◌∷◌}
-use mathlib.Core.Path.{◌≡◌, sym, ap, ◌∙◌}
+use mathlib.Core.Path.{◌≡◌, refl, sym, ap, ◌∙◌}
 use native.Mathlib.Omega.{arith}
-use Rattle.file_layout.specs.declared.Checked.{Checked}
+use lib.ListN.{get_or}
+use Rattle.std.specs.Prelude.{Result, Ok, Err, MatchResult}
+use Rattle.std.proofs.lemmas.Result.{MatchResult-at_ok, MatchResult-at_err}
+use Rattle.timetable.specs.declared.Refusal.{Refusal}
 use Rattle.file_layout.specs.declared.Trailer.{Trailer}
-use Rattle.file_layout.specs.declared.Checked.TheVariants.{Sound, Refused}
-use Rattle.file_layout.specs.Check.{checked_as, checked, answer_of}
+use Rattle.file_layout.specs.Check.{Answer, checked_as, checked}
 use Rattle.file_layout.specs.Format.{version_one}
 use Rattle.file_layout.proofs.Sound.{checked_gives, sound_checked, version_one_readable}
-use Rattle.trial_answers.specs.Seen.{six, in_six, seen}
+use Rattle.file_layout.proofs.Refusals.{refusal_fits}
+use Rattle.trial_answers.specs.Seen.{in_six, seen}
 
--- a sound file's S, n and K
-pub seen_sound : {c : Checked} {h : Trailer} (buffer : List ℕ) (s n k : ℕ) → c ≡ Sound h → s ≡ h.stops → n ≡ h.rows → k ≡ h.classes
-    → in_six (0 ∷ 0 ∷ s ∷ n ∷ k ∷ 0 ∷ []) buffer ≡ seen (answer_of c) buffer
-unfolding seen six answer_of
-seen_sound buffer s n k e p q r =
-    (λ i. in_six (0 ∷ 0 ∷ p i ∷ q i ∷ r i ∷ 0 ∷ []) buffer) ∙ sym (ap (λ x. seen (answer_of x) buffer) e)
+-- what is put of a Result's values, or of its refusal
+abbrev pub Puts : Result (List ℕ) (Refusal ℕ) → (buffer after : List ℕ) → Type 0
+Puts given buffer after =
+    MatchResult given (λ values. after ≡ in_six (0 ∷ 0 ∷ values) buffer)
+    (λ refusal. after ≡ in_six (refusal.number ∷ refusal.place ∷ 0 ∷ 0 ∷ 0 ∷ 0 ∷ []) buffer)
 
--- a refusal's number and place
-pub seen_refused : {c : Checked} {number place : ℕ} (buffer : List ℕ) (a b : ℕ) → c ≡ Refused number place → a ≡ number → b ≡ place
-    → in_six (a ∷ b ∷ 0 ∷ 0 ∷ 0 ∷ 0 ∷ []) buffer ≡ seen (answer_of c) buffer
-unfolding seen six answer_of
-seen_refused buffer a b e p q = (λ i. in_six (p i ∷ q i ∷ 0 ∷ 0 ∷ 0 ∷ 0 ∷ []) buffer) ∙ sym (ap (λ x. seen (answer_of x) buffer) e)
+-- is its answer, where its values are the answer's
+pub puts_answer : {A : Type 0} (told : Result A (Refusal ℕ) → Answer) (values : A → List ℕ) (buffer : List ℕ) {after : List ℕ}
+    (answered : Result A (Refusal ℕ)) {given : Result (List ℕ) (Refusal ℕ)}
+    → ((x : A) → in_six (0 ∷ 0 ∷ values x) buffer ≡ seen (told (Ok x)) buffer)
+    → ((refusal : Refusal ℕ) → in_six (refusal.number ∷ refusal.place ∷ 0 ∷ 0 ∷ 0 ∷ 0 ∷ []) buffer ≡ seen (told (Err refusal)) buffer)
+    → ((x : A) → answered ≡ Ok x → given ≡ Ok (values x)) → ((refusal : Refusal ℕ) → answered ≡ Err refusal → given ≡ Err refusal)
+    → Puts given buffer after → after ≡ seen (told answered) buffer
+puts_answer told values buffer (Ok x) says refuses ok err put = MatchResult-at_ok _ _ (values x) (ok x refl) put ∙ says x
+puts_answer told values buffer (Err refusal) says refuses ok err put = MatchResult-at_err _ _ refusal (err refusal refl) put ∙ refuses refusal
 
--- and its numbers fit a u32
-pub sound_small : (file : List ℕ) (h : Trailer) → checked file ≡ Sound h
+-- a sound file's S, n and K fit a u32
+pub sound_small : (file : List ℕ) (h : Trailer) → checked file ≡ Ok h
     → (h.stops < 4294967296) × (h.rows < 4294967296) × (h.classes < 4294967296)
 unfolding checked
 sound_small file h e =
@@ -36,6 +42,8 @@ sound_small file h e =
       omega (arith, ap (λ (k : Trailer). k.classes) told, range.classes_most),
     )
 
-pub refused_as : (file : List ℕ) (number place : ℕ) → checked file ≡ Refused number place → checked_as version_one file ≡ Refused number place
+-- and so do a refusal's number and place
+pub refusal_small : (file : List ℕ) (bytes : (i : ℕ) → get_or file i 0 < 256) (refusal : Refusal ℕ) → checked file ≡ Err refusal
+    → (refusal.number < 4294967296) × (refusal.place < 4294967296)
 unfolding checked
-refused_as file number place e = e
+refusal_small file bytes refusal e = refusal_fits version_one file bytes refusal.number refusal.place e

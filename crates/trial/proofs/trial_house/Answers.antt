@@ -1,21 +1,15 @@
--- `trial::trial_house` meets its contract, in each arm by the answer's case. Assumes nothing.
-use mathlib.Core.Path.{sym, ap, ◌∙◌}
+-- `trial::trial_house` meets its contract. Assumes nothing.
+use mathlib.Core.List.{[], ◌∷◌}
+use mathlib.Core.Path.{refl, ap, ◌∙◌}
+use borrow.Author.Rules.{rules}
 use Rattle.house.specs.HouseShare.{house_answer}
 use Rattle.trial_answers.specs.Seen.{six, seen}
+use Rattle.trial.proofs.Six.{puts_answer}
 use Rattle.trial.proofs.trial_house.Goals as goal
 
-pub returns-in-Share : goal.returns-in-Share
+pub returns : goal.returns
 unfolding seen six house_answer
-returns-in-Share c =
-    let arm = c in
-    let asked = c in
-    c.put_six.ensures
-    ∙ sym (ap (λ a. seen (house_answer a) asked.args.answer.now) (sym asked.house_share-share.ensures ∙ arm.in-Share.is))
-
-pub returns-in-Refused : goal.returns-in-Refused
-unfolding seen six house_answer
-returns-in-Refused c =
-    let arm = c in
-    let asked = c in
-    c.put_six-in-Refused.ensures
-    ∙ sym (ap (λ a. seen (house_answer a) asked.args.answer.now) (sym asked.house_share-share.ensures ∙ arm.in-Refused.is))
+returns c =
+    puts_answer house_answer (λ share. share ∷ 0 ∷ 0 ∷ 0 ∷ []) c.args.answer.now c.house_share.result (λ share. refl) (λ refusal. refl)
+    (λ share is. search rules) (λ refusal is. search rules) c.put.ensures
+    ∙ ap (λ a. seen (house_answer a) c.args.answer.now) c.house_share.ensures
