@@ -9,7 +9,11 @@ use Rattle.file_layout.specs.declared.Trailer.{Trailer}
 use Rattle.gtfs_stop_time.specs.StopTime.{day_start}
 use Rattle.gtfs_calls.specs.Reading.{Reading, said, wrong}
 use Rattle.gtfs_calls.proofs.ReadSound.{read_sound}
+use Rattle.std.specs.Prelude.{Result, Ok, Err}
+use Rattle.std.specs.Result.{MatchResult}
 use Rattle.timetable.specs.Verdict.{refused}
+use Rattle.timetable.specs.declared.Refusal.{Refusal}
+use Rattle.gtfs_import.specs.declared.Written.{Written}
 use Rattle.gtfs_import.specs.Import.{imported, import_outcome}
 use Rattle.gtfs_import.specs.Returned.{read_on, rows_in}
 use Rattle.gtfs_import.proofs.Ended.{import_ends, reason_of, file_of_lem}
@@ -40,3 +44,16 @@ module _ (text : List ℕ) (day : ℕ) (out : List ℕ) where
         omega (arith, ap (λ (h : Trailer). h.classes) says),
         omega (arith, file.size, file.few_rows),
       )
+
+  -- the same of whatever is answered; the first part names the outcome, for a tactic that looks for it
+  pub import_fits : (import_outcome text day out ≡ import_outcome text day out)
+      × MatchResult (import_outcome text day out).answer
+      (λ file. (file.trailer.stops < 65536) × (file.trailer.rows < 65536) × (file.trailer.classes < 65536) × (file.bytes < 65536))
+      (λ refusal. (refusal.number ≤ 13) × (refusal.place ≤ most_rows))
+  import_fits = (refl, of_answer (import_outcome text day out).answer refl)
+    where
+      of_answer : (answer : Result Written (Refusal ℕ)) → (import_outcome text day out).answer ≡ answer
+          → MatchResult answer (λ file. (file.trailer.stops < 65536) × (file.trailer.rows < 65536) × (file.trailer.classes < 65536) × (file.bytes < 65536))
+          (λ refusal. (refusal.number ≤ 13) × (refusal.place ≤ most_rows))
+      of_answer (Ok file) told = written_small file.trailer file.bytes told
+      of_answer (Err refusal) told = refused_small refusal.number refusal.place told

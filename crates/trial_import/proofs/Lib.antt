@@ -1,3 +1,2 @@
--- Laws of what the comparison sees of the import.
-pub mod Six
+-- What the call for the comparison settles.
 pub mod Settled

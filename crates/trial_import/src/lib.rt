@@ -10,6 +10,7 @@ use numbers::{cell, number};
 use trial_answers::put_six;
 
 // The import: number, place, S, n, K and the bytes written; and the lent bytes.
+#[tactic(auto, using(gtfs_import::proofs::Small::import_fits), unfolding(trial_answers::specs::Seen::seen, trial_answers::specs::Seen::six, gtfs_import::specs::Import::import_answer))]
 #[unsafe(no_mangle)]
 pub extern "C" fn trial_import(text: &[u8], day: u32, out: &mut [u8], answer: &mut [u32])
     ensures { (answer.new ≡ seen (import_answer (import_outcome text.now day out.old).answer) answer.old)
