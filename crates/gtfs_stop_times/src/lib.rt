@@ -45,7 +45,7 @@ pub struct Listed {
     pub bytes: usize,
 }
 
-// The first fault of the text, its line and the column that it is in.
+// The first fault of the text, its line and the column that it is in: 0 for the line as a whole, as `TextFault` and document 02 have it.
 #[derive(Clone, Copy)]
 pub struct LineFault {
     pub number: usize,
@@ -72,6 +72,7 @@ const CALL_CELLS: usize = 6000;
 const ROW_BYTES: usize = 24000;
 
 // The calls so far: the books of their trips and stops, each trip's last call, the rows as read, and how many there are.
+// Room for the most with the counts beside, since memory is fixed and nothing lies on the heap.
 #[derive(Drop)]
 struct Notes {
     trips: [u64; TRIP_CELLS],
@@ -284,6 +285,7 @@ impl Notes {
     {
         let mut at = begin;
         let mut behind = 0;
+        // No range has these places: each line says where the next one starts.
         while at < text.len() {
             match self.read_line(text, at, service) {
                 Ok(next) => at = next,
