@@ -2,10 +2,9 @@
 use Prim.Native.Nat.{ℕ, ◌≤◌, ◌<◌}
 use mathlib.Core.Bool.{true, false}
 use mathlib.Core.List.{List}
-use mathlib.Core.Path.{◌≡◌, refl, sym, ap, ◌∙◌}
+use mathlib.Core.Path.{◌≡◌, sym, ap, ◌∙◌}
 use native.Mathlib.Omega.{arith}
 use borrow.Author.Tests.{le-leb, lt-leb}
-use lib.Dec.{leb}
 use lib.ListN.{length}
 use Rattle.laws.proofs.Tests.{cond_true, cond_false}
 use Rattle.gtfs_stop_time.specs.StopTime.{day_start}
@@ -19,7 +18,7 @@ use Rattle.std.specs.Prelude.{Ok, Err}
 use Rattle.gtfs_import.specs.declared.Unnamed.TheVariants.{Refused, NoRoom}
 use Rattle.gtfs_import.specs.Import.{day_rule}
 use Rattle.gtfs_import.proofs.Told.{same_listed, same_fault}
-use Rattle.gtfs_import.specs.Named.{NamesOutcome, names_by, names_outcome}
+use Rattle.gtfs_import.specs.Named.{names_by, names_outcome}
 
 module _ (text : List ℕ) (day : ℕ) (out : List ℕ) where
   pub names_room_lem : length out < names_room → names_outcome text day out ≡ record { answer = Err NoRoom; out = out }

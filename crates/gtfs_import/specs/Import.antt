@@ -2,7 +2,7 @@
 -- leaves `out` as it was.
 use Rattle.std.specs.Prelude.{ℕ, Bool, ◌&&◌, List, [], ◌∷◌, leb, length, Result, Ok, Err}
 use Rattle.numbers.specs.Over.{over}
-use Rattle.timetable.specs.Verdict.{Verdict, or_else, unless, by_verdict, refused}
+use Rattle.timetable.specs.Verdict.{or_else, unless, by_verdict, refused}
 use Rattle.timetable.specs.declared.Refusal.{Refusal}
 use Rattle.file_layout.specs.declared.Trailer.{Trailer}
 use Rattle.file_layout.specs.Format.{version_one}

@@ -123,6 +123,7 @@ fn is_service_day(day: usize) -> bool
 }
 
 // The minute at which a service day starts.
+#[tactic(auto, using(crate::proofs::Days::day_kept, crate::proofs::Days::start_kept))]
 fn day_start(day: usize) -> usize
     requires { day_rule day ≡ true }
     ensures { (result ≡ day_start day) × (result ≤ last_minute) }
