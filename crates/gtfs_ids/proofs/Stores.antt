@@ -1,29 +1,36 @@
 -- The book with one id more: the stores that make it, what it says of the new id, and that it says of earlier ones what it said. Assumes nothing.
-use Prim.Native.Nat.{ℕ, suc, ◌+◌, ◌≤◌, ◌<◌}
-use mathlib.Core.List.{List, [], ◌∷◌}
-use mathlib.Core.Path.{◌≡◌, ap, ◌∙◌}
+use Prim.Native.Nat.{ℕ, suc, ◌+◌, ◌-◌, ◌≤◌, ◌<◌}
+use mathlib.Core.List.{List, [], ◌∷◌, ◌++◌, append_assoc}
+use mathlib.Core.Path.{◌≡◌, sym, ap, ◌∙◌}
 use native.Mathlib.Omega.{arith}
-use lib.ListN.{length, get_or, set, length-set}
-use lib.Seq.{sets, get_or-set_same, get_or-set_other}
+use borrow.Rule.Slice.PartMut.{put_mid}
+use lib.ListN.{length, get_or, set, take, drop, length-set}
+use lib.Seq.{sets, sets-eq, drop-drop, get_or-set_same, get_or-set_other}
 use Rattle.gtfs_ids.specs.declared.Key.{Key}
 use Rattle.gtfs_ids.specs.Keys.{bucket_of, buckets}
 use Rattle.gtfs_ids.specs.Book.{cell_of, key_in, place_in, earlier_in, book_with}
 use Rattle.gtfs_ids.proofs.Runs.{sets_ahead, sets_within}
 
--- the stores at the places that the code counts
-pub six_stores : (book : List ℕ) (count : ℕ) (key : Key) (place : ℕ) (at bucket : ℕ) → at ≡ cell_of count → bucket ≡ bucket_of key
-    → set
-    (set (set (set (set (set book at key.front) (at + 1) key.back) (at + 2) key.size) (at + 3) place) (at + 4) (get_or book bucket 0))
-    bucket (count + 1)
-    ≡ book_with book count key place
+-- cells that are copied to a part of the book are stored there
+stored : (book cells part : List ℕ) (at count : ℕ) → part ≡ cells → count ≡ length cells → at + length cells ≤ length book
+    → put_mid at count book part ≡ sets book at cells
+stored book cells part at count same all room =
+    ap (λ l. take at book ++ (l ++ drop count (drop at book))) same
+    ∙ ap (λ n. take at book ++ (cells ++ drop n (drop at book))) all
+    ∙ ap (λ l. take at book ++ (cells ++ l)) (drop-drop (length cells) at book)
+    ∙ sym (append_assoc (take at book) cells (drop (at + length cells) book))
+    ∙ sym (sets-eq cells book at room)
+
+pub id_stored : (book part : List ℕ) (count : ℕ) (key : Key) (place bucket : ℕ) → bucket ≡ bucket_of key
+    → part ≡ key.front ∷ key.back ∷ key.size ∷ place ∷ get_or book bucket 0 ∷ [] → cell_of count + 5 ≤ length book
+    → set (put_mid (cell_of count) (cell_of count + 5 - cell_of count) book part) bucket (count + 1) ≡ book_with book count key place
 unfolding book_with
-six_stores book count key place at bucket here of =
-    let one : at + 1 ≡ suc at = omega arith in
-    let two : at + 2 ≡ suc (suc at) = omega arith in
-    let three : at + 3 ≡ suc (suc (suc at)) = omega arith in
-    let four : at + 4 ≡ suc (suc (suc (suc at))) = omega arith in
+id_stored book part count key place bucket of same room =
+    let cells = key.front ∷ key.back ∷ key.size ∷ place ∷ get_or book bucket 0 ∷ [] in
+    let all : cell_of count + 5 - cell_of count ≡ 5 = omega arith in
     let more : count + 1 ≡ suc count = omega arith in
-    rw (one, two, three, four, more, of, here)
+    ap (λ l. set l bucket (count + 1)) (stored book cells part (cell_of count) (cell_of count + 5 - cell_of count) same all room)
+    ∙ rw (more, of)
 
 pub bucket_below : (key : Key) → bucket_of key < buckets
 unfolding bucket_of

@@ -110,11 +110,7 @@ pub fn add(book: &mut [u64], count: usize, key: Key, place: usize)
     let at = BUCKETS + CELLS * count;
     let bucket = bucket_of(key);
     let earlier = book[bucket];
-    book[at] = key.front;
-    book[at + 1] = key.back;
-    book[at + 2] = key.size;
-    book[at + 3] = place as u64;
-    book[at + 4] = earlier;
+    book[at..at + CELLS].copy_from_slice(&[key.front, key.back, key.size, place as u64, earlier]);
     book[bucket] = (count + 1) as u64;
 }
 
