@@ -1,7 +1,7 @@
 // Document 01, "Both sides of each line": the entry points with their whole answers, for the comparison with an independent second program.
 #![tactic(auto)]
 
-ghost use Rattle.std.specs.Prelude.{[], ◌∷◌, ◌≡◌, MatchResult};
+ghost use Rattle.std.specs.Prelude.{[], ◌∷◌, ◌≡◌};
 ghost use Rattle.file_layout.specs.Check.{answer_of, checked};
 ghost use Rattle.house.specs.HouseShare.{house_share, house_answer};
 ghost use Rattle.file_layout.specs.Format.{version_one};
@@ -18,19 +18,23 @@ use timetable::Refusal;
 use trial_answers::put_six;
 
 // The check: number, place, S, n, K.
+#[tactic(auto, unfolding(trial_answers::specs::Seen::seen, trial_answers::specs::Seen::six, file_layout::specs::Check::answer_of))]
 #[unsafe(no_mangle)]
 pub extern "C" fn trial_check(file: &[u8], answer: &mut [u32])
     ensures { answer.new ≡ seen (answer_of (checked file.now)) answer.old }
 {
-    let answered = check(file)
-        .map(|trailer| [
+    match check(file) {
+        Ok(trailer) => put_six(
+            0,
+            0,
             cell(trailer.stops),
             cell(trailer.rows),
             cell(trailer.classes),
             0,
-        ])
-        .map_err(in_cells);
-    put(answered, answer);
+            answer,
+        ),
+        Err(refusal) => put_refused(in_cells(refusal), answer),
+    }
 }
 
 // The plan: number, place, rides, expected ticks, latest minute, bound; and both slices.
@@ -89,6 +93,7 @@ pub extern "C" fn trial_plan_margin(
 }
 
 // The same with a gate time.
+#[tactic(auto, unfolding(trial_answers::specs::Seen::seen, trial_answers::specs::Seen::six, planner::specs::Outcome::plan_answer))]
 #[unsafe(no_mangle)]
 pub extern "C" fn trial_plan_gate(
     file: &[u8],
@@ -109,9 +114,10 @@ pub extern "C" fn trial_plan_gate(
         × (rides.new ≡ (plan_outcome version_one file.now (with_gate gate (with_margin margin (with_code code (plain_query source target minute)))) work.old rides.old).plan) }
 {
     let q = query_of(source, target, minute, code, margin, gate);
-    let answered =
-        plan(file, q, work, rides).map(|p| [p.rides, p.expected, p.latest, p.bound]);
-    put(answered, answer);
+    match plan(file, q, work, rides) {
+        Ok(p) => put_six(0, 0, p.rides, p.expected, p.latest, p.bound, answer),
+        Err(refusal) => put_refused(refusal, answer),
+    }
 }
 
 // Earliest safe arrival: number, place, E; and the work slice.
@@ -133,6 +139,7 @@ pub extern "C" fn trial_earliest(
 }
 
 // The same with a gate time.
+#[tactic(auto, unfolding(trial_answers::specs::Seen::seen, trial_answers::specs::Seen::six, planner::specs::Outcome::earliest_answer))]
 #[unsafe(no_mangle)]
 pub extern "C" fn trial_earliest_gate(
     file: &[u8],
@@ -150,27 +157,27 @@ pub extern "C" fn trial_earliest_gate(
 {
     let q = query_of(source, target, minute, 0, cell(LEAST_MARGIN), gate);
     let found = earliest_with_gate(file, q.source, q.target, q.minute, q.gate, work);
-    put(found.map(|minute| [minute, 0, 0, 0]), answer);
+    match found {
+        Ok(arrival) => put_six(0, 0, arrival, 0, 0, 0, answer),
+        Err(refusal) => put_refused(refusal, answer),
+    }
 }
 
 // A cumulative share of a house table: number, place, share.
+#[tactic(auto, unfolding(trial_answers::specs::Seen::seen, trial_answers::specs::Seen::six, house::specs::HouseShare::house_answer))]
 #[unsafe(no_mangle)]
 pub extern "C" fn trial_house(pair: u32, minute: u32, answer: &mut [u32])
     ensures { answer.new ≡ seen (house_answer (house_share pair minute)) answer.old }
 {
-    put(house_share(pair, minute).map(|share| [share, 0, 0, 0]), answer);
+    match house_share(pair, minute) {
+        Ok(share) => put_six(0, 0, share, 0, 0, 0, answer),
+        Err(refusal) => put_refused(refusal, answer),
+    }
 }
 
-// An answer's number, place and up to four values, the others 0.
-fn put(answered: Result<[u32; 4], Refusal<u32>>, answer: &mut [u32])
-    ensures { MatchResult answered
-        (λ values. answer.new ≡ in_six (0 ∷ 0 ∷ values) answer.old)
-        (λ refusal. answer.new ≡ in_six (refusal.number ∷ refusal.place ∷ 0 ∷ 0 ∷ 0 ∷ 0 ∷ []) answer.old) }
+// A refusal by its number and place, without values.
+fn put_refused(refusal: Refusal<u32>, answer: &mut [u32])
+    ensures { answer.new ≡ in_six (refusal.number ∷ refusal.place ∷ 0 ∷ 0 ∷ 0 ∷ 0 ∷ []) answer.old }
 {
-    match answered {
-        Ok([first, second, third, fourth]) => {
-            put_six(0, 0, first, second, third, fourth, answer)
-        }
-        Err(refusal) => put_six(refusal.number, refusal.place, 0, 0, 0, 0, answer),
-    }
+    put_six(refusal.number, refusal.place, 0, 0, 0, 0, answer);
 }

@@ -1,25 +1,18 @@
--- `trial::trial_check` meets its contract. Assumes nothing.
-use mathlib.Core.List.{[], ◌∷◌}
-use mathlib.Core.Path.{refl, sym, ap, ◌∙◌}
+-- `trial::trial_check` puts numbers that fit: a sound file's S, n and K, and a refusal's number and place. Assumes nothing.
+use mathlib.Core.Path.{sym, ◌∙◌}
 use native.Mathlib.Omega.{arith}
-use borrow.Author.Rules.{rules}
-use Rattle.file_layout.specs.Check.{answer_of}
-use Rattle.trial_answers.specs.Seen.{six, seen}
-use Rattle.trial.proofs.Six.{puts_answer, sound_small, refusal_small}
+use Rattle.trial.proofs.Six.{sound_small, refusal_small}
 use Rattle.trial.proofs.trial_check.Goals as goal
 
-pub map-requires : goal.map-requires
-map-requires c = λ trailer is.
-    sound_small c.args.file.now trailer (sym c.check.ensures ∙ is)
+pub cell-requires : goal.cell-requires
+cell-requires c = (sound_small c.args.file.now c.in-Ok.trailer (sym c.check.ensures ∙ c.in-Ok.is)).0
 
-pub map_err-requires : goal.map_err-requires
-map_err-requires c = λ refusal is.
-    let before : c.check.result ≡ c.map.result = search rules in
-    refusal_small c.args.file.now (λ i. omega (arith, c.type_inv.file i)) refusal (search rules)
+pub cell-requires-in-Ok : goal.cell-requires-in-Ok
+cell-requires-in-Ok c = (sound_small c.args.file.now c.in-Ok.trailer (sym c.check.ensures ∙ c.in-Ok.is)).1
 
-pub returns : goal.returns
-unfolding seen six answer_of
-returns c =
-    puts_answer answer_of (λ h. h.stops ∷ h.rows ∷ h.classes ∷ 0 ∷ []) c.args.answer.now c.check.result (λ h. refl) (λ refusal. refl)
-    (λ h is. search rules) (λ refusal is. search rules) c.put.ensures
-    ∙ ap (λ a. seen (answer_of a) c.args.answer.now) c.check.ensures
+pub cell-requires-in-Ok-2 : goal.cell-requires-in-Ok-2
+cell-requires-in-Ok-2 c = (sound_small c.args.file.now c.in-Ok.trailer (sym c.check.ensures ∙ c.in-Ok.is)).2
+
+pub in_cells-requires : goal.in_cells-requires
+in_cells-requires c =
+    refusal_small c.args.file.now (λ i. omega (arith, c.type_inv.file i)) c.in-Err.refusal (sym c.check.ensures ∙ c.in-Err.is)
