@@ -13,7 +13,7 @@ pub struct Minute {
     pub minute: u32,
 }
 
-// The text of a time: it stands from `start` to the end of the bytes.
+// The text of a time: it stands from `start` to the end of the bytes. Memory is fixed, so its room has the width of the longest.
 #[derive(Drop)]
 pub struct TimeText {
     pub bytes: [u8; 14],

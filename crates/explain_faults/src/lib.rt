@@ -21,6 +21,7 @@ pub fn print_file_fault(out: &Output, file: &[u8], f: Format, refusal: Refusal<u
 {
     let broken = BrokenFile::of(file, f);
     let place = refusal.place;
+    // by document 01's own numbers, which its theorems and the sheet speak of
     match refusal.number {
         1 => sizes::print_size_fault(out, broken, more),
         2 => classes::print_layout_fault(out, broken),

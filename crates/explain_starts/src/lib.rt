@@ -30,6 +30,7 @@ pub fn last_start(
     if !starts_at(file, f, trailer, source, target, gate, 0, work) {
         return None;
     }
+    // By halves, over minutes that no slice holds: `partition_point` is a slice's.
     let mut low = 0;
     let mut high = f.lastminute;
     while low < high {

@@ -22,7 +22,7 @@ pub fn say_count(out: &Output, words: &[u8], count: usize, one: &[u8], many: &[u
     say(out, if count == 1 { one } else { many });
 }
 
-// Words, then a time.
+// Words, then a time. The minute fits, so that `try_from` would only be unwrapped.
 pub fn say_time(out: &Output, words: &[u8], minute: usize)
     requires { minute < 4294967296 }
 {

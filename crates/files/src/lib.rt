@@ -88,6 +88,7 @@ fn open_read<R: Files>(rt: &R, path: &[u8]) -> io::Result<R::File> {
 }
 
 // Reads until `room` is full, the input ends or a read fails: how many bytes it put at the start of `room`, and why a read failed.
+// `while`: no index is counted, a read fills as much as it likes. A pair and no Result, since a read that fails keeps what came before it.
 fn read_part(file: &mut impl Read, room: &mut [u8]) -> (usize, Option<Error>)
     ensures { IsPrefixLen result.0 room.new }
 {

@@ -65,7 +65,7 @@ fn bucket_of(key: Key) -> usize
     ((256 * (key.front % width) + key.back % width) % width) as usize
 }
 
-// A key's number among the first `count`; that of a new one is `count`.
+// A key's number among the first `count`; that of a new one is `count`. `while`: no index is counted, a cell names the next id.
 pub fn number_of(book: &[u64], count: usize, key: Key) -> usize
     requires { Chained book.now count × (count < 65536) }
     ensures { result ≡ key_number (keys_in book.now count) key }

@@ -188,6 +188,7 @@ fn read_at<R: Reading>(text: &[u8], start: usize, none: R) -> Option<R::Told>
     let mut column = 1;
     let mut from = start;
     let mut at = mark_from(text, from);
+    // `while`: no index is counted, the text is walked from mark to mark.
     while at < text.len() {
         let byte = text[at];
         let next = at + 1;

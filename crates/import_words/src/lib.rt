@@ -24,6 +24,7 @@ const MARK: [u8; 3] = [0xef, 0xbb, 0xbf];
 pub fn say_refusal(out: &Output, text: &[u8], day: usize, refusal: Refusal<usize>) {
     let number = refusal.number;
     say_refused(out, number);
+    // by the documents' own numbers, which their theorems and the printed line speak of
     match number {
         1 => say_few_stops(out),
         4 => say_row(

@@ -20,7 +20,7 @@ use plan_stacks::{departure_of, stack_of};
 use plans::Goal;
 use timetable::Row;
 
-// A share counts 4,096ths.
+// A share counts 4,096ths: `timetable::SHARE_TOTAL` in the width of the sums, as no constant is converted by `From`.
 const SHARE_TOTAL: u64 = 4096;
 
 // What getting off is worth; NONE where it is not open, for the scan keeps it in a cell, above all worths: with an Option it would be told apart first.

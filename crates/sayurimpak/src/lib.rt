@@ -71,7 +71,7 @@ pub extern "C" fn sayurimpak_plan_gate(
     give(answer, &numbers, out)
 }
 
-// The answer to the host, and a plan's numbers to its bytes.
+// The answer to the host, and a plan's numbers to its bytes. A C host has one number for both: a refusal's is above 10,000.
 fn give(answer: Result<Plan, Refusal<u32>>, numbers: &[u32], out: &mut [u8]) -> u32
     requires { Fitting answer numbers.now out.old }
     ensures { (result ≡ (given answer numbers.now out.old).answer)

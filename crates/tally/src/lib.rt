@@ -52,7 +52,7 @@ pub fn tally_log(log: &[u8], tally: &mut [u32; COUNTS]) -> Result<usize, Refusal
     log_as(VERSION_ONE, log, &mut tally[..])
 }
 
-// A landing counted by the limits of a version of the file. `TallyFits` is asked three times: a struct around the lent slice is no shorter.
+// A landing counted by the limits of a version of the file; version 1 has calls of its own, with a tally of its own length. `TallyFits` is asked three times: a struct around the lent slice is no shorter.
 fn tally_as(f: Format, landing: Landing, tally: &mut [u32]) -> Result<(), Refusal<usize>>
     requires { TallyFits f tally.old }
     ensures { (result ≡ (landing_outcome f landing tally.old).answer)
