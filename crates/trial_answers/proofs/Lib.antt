@@ -1,2 +1,3 @@
--- What a buffer of six numbers settles.
+-- Laws of an answer as six numbers.
+pub mod Six
 pub mod Settled
