@@ -55,13 +55,7 @@ fn explain_as(
 }
 
 // A file that the check refuses.
-fn explain_file(
-    out: &Output,
-    sailings: &[u8],
-    f: Format,
-    ending: Ending,
-    refusal: Refusal<usize>,
-)
+fn explain_file(out: &Output, sailings: &[u8], f: Format, ending: Ending, refusal: Refusal<usize>)
     requires { Plannable f }
 {
     if sailings.is_empty() {
@@ -120,7 +114,15 @@ fn explain_query(
         Ok(plan) => {
             say_plan(out, plan);
             say_margin(out, q.margin);
-            print_plan(out, sailings, f, trailer, &rides, number(plan.rides), q.gate);
+            print_plan(
+                out,
+                sailings,
+                f,
+                trailer,
+                &rides,
+                number(plan.rides),
+                q.gate,
+            );
         }
     }
 }

@@ -56,11 +56,7 @@ const MINUTES_A_DAY: usize = 1440;
 const FILE_ROOM: usize = 24020;
 
 // Writes the sailing file of a service day from the bytes of `stop_times.txt`; a refusal leaves `out` as it was.
-pub fn import_stop_times(
-    text: &[u8],
-    day: usize,
-    out: &mut [u8],
-) -> Result<Written, Refusal<usize>>
+pub fn import_stop_times(text: &[u8], day: usize, out: &mut [u8]) -> Result<Written, Refusal<usize>>
     ensures { (result ≡ (import_outcome text.now day out.old).answer)
         × (out.new ≡ (import_outcome text.now day out.old).out) }
 {

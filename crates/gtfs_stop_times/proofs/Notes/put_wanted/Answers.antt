@@ -5,10 +5,10 @@ use Rattle.gtfs_stop_times.proofs.Notes.put_wanted.Goals as goal
 
 pub put_ids-requires : goal.put_ids-requires
 put_ids-requires c = (
-      trips_for c.requires.0,
-      omega arith,
-      trips_fit c.requires.0 c.args.out.now _ _ c.in-Names.is c.requires.1 c.put_ids-next.ensures (omega arith),
-    )
+  trips_for c.requires.0,
+  omega arith,
+  trips_fit c.requires.0 c.args.out.now _ _ c.in-Names.is c.requires.1 c.put_ids-next.ensures (omega arith),
+)
 
 pub returns-in-Rows : goal.returns-in-Rows
 returns-in-Rows c = rows_put c.args.out.now _ c.in-Rows.is c.put_in_order.ensures
