@@ -9,8 +9,7 @@ use denote.Triple.Clauses.{AtExit}
 use lib.ListN.{length, get_or}
 use borrow.Fn.Kinds.{Dens, res_t, ended_of}
 use Rattle.timetable.specs.Timetable.{shares_of}
-use Rattle.plan_rows.specs.Sailings.{tables_of}
-use Rattle.plan_rows.specs.Reading.{block_cell, BlockHeld}
+use Rattle.plan_rows.specs.Reading.{tables_in, block_cell, BlockHeld}
 use Rattle.plan_shares.proofs.read_tables.Kinds as kinds
 use Rattle.plan_shares.proofs.read_tables.Reads as reads
 
@@ -26,11 +25,11 @@ same_cell cells others c shares one other (suc (suc v)) h =
     ∙ ap (λ n. get_or others n 0) (sym here)
 
 pub read_tables_settled :
-    (κs : Lfts 3) (arguments : Dens κs kinds.ps) (one other : (res_t kinds.r κs).Denot)
-    (ending another : AtExit (ended_of 3 kinds.ps kinds.r) κs) → reads.Post κs arguments one ending → reads.Post κs arguments other another
-    → (c : ℕ) → c < length (tables_of arguments.0.now) → (i : ℕ)
-    → i < 2 + length (shares_of (tables_of arguments.0.now) c)
-    → get_or ending.1.0.now (block_cell c + i) 0 ≡ get_or another.1.0.now (block_cell c + i) 0
+    (κs : Lfts 2) (arguments : Dens κs kinds.ps) (one other : (res_t kinds.r κs).Denot)
+    (ending another : AtExit (ended_of 2 kinds.ps kinds.r) κs) → reads.Post κs arguments one ending → reads.Post κs arguments other another
+    → (c : ℕ) → c < length (tables_in arguments.0.now arguments.1.0) → (i : ℕ)
+    → i < 2 + length (shares_of (tables_in arguments.0.now arguments.1.0) c)
+    → get_or ending.1.1.0.now (block_cell c + i) 0 ≡ get_or another.1.1.0.now (block_cell c + i) 0
 read_tables_settled κs arguments one other ending another first second c h i inside =
-    same_cell ending.1.0.now another.1.0.now c (shares_of (tables_of arguments.0.now) c) (first.held c h)
+    same_cell ending.1.1.0.now another.1.1.0.now c (shares_of (tables_in arguments.0.now arguments.1.0) c) (first.held c h)
     (second.held c h) i inside

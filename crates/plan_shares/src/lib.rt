@@ -6,21 +6,20 @@ ghost use Rattle.timetable.specs.Limits.{most_classes};
 ghost use Rattle.file_layout.specs.Decode.{shares_from, table_at, block_end};
 ghost use Rattle.plans.specs.Worth.{weigh};
 ghost use Rattle.plan_cells.specs.Outside.{SameOutside};
-ghost use Rattle.plan_rows.specs.Reading.{table_cells, block_cell, BlockHeld, TablesHeld};
-ghost use Rattle.plan_rows.specs.Sailings.{tables_of};
+ghost use Rattle.plan_rows.specs.Reading.{table_cells, tables_in, block_cell, BlocksStand, BlockHeld, TablesHeld};
 ghost use Rattle.plan_shares.specs.Summed.{BlockStands, SharesStand, Summed};
 
 use numbers::{cell, u16_at};
-use plan_rows::{BLOCK, EXPECTED, MAX_DELAY, SHARES, Sailings};
+use plan_rows::{BLOCK, EXPECTED, MAX_DELAY, SHARES, SectionPlaces};
 
 // Each class's block of cells, from its class block in the file.
-pub fn read_tables(sailings: &Sailings, tables: &mut [u32])
-    requires { length tables.old ≡ table_cells }
-    ensures { TablesHeld tables.new (tables_of sailings.now) }
+pub fn read_tables(file: &[u8], s: SectionPlaces, tables: &mut [u32])
+    requires { BlocksStand file.now s × (length tables.old ≡ table_cells) }
+    ensures { TablesHeld tables.new (tables_in file.now s) }
 {
-    let mut block = sailings.places.tablestart;
-    for k in 0..sailings.places.classes {
-        block = read_table(sailings.file, block, k, tables);
+    let mut block = s.tablestart;
+    for k in 0..s.classes {
+        block = read_table(file, block, k, tables);
     }
 }
 

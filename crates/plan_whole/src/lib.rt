@@ -80,7 +80,7 @@ fn lay_out<'a>(
 {
     let places = places_in(f, trailer);
     let sailings = Sailings { file, places };
-    read_tables(&sailings, tables);
+    read_tables(file, places, tables);
     let first = rows_missed(&sailings, q);
     (sailings, first)
 }

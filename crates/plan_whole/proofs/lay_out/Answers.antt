@@ -6,10 +6,12 @@ use Rattle.plan_whole.proofs.lay_out.Goals as goal
 pub invariant_of-sailings : goal.invariant_of-sailings
 invariant_of-sailings c =
     let a = c.args in
-    record {
-      readable = rows_stand a.f a.file.now a.trailer a.q c.requires.0 c.places_in-places.result c.places_in-places.ensures;
-      blocks = tables_stand a.f a.file.now a.trailer a.q c.requires.0 c.places_in-places.result c.places_in-places.ensures;
-    }
+    record { readable = rows_stand a.f a.file.now a.trailer a.q c.requires.0 c.places_in-places.result c.places_in-places.ensures }
+
+pub read_tables-requires : goal.read_tables-requires
+read_tables-requires c =
+    let a = c.args in
+    (tables_stand a.f a.file.now a.trailer a.q c.requires.0 c.places_in-places.result c.places_in-places.ensures, c.requires.1)
 
 pub rows_missed-first-requires : goal.rows_missed-first-requires
 rows_missed-first-requires c =
