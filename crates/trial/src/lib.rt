@@ -169,10 +169,11 @@ pub extern "C" fn trial_earliest_gate(
 pub extern "C" fn trial_house(pair: u32, minute: u32, answer: &mut [u32])
     ensures { answer.new ≡ seen (house_answer (house_share pair minute)) answer.old }
 {
-    match house_share(pair, minute) {
-        Ok(share) => put_six(0, 0, share, 0, 0, 0, answer),
-        Err(refusal) => put_refused(refusal, answer),
-    }
+    let (number, place, share) = match house_share(pair, minute) {
+        Ok(share) => (0, 0, share),
+        Err(refusal) => (refusal.number, refusal.place, 0),
+    };
+    put_six(number, place, share, 0, 0, 0, answer);
 }
 
 // A refusal by its number and place, without values.
