@@ -18,6 +18,7 @@ FACTS = [
     ("simp: nothing to rewrite", r"`simp`: no equation of the list has an instance in the goal "),
     ("simp: a goal is left", r"give a proof of that as the last argument, `simp L t`"),
     ("rw: a goal is left", r"give a proof of that as the last argument, `rw L t`"),
+    ("grind: no proof", r"`grind` found no proof"),
 ]
 SLIPS = [
     ("scope", r"is not in scope|that can be named from here|has no field|has no function|has no `|no field `[^`]*` on type|was not admitted"),
@@ -64,15 +65,26 @@ def changed_lines(texts):
                 yield file, number
 
 
-def has_proof_files(crate, place):
-    """Whether proof files answer goals of the function that stands at this place: then a goal that is left may only have another name."""
+def sort_of(goal):
+    """What a goal is about, without where: returns, bounds, overflow_add, a loop, what a call requires."""
+    return "requires" if "-requires" in goal else goal.split("-")[0]
+
+
+def may_be_renamed(crate, place, text):
+    """Whether proof files answer goals of this sort for the function that stands at this place: then a goal that is left may only have
+    another name than the one that is answered."""
     file, line = place.split(":")[:2]
     lines = (crate / file).read_text().splitlines()
     last = int(line)
     while lines[last - 1].lstrip().startswith("#["):  # a function's place is that of its first attribute
         last += 1
     names = re.findall(r"\bfn (\w+)", "\n".join(lines[:last]))
-    return not names or any(any(crate.glob(f"proofs/**/{name}/*.antt")) for name in (names[-1], "+" + names[-1]))
+    if not names:
+        return True
+    files = [path for name in (names[-1], "+" + names[-1]) for path in crate.glob(f"proofs/**/{name}/*.antt")]
+    answered = {sort_of(goal) for path in files for goal in re.findall(r"(?m)^pub (\S+) :", path.read_text())}
+    left = re.search(r"\(`([^`]*)(`|$)", text)  # a long line is cut off
+    return bool(answered) and (left is None or sort_of(left[1]) in answered)
 
 
 def kind_of(said, crate, changed):
@@ -81,8 +93,8 @@ def kind_of(said, crate, changed):
     if left:
         if left["refuted"]:
             return "refuted: " + left["text"][:60], left["place"], True
-        is_alone = not has_proof_files(crate, left["place"])
-        return ("not proved: " if is_alone else "not proved beside a proof file: ") + left["text"][:60], left["place"], is_alone
+        known = not may_be_renamed(crate, left["place"], left["text"])
+        return ("not proved: " if known else "not proved beside an answer of its sort: ") + left["text"][:60], left["place"], known
     first = FIRST_ERROR.match(said)
     if first is None:
         return f"unknown: {said}", "", False
