@@ -70,9 +70,9 @@ def sort_of(goal):
     return "requires" if "-requires" in goal else goal.split("-")[0]
 
 
-def may_be_renamed(crate, place, text):
-    """Whether proof files answer goals of this sort for the function that stands at this place: then a goal that is left may only have
-    another name than the one that is answered."""
+def may_be_renamed(crate, place, text, texts):
+    """Whether a goal that is left in the function that stands at this place may only have another name than it had: proof files answer
+    goals of its sort there, or speak of a loop, a local or a call that the edited text has no longer, so that what they say is lost."""
     file, line = place.split(":")[:2]
     lines = (crate / file).read_text().splitlines()
     last = int(line)
@@ -82,19 +82,29 @@ def may_be_renamed(crate, place, text):
     if not names:
         return True
     files = [path for name in (names[-1], "+" + names[-1]) for path in crate.glob(f"proofs/**/{name}/*.antt")]
-    answered = {sort_of(goal) for path in files for goal in re.findall(r"(?m)^pub (\S+) :", path.read_text())}
+    said = "\n".join(path.read_text() for path in files)
+    answered = {sort_of(goal) for goal in re.findall(r"(?m)^pub (\S+) :", said)}
     left = re.search(r"\(`([^`]*)(`|$)", text)  # a long line is cut off
-    return bool(answered) and (left is None or sort_of(left[1]) in answered)
+    if answered and (left is None or sort_of(left[1]) in answered):
+        return True
+    spoken_of = set(re.findall(r"\b(?:loop-|[cgl]\.)([a-z_]+)", said))
+    before, after = texts.get(file, ("", ""))
+    return any(times_named(name, before) != times_named(name, after) for name in spoken_of)
 
 
-def kind_of(said, crate, changed):
+def times_named(name, text):
+    """How often a text gives a local or a loop this name, or calls a function of it."""
+    return len(re.findall(rf"\b(?:let|for)\b[^=;{{]*?\b{name}\b|\b{name}\(", text))
+
+
+def kind_of(said, crate, changed, texts):
     """The kind of what is said first, its place, and whether it is a fact."""
     left = NOT_PROVED.match(said)
     if left:
         if left["refuted"]:
             return "refuted: " + left["text"][:60], left["place"], True
-        known = not may_be_renamed(crate, left["place"], left["text"])
-        return ("not proved: " if known else "not proved beside an answer of its sort: ") + left["text"][:60], left["place"], known
+        known = not may_be_renamed(crate, left["place"], left["text"], texts)
+        return ("not proved: " if known else "not proved beside an answer of its sort, or of a name that is gone: ") + left["text"][:60], left["place"], known
     first = FIRST_ERROR.match(said)
     if first is None:
         return f"unknown: {said}", "", False
@@ -120,8 +130,8 @@ def looked_at(path, told):
     said = told.get(f"{crate}/{label}", "not tried")
     if not said.startswith(REFUSED):
         return f"{crate} {label}: {said}", False
-    changed = set(changed_lines(edited(edit, path.parent.parent)))
-    kind, place, fact = kind_of(said.removeprefix(REFUSED), path.parent.parent, changed)
+    texts = edited(edit, path.parent.parent)
+    kind, place, fact = kind_of(said.removeprefix(REFUSED), path.parent.parent, set(changed_lines(texts)), texts)
     return f"{crate} {label}: {kind} ({place})", fact
 
 

@@ -2,9 +2,9 @@
 use Prim.Native.Nat.{ℕ, suc}
 use mathlib.Core.Bool.{Bool, true, false, cond}
 use mathlib.Core.List.{List, [], ◌∷◌}
-use mathlib.Core.Path.{◌≡◌, refl, sym}
+use mathlib.Core.Path.{◌≡◌, refl, sym, subst}
 use Rattle.std.specs.Prelude.{Option, Some, None}
-use Rattle.std.specs.Option.{option_or}
+use Rattle.std.specs.Bool.{then_some}
 use Rattle.laws.proofs.Tests.{cond_true, cond_false}
 use Rattle.text.specs.Same.{same_bytes}
 use Rattle.gtfs_lines.specs.declared.Columns.{Columns}
@@ -30,17 +30,20 @@ module _ (field : List ℕ) (column : ℕ) (columns : Columns) where
   with_name_lem p q r s t = same_columns p q r s t
 
 -- a name that was found before stays, and else this field is it or not
-pub found_same : (field name : List ℕ) (column : ℕ) (before : Option ℕ) → same_bytes field name ≡ true
-    → option_or before (Some column) ≡ found field name column before
-unfolding found
-found_same field name column None same = sym (cond_true (Some column) None same)
-found_same field name column (Some before) same = refl
-
-pub found_other : (field name : List ℕ) (column : ℕ) (before : Option ℕ) → same_bytes field name ≡ false
+pub found_before : (field name : List ℕ) (column : ℕ) (before : Option ℕ) {there : ℕ} → before ≡ Some there
     → before ≡ found field name column before
 unfolding found
-found_other field name column None differ = sym (cond_false (Some column) None differ)
-found_other field name column (Some before) differ = refl
+found_before field name column before e = subst (λ b. b ≡ found field name column b) (sym e) refl
+
+by_cond : (b : Bool) (column : ℕ) → then_some b column ≡ cond b (Some column) None
+by_cond true column = refl
+by_cond false column = refl
+
+pub found_first : (field name : List ℕ) (column : ℕ) (before : Option ℕ) → before ≡ None
+    → then_some (same_bytes field name) column ≡ found field name column before
+unfolding found
+found_first field name column before e =
+    subst (λ b. then_some (same_bytes field name) column ≡ found field name column b) (sym e) (by_cond (same_bytes field name) column)
 
 -- what was found before, or else the first of the fields that is the name
 abbrev pub found_in : (name : List ℕ) → (column : ℕ) → (before : Option ℕ) → List (List ℕ) → Option ℕ

@@ -148,6 +148,8 @@ impl Reading for Columns {
 
     ghost told = { heading_of };
 
+    // inlined, as `with_name` is: else each field of a header has all columns copied
+    #[inline(always)]
     fn keep(self, text: &[u8], column: usize, span: Span) -> Columns {
         with_name(text, span, column, self)
     }
@@ -263,6 +265,7 @@ fn kept(wanted: Option<usize>, column: usize, old: Span, new: Span) -> Span
 }
 
 // The columns with this one, where it has a name that none before it had.
+#[inline(always)]
 fn with_name(text: &[u8], span: Span, column: usize, columns: Columns) -> Columns
     requires { (span.from ≤ span.to) × (span.to ≤ length text.now) }
     ensures { result ≡ with_name (slice span.from span.to text.now) column columns }
@@ -281,9 +284,8 @@ fn with_name(text: &[u8], span: Span, column: usize, columns: Columns) -> Column
 fn found(field: &[u8], name: &[u8], column: usize, before: Option<usize>) -> Option<usize>
     ensures { result ≡ found_column field.now name.now column before }
 {
-    if field == name {
-        before.or(Some(column))
-    } else {
-        before
+    match before {
+        Some(_) => before,
+        None => (field == name).then_some(column),
     }
 }

@@ -28,10 +28,33 @@ pub fn ride_at(plan: &[u32], i: usize) -> Ride
     requires { 3 * i + 2 < length plan.now }
     ensures { (result.board ≡ board_in plan.now i) × (result.leave ≡ leave_in plan.now i) × (result.worth ≡ worth_in plan.now i) }
 {
-    let at = 3 * i;
     Ride {
-        board: plan[at],
-        leave: plan[at + 1],
-        worth: plan[at + 2],
+        board: board_of(plan, i),
+        leave: leave_of(plan, i),
+        worth: worth_of(plan, i),
     }
+}
+
+// The row where ride number `i` boards.
+pub fn board_of(plan: &[u32], i: usize) -> u32
+    requires { 3 * i + 2 < length plan.now }
+    ensures { result ≡ board_in plan.now i }
+{
+    plan[3 * i]
+}
+
+// The row where it leaves.
+pub fn leave_of(plan: &[u32], i: usize) -> u32
+    requires { 3 * i + 2 < length plan.now }
+    ensures { result ≡ leave_in plan.now i }
+{
+    plan[3 * i + 1]
+}
+
+// What it is worth, in ticks.
+pub fn worth_of(plan: &[u32], i: usize) -> u32
+    requires { 3 * i + 2 < length plan.now }
+    ensures { result ≡ worth_in plan.now i }
+{
+    plan[3 * i + 2]
 }
