@@ -70,9 +70,21 @@ def sort_of(goal):
     return "requires" if "-requires" in goal else goal.split("-")[0]
 
 
-def may_be_renamed(crate, place, text, texts):
-    """Whether a goal that is left in the function that stands at this place may only have another name than it had: proof files answer
-    goals of its sort there, or speak of a loop, a local or a call that the edited text has no longer, so that what they say is lost."""
+# edits that leave a goal of a function with proof files, none of which answers one of its sort: each was read, it plants a wrong value,
+# and no name and no form of the function changes
+READ = {
+    "file_check/look_back_stops_early",
+    "file_check/look_back_tells_the_count",
+    "file_sections/shares_sum_skips_the_last",
+    "plan_rows/cut_by_arrival",
+    "plan_rows/last_rows_left_out",
+    "plan_stacks/quarter_steps_by_halves",
+}
+
+
+def may_be_renamed(crate, place, text, was_read):
+    """Whether proof files answer goals of the function that stands at this place: then a goal that is left may only have another name. An
+    edit that was read may leave a goal of a sort that they do not answer."""
     file, line = place.split(":")[:2]
     lines = (crate / file).read_text().splitlines()
     last = int(line)
@@ -82,29 +94,21 @@ def may_be_renamed(crate, place, text, texts):
     if not names:
         return True
     files = [path for name in (names[-1], "+" + names[-1]) for path in crate.glob(f"proofs/**/{name}/*.antt")]
-    said = "\n".join(path.read_text() for path in files)
-    answered = {sort_of(goal) for goal in re.findall(r"(?m)^pub (\S+) :", said)}
+    if not was_read:
+        return bool(files)
+    answered = {sort_of(goal) for path in files for goal in re.findall(r"(?m)^pub (\S+) :", path.read_text())}
     left = re.search(r"\(`([^`]*)(`|$)", text)  # a long line is cut off
-    if answered and (left is None or sort_of(left[1]) in answered):
-        return True
-    spoken_of = set(re.findall(r"\b(?:loop-|[cgl]\.)([a-z_]+)", said))
-    before, after = texts.get(file, ("", ""))
-    return any(times_named(name, before) != times_named(name, after) for name in spoken_of)
+    return bool(answered) and (left is None or sort_of(left[1]) in answered)
 
 
-def times_named(name, text):
-    """How often a text gives a local or a loop this name, or calls a function of it."""
-    return len(re.findall(rf"\b(?:let|for)\b[^=;{{]*?\b{name}\b|\b{name}\(", text))
-
-
-def kind_of(said, crate, changed, texts):
+def kind_of(said, crate, changed, was_read):
     """The kind of what is said first, its place, and whether it is a fact."""
     left = NOT_PROVED.match(said)
     if left:
         if left["refuted"]:
             return "refuted: " + left["text"][:60], left["place"], True
-        known = not may_be_renamed(crate, left["place"], left["text"], texts)
-        return ("not proved: " if known else "not proved beside an answer of its sort, or of a name that is gone: ") + left["text"][:60], left["place"], known
+        known = not may_be_renamed(crate, left["place"], left["text"], was_read)
+        return ("not proved: " if known else "not proved beside a proof file: ") + left["text"][:60], left["place"], known
     first = FIRST_ERROR.match(said)
     if first is None:
         return f"unknown: {said}", "", False
@@ -130,8 +134,8 @@ def looked_at(path, told):
     said = told.get(f"{crate}/{label}", "not tried")
     if not said.startswith(REFUSED):
         return f"{crate} {label}: {said}", False
-    texts = edited(edit, path.parent.parent)
-    kind, place, fact = kind_of(said.removeprefix(REFUSED), path.parent.parent, set(changed_lines(texts)), texts)
+    changed = set(changed_lines(edited(edit, path.parent.parent)))
+    kind, place, fact = kind_of(said.removeprefix(REFUSED), path.parent.parent, changed, f"{crate}/{label}" in READ)
     return f"{crate} {label}: {kind} ({place})", fact
 
 

@@ -5,7 +5,6 @@ use mathlib.Core.List.{List, [], ◌∷◌}
 use mathlib.Core.Path.{◌≡◌, refl, sym, subst}
 use Rattle.std.specs.Prelude.{Option, Some, None}
 use Rattle.std.specs.Bool.{then_some}
-use Rattle.laws.proofs.Tests.{cond_true, cond_false}
 use Rattle.text.specs.Same.{same_bytes}
 use Rattle.gtfs_lines.specs.declared.Columns.{Columns}
 use Rattle.gtfs_lines.specs.Columns.{column_from, column_of, columns_of, trip_name, arrival_name, departure_name, stop_name, sequence_name}
