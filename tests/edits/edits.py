@@ -143,13 +143,16 @@ def main():
     names = sys.argv[1:] or ["*"]
     edits = sorted(path for name in names for path in pathlib.Path("crates").glob(f"{name}/must-fail/*.edit"))
     told = {line["edit"]: line["said"] for line in map(SAID.match, sys.stdin.read().splitlines()) if line}
+    gone = sorted(label for label in READ if not pathlib.Path("crates", label.replace("/", "/must-fail/") + ".edit").exists())
+    for label in gone:
+        print(f"NO LONGER THERE, and still named as read: {label}")
     refused = 0
     for path in edits:
         line, fact = looked_at(path, told)
         refused += fact
         print(line if fact else f"NOT BY A FACT: {line}")
     print(f"edits: {refused} of {len(edits)} refused by a fact")
-    sys.exit(refused != len(edits) or not edits)
+    sys.exit(refused != len(edits) or not edits or bool(gone))
 
 
 main()

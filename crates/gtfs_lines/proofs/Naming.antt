@@ -5,6 +5,7 @@ use mathlib.Core.List.{List, [], ◌∷◌}
 use mathlib.Core.Path.{◌≡◌, refl, sym, subst}
 use Rattle.std.specs.Prelude.{Option, Some, None}
 use Rattle.std.specs.Bool.{then_some}
+use Rattle.laws.proofs.Tests.{cond_true, cond_false}
 use Rattle.text.specs.Same.{same_bytes}
 use Rattle.gtfs_lines.specs.declared.Columns.{Columns}
 use Rattle.gtfs_lines.specs.Columns.{column_from, column_of, columns_of, trip_name, arrival_name, departure_name, stop_name, sequence_name}
@@ -34,15 +35,13 @@ pub found_before : (field name : List ℕ) (column : ℕ) (before : Option ℕ) 
 unfolding found
 found_before field name column before e = subst (λ b. b ≡ found field name column b) (sym e) refl
 
-by_cond : (b : Bool) (column : ℕ) → then_some b column ≡ cond b (Some column) None
-by_cond true column = refl
-by_cond false column = refl
-
-pub found_first : (field name : List ℕ) (column : ℕ) (before : Option ℕ) → before ≡ None
-    → then_some (same_bytes field name) column ≡ found field name column before
+pub found_first : (field name : List ℕ) (column : ℕ) (before : Option ℕ) (same : Bool) → same_bytes field name ≡ same → before ≡ None
+    → then_some same column ≡ found field name column before
 unfolding found
-found_first field name column before e =
-    subst (λ b. then_some (same_bytes field name) column ≡ found field name column b) (sym e) (by_cond (same_bytes field name) column)
+found_first field name column before true is e =
+    subst (λ b. Some column ≡ found field name column b) (sym e) (sym (cond_true (Some column) None is))
+found_first field name column before false is e =
+    subst (λ b. None ≡ found field name column b) (sym e) (sym (cond_false (Some column) None is))
 
 -- what was found before, or else the first of the fields that is the name
 abbrev pub found_in : (name : List ℕ) → (column : ℕ) → (before : Option ℕ) → List (List ℕ) → Option ℕ

@@ -1,6 +1,5 @@
 -- `gtfs_lines::found` meets its contract: a field that is the name counts where none before it did. Assumes nothing.
-use mathlib.Core.Path.{ap, ◌∙◌}
-use Rattle.std.specs.Bool.{then_some}
+use mathlib.Core.Path.{sym, ◌∙◌}
 use Rattle.gtfs_lines.proofs.Naming.{found_before, found_first}
 use Rattle.gtfs_lines.proofs.SameText.{same_pointwise}
 use Rattle.gtfs_lines.proofs.found.Goals as goal
@@ -12,5 +11,5 @@ pub returns-in-None : goal.returns-in-None
 returns-in-None c =
     let a = c.args in
     c.then_some.ensures
-    ∙ ap (λ b. then_some b a.column) (c.eq.ensures ∙ same_pointwise a.field.now a.name.now)
-    ∙ found_first a.field.now a.name.now a.column a.before c.in-None.is
+    ∙ found_first a.field.now a.name.now a.column a.before c.eq.result
+    (sym (same_pointwise a.field.now a.name.now) ∙ sym c.eq.ensures) c.in-None.is
